@@ -1,0 +1,12 @@
+pub mod Sums
+pub mod Lists
+pub mod Codeword
+pub mod Staircase
+pub mod Systems
+pub mod Reduced
+pub mod Words
+pub mod Agreeing
+pub mod Closing
+pub mod Again
+pub mod Demand
+pub mod Counts

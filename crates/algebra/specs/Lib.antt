@@ -1,0 +1,7 @@
+pub mod Sums
+pub mod Lists
+pub mod Codeword
+pub mod Staircase
+pub mod Words
+pub mod Closing
+pub mod Demand
