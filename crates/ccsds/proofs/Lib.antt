@@ -1,0 +1,17 @@
+pub mod Table
+pub mod Valid
+pub mod FlatTable
+pub mod Refusals
+pub mod Address
+pub mod Columns
+pub mod Turns
+pub mod EncodeRefusal
+pub mod Claims
+pub mod Samples
+pub mod SdnvLaws
+pub mod SdnvRound
+pub mod ReaderLaws
+pub mod PutLaws
+pub mod UnitLaws
+pub mod ShowLaws
+pub mod UnitClaims

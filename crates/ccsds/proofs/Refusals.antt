@@ -1,0 +1,145 @@
+-- The laws of refusals: what a condition that does not apply says, and what a call answers and leaves by the number of its refusal.
+-- Assumes nothing.
+use mathlib.Core.Path.{_≡_, refl, sym, ap, _∙_}
+use mathlib.Core.Bool.{Bool, true, false, not, cond, _||_, false≢true}
+use mathlib.Core.List.{List, [], _∷_}
+use Prim.Native.Nat.{ℕ, zero, suc, _*_, _<_, _≤_}
+use native.Mathlib.Decide.{decLt}
+use native.Mathlib.Omega.{arith}
+use lib.Dec.{eqb, ltb}
+use borrow.Author.Tests.{not-false, eq-eqb, ne-eqb, eqb-true, eqb-false, ltb-false, lt-ltb, le-ltb}
+use Rattle.ccsds.specs.Tables.{isCode, Known}
+use Rattle.ccsds.specs.Refusals.{firstOf, wrongCode, wrongWidth, wrongLabel, wrongLength, wrongPosition, wrongSymbol, Outcome, refused, answered, outcome, afterwards, bytesOf}
+
+-- ---- the conditions
+
+pub or-false : (a b : Bool) → a || b ≡ false → (a ≡ false) × (b ≡ false)
+or-false true b e = absurd (false≢true (sym e))
+or-false false b e = (refl, e)
+
+pub code-known : (number : ℕ) → wrongCode number ≡ false → Known number
+unfolding wrongCode
+code-known number e = not-false (isCode number) e
+
+pub width-zero : (w : ℕ) → w ≡ 0 → wrongWidth w ≡ true
+unfolding wrongWidth
+width-zero w h = ap (λ (b : Bool). b || ltb 1024 w) (eq-eqb w 0 h)
+
+pub width-above : (w : ℕ) → (w ≡ 0 → ⊥) → wrongWidth w ≡ ltb 1024 w
+unfolding wrongWidth
+width-above w h = ap (λ (b : Bool). b || ltb 1024 w) (ne-eqb w 0 h)
+
+pub width-right : (w : ℕ) → wrongWidth w ≡ false → (0 < w) × (w ≤ 1024)
+unfolding wrongWidth
+width-right w e =
+    let p = or-false (eqb w 0) (ltb 1024 w) e in
+    (pos (eqb-false w 0 (p .0)), small (decLt 1024 w))
+  where
+    pos : (w ≡ 0 → ⊥) → 0 < w
+    pos h = omega arith
+
+    small : Dec (1024 < w) → w ≤ 1024
+    small (yes l) = absurd (false≢true (sym (or-false (eqb w 0) (ltb 1024 w) e .1) ∙ lt-ltb 1024 w l))
+    small (no l) = omega arith
+
+pub label-right : (lsc protocol : ℕ) → wrongLabel lsc protocol ≡ false → (lsc ≤ 65534) × (protocol ≤ 7)
+unfolding wrongLabel
+label-right lsc protocol e =
+    let p = or-false (eqb lsc 0 || ltb 65534 lsc) (ltb 7 protocol) e in
+    (ltb-false 65534 lsc (or-false (eqb lsc 0) (ltb 65534 lsc) (p .0) .1), ltb-false 7 protocol (p .1))
+
+pub position-right : (n lwc : ℕ) → wrongPosition n lwc ≡ false → (0 < lwc) × (lwc ≤ n)
+unfolding wrongPosition
+position-right n lwc e =
+    let p = or-false (eqb lwc 0) (ltb n lwc) e in
+    let h : lwc ≡ 0 → ⊥ = eqb-false lwc 0 (p .0) in
+    (omega arith, ltb-false n lwc (p .1))
+
+pub position-is-right : (n lwc : ℕ) → 0 < lwc → lwc ≤ n → wrongPosition n lwc ≡ false
+unfolding wrongPosition
+position-is-right n lwc h l = rw (ne-eqb lwc 0 (λ e. omega arith), le-ltb n lwc l)
+
+pub symbol-right : (have w : ℕ) → wrongSymbol have w ≡ false → have ≡ w
+unfolding wrongSymbol
+symbol-right have w e = eqb-true have w (not-false (eqb have w) e)
+
+pub symbol-same : (have w : ℕ) → have ≡ w → wrongSymbol have w ≡ false
+unfolding wrongSymbol
+symbol-same have w e = ap not (eq-eqb have w e)
+
+pub symbol-wrong : (have w : ℕ) → (have ≡ w → ⊥) → wrongSymbol have w ≡ true
+unfolding wrongSymbol
+symbol-wrong have w e = ap not (ne-eqb have w e)
+
+pub length-right : (have size : ℕ) → wrongLength have size ≡ false → have ≡ size
+unfolding wrongLength
+length-right have size e = eqb-true have size (not-false (eqb have size) e)
+
+pub length-same : (have size : ℕ) → have ≡ size → wrongLength have size ≡ false
+unfolding wrongLength
+length-same have size e = ap not (eq-eqb have size e)
+
+pub length-wrong : (have size : ℕ) → (have ≡ size → ⊥) → wrongLength have size ≡ true
+unfolding wrongLength
+length-wrong have size e = ap not (ne-eqb have size e)
+
+pub bytes-right : (symbols w : ℕ) → wrongWidth w ≡ false → bytesOf symbols w ≡ symbols * w
+unfolding bytesOf
+bytes-right symbols w e = ap (λ (b : Bool). cond b 0 (symbols * w)) e
+
+pub bytes-wrong : (symbols w : ℕ) → wrongWidth w ≡ true → bytesOf symbols w ≡ 0
+unfolding bytesOf
+bytes-wrong symbols w e = ap (λ (b : Bool). cond b 0 (symbols * w)) e
+
+-- ---- the first condition that applies
+
+-- it is this one
+pub first-is : (b : Bool) (n : ℕ) (ps : List (Bool × ℕ)) → b ≡ true → firstOf ((b, n) ∷ ps) ≡ n
+unfolding firstOf
+first-is b n ps e = ap (λ (t : Bool). cond t n (firstOf ps)) e
+
+-- it is not this one
+pub first-on : (b : Bool) (n : ℕ) (ps : List (Bool × ℕ)) → b ≡ false → firstOf ((b, n) ∷ ps) ≡ firstOf ps
+unfolding firstOf
+first-on b n ps e = ap (λ (t : Bool). cond t n (firstOf ps)) e
+
+-- there is none
+pub first-end : firstOf [] ≡ 0
+unfolding firstOf
+first-end = refl
+
+-- none applies: not this one, and none after it
+pub first-none : (b : Bool) (n : ℕ) (ps : List (Bool × ℕ)) → firstOf ((b, suc n) ∷ ps) ≡ 0 → (b ≡ false) × (firstOf ps ≡ 0)
+unfolding firstOf
+first-none true n ps e = absurd (omega arith)
+first-none false n ps e = (refl, e)
+
+-- ---- by the number r that a check found for the refusal n
+
+module _ (r n : ℕ) (e : r ≡ n) where
+  -- it refuses: the answer is that number, and a buffer stays as it was
+  module _ (h : r ≡ 0 → ⊥) where
+    pub refused-by : {A : Type 0} (a : A) → refused r ≡ outcome n a
+    refused-by {A} a = go r h ∙ ap (λ (m : ℕ). outcome m a) e
+      where
+        go : (m : ℕ) → (m ≡ 0 → ⊥) → refused m ≡ outcome m a
+        go zero k = absurd (k refl)
+        go (suc m) k = refl
+
+    pub kept-by : (new old : List ℕ) → old ≡ afterwards n new old
+    kept-by new old = go r h ∙ ap (λ (m : ℕ). afterwards m new old) e
+      where
+        go : (m : ℕ) → (m ≡ 0 → ⊥) → old ≡ afterwards m new old
+        go zero k = absurd (k refl)
+        go (suc m) k = refl
+
+  -- it does not
+  module _ (z : r ≡ 0) where
+    pub not-refused : n ≡ 0
+    not-refused = sym e ∙ z
+
+    pub answered-by : {A : Type 0} (a : A) → answered a ≡ outcome n a
+    answered-by a = sym (ap (λ (m : ℕ). outcome m a) not-refused)
+
+    pub changed-by : (new old : List ℕ) → new ≡ afterwards n new old
+    changed-by new old = sym (ap (λ (m : ℕ). afterwards m new old) not-refused)

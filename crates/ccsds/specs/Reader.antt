@@ -1,0 +1,139 @@
+-- Document 01, "The unit": what the unit reader finds in a unit's bytes alone. Positions count from the unit's first byte.
+-- Assumes nothing.
+use mathlib.Core.Bool.{Bool, cond, not, _||_}
+use mathlib.Core.List.{List}
+use mathlib.Core.Option.{Option, none, some}
+use Prim.Native.Nat.{ℕ, zero, suc, _+_, _-_, _*_, _/_, _%_}
+use lib.Dec.{eqb, ltb, leb}
+use lib.ListN.{length, getD, take, drop}
+use Rattle.ccsds.specs.Refusals.{Outcome, refused, answered, _⟫_, refuseIf}
+use Rattle.ccsds.specs.Sdnv.{Number, numberAt}
+use Rattle.ccsds.specs.declared.reader.Parameters.{Parameters}
+use Rattle.ccsds.specs.declared.reader.ParametersRead.{ParametersRead}
+use Rattle.ccsds.specs.declared.reader.ParametersRead.the-variants as parameters
+use Rattle.ccsds.specs.declared.reader.Extension.{Extension}
+use Rattle.ccsds.specs.declared.reader.Extension.the-variants as extension
+use Rattle.ccsds.specs.declared.reader.Walk.{Walk}
+use Rattle.ccsds.specs.declared.reader.Walk.the-variants as walk
+use Rattle.ccsds.specs.declared.reader.UnitRead.{UnitRead}
+use Rattle.ccsds.specs.declared.reader.UnitRead.the-variants as unit
+
+-- the coding parameters
+pub record Coding : Type 0 where
+  pub w : ℕ
+  pub k : ℕ
+  pub n : ℕ
+  pub seed : ℕ
+
+-- what one extension or several say: the coding parameters, if a type 1 came, and the position after them
+pub record Said : Type 0 where
+  pub coding : Option Coding
+  pub end : ℕ
+
+-- what a unit says: the header's numbers, the coding parameters, if a type 1 came, and where the symbol starts
+pub record Parts : Type 0 where
+  pub protocol : ℕ
+  pub count : ℕ
+  pub lwc : ℕ
+  pub lsc : ℕ
+  pub coding : Option Coding
+  pub symbol : ℕ
+
+-- the bytes of s from position a up to position e
+abbrev pub part : List ℕ → ℕ → ℕ → List ℕ
+part s a e = take (e - a) (drop a s)
+
+-- two bytes of s, big-endian
+abbrev pub pairAt : List ℕ → ℕ → ℕ
+pairAt s at = getD s at 0 * 256 + getD s (at + 1) 0
+
+-- a type 1's value: exactly four numbers
+unfoldable pub codingOf : List ℕ → Outcome Coding
+codingOf v =
+    numberAt v 0 ⟫ λ w.
+    numberAt v (w .end) ⟫ λ k.
+    numberAt v (k .end) ⟫ λ n.
+    numberAt v (n .end) ⟫ λ seed.
+    refuseIf (not (eqb (seed .end) (length v))) 6
+    (answered (record { w = w .value; k = k .value; n = n .value; seed = seed .value }))
+
+-- the value of an extension of a type, from position a up to position e
+unfoldable pub valueOf : List ℕ → ℕ → ℕ → ℕ → Outcome Said
+valueOf s type a e =
+    cond (eqb type 1)
+    (codingOf (part s a e) ⟫ λ p. answered (record { coding = some p; end = e }))
+    (answered (record { coding = none; end = e }))
+
+-- one extension at a position: a type from 1 to 254, a length, and that many value bytes
+unfoldable pub extensionAt : List ℕ → ℕ → Outcome Said
+extensionAt s at =
+    refuseIf (leb (length s) at) 6
+    (refuseIf (eqb (getD s at 0) 0 || eqb (getD s at 0) 255) 6
+    (numberAt s (at + 1) ⟫ λ len.
+    refuseIf (ltb (length s) (len .end + len .value)) 6
+    (valueOf s (getD s at 0) (len .end) (len .end + len .value))))
+
+-- the coding parameters that came before, and those of one more extension: two of type 1 are refused
+abbrev pub oneOf : Option Coding → Option Coding → Outcome (Option Coding)
+oneOf none x = answered x
+oneOf (some p) none = answered (some p)
+oneOf (some p) (some q) = refused 6
+
+-- one more extension
+abbrev pub oneMore : List ℕ → Said → Outcome Said
+oneMore s found =
+    extensionAt s (found .end) ⟫ λ x.
+    oneOf (found .coding) (x .coding) ⟫ λ p.
+    answered (record { coding = p; end = x .end })
+
+-- the first so many extensions of a unit
+unfoldable pub extensionsOf : List ℕ → ℕ → Outcome Said
+extensionsOf s zero = answered (record { coding = none; end = 6 })
+extensionsOf s (suc count) = extensionsOf s count ⟫ oneMore s
+
+-- 5, header: under 6 bytes, version not 1, reserved bit set, or extension count 0
+unfoldable pub wrongHeader : List ℕ → Bool
+wrongHeader s = ltb (length s) 6 || not (eqb (getD s 0 0 / 16) 1) || not (eqb (getD s 0 0 % 2) 0) || eqb (getD s 1 0) 0
+
+-- the unit in a list of bytes
+unfoldable pub readUnit : List ℕ → Outcome Parts
+readUnit s =
+    refuseIf (wrongHeader s) 5
+    (extensionsOf s (getD s 1 0) ⟫ λ x.
+    answered (record {
+      protocol = getD s 0 0 / 2 % 8;
+      count = getD s 1 0;
+      lwc = pairAt s 2;
+      lsc = pairAt s 4;
+      coding = x .coding;
+      symbol = x .end;
+    }))
+
+-- ---- the cases of the reader's answers in the paper's words
+
+abbrev pub fourAs : Parameters → Coding
+fourAs p = record { w = p .w; k = p .k; n = p .n; seed = p .seed }
+
+abbrev pub codingAs : ParametersRead → Outcome Coding
+codingAs (parameters.Four p) = answered (fourAs p)
+codingAs (parameters.Refused number) = refused number
+
+abbrev pub extensionAs : Extension → Option Coding
+extensionAs (extension.Coding p) = some (fourAs p)
+extensionAs extension.PassedOver = none
+
+abbrev pub walkAs : Walk → Outcome Said
+walkAs (walk.To x end) = answered (record { coding = extensionAs x; end = end })
+walkAs (walk.Refused number) = refused number
+
+abbrev pub readAs : UnitRead → Outcome Parts
+readAs (unit.Read p) =
+    answered (record {
+      protocol = p .protocol;
+      count = p .count;
+      lwc = p .lwc;
+      lsc = p .lsc;
+      coding = extensionAs (p .coding);
+      symbol = p .symbol;
+    })
+readAs (unit.Refused number) = refused number

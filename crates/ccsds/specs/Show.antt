@@ -1,0 +1,45 @@
+-- Document 01, "Sending": show.
+-- Assumes nothing.
+use mathlib.Core.Bool.{cond, _||_}
+use mathlib.Core.List.{List, [], _∷_}
+use Prim.Native.Nat.{ℕ, _+_, _-_, _*_}
+use lib.Dec.{eqb, ltb}
+use lib.ListN.{length, take, drop}
+use denote.Ref.{RefT, now, ptr}
+use Rattle.ccsds.specs.Codes.{nOf}
+use Rattle.ccsds.specs.Tables.{codeOf}
+use Rattle.ccsds.specs.Refusals.{firstOf, wrongCode, wrongWidth, wrongLength, wrongPosition}
+
+-- a shared slice: where in memory its first byte stands (a block, and the place in it), and its bytes
+pub record Slice : Type 0 where
+  pub start : ℕ × ℕ
+  pub bytes : List ℕ
+
+abbrev pub sliceAs : RefT (List ℕ) → Slice
+sliceAs s = record { start = ptr s; bytes = now s }
+
+-- the part of len bytes of a buffer, from its byte `from` on
+abbrev pub partOf : RefT (List ℕ) → ℕ → ℕ → Slice
+partOf s from len = record { start = (ptr s .0, ptr s .1 + from); bytes = take len (drop from (now s)) }
+
+-- where the empty part is shown: of a code's number, a width, the lengths of the two buffers, and an LWC
+unfoldable pub showRefusal : ℕ → ℕ → ℕ → ℕ → ℕ → ℕ
+showRefusal number w infos parities lwc =
+    firstOf (
+    (wrongCode number, 1)
+    ∷ (wrongWidth w, 2)
+    ∷ (wrongLength infos (codeOf number .k * w) || wrongLength parities (codeOf number .m * w), 4)
+    ∷ (wrongPosition (nOf (codeOf number)) lwc, 9)
+    ∷ []
+    )
+
+-- the symbol at a position: information symbol i below k, else parity symbol i - k
+abbrev pub symbolPart : ℕ → ℕ → RefT (List ℕ) → RefT (List ℕ) → ℕ → Slice
+symbolPart k w info parity i = cond (ltb i k) (partOf info (i * w) w) (partOf parity ((i - k) * w) w)
+
+-- the symbol of an LWC, or the empty part at the start of the information
+unfoldable pub showOf : ℕ → ℕ → RefT (List ℕ) → RefT (List ℕ) → ℕ → Slice
+showOf number w info parity lwc =
+    cond (eqb (showRefusal number w (length (now info)) (length (now parity)) lwc) 0)
+    (symbolPart (codeOf number .k) w info parity (lwc - 1))
+    (partOf info 0 0)

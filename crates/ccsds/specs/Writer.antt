@@ -1,0 +1,66 @@
+-- Document 01, "The unit" and "Sending": write.
+-- Assumes nothing.
+use mathlib.Core.Bool.{cond, _||_}
+use mathlib.Core.List.{List, [], _∷_, _++_}
+use Prim.Native.Nat.{ℕ, _+_, _*_, _/_, _%_}
+use lib.ListN.{length}
+use Rattle.ccsds.specs.Codes.{Params, nOf}
+use Rattle.ccsds.specs.Tables.{codeOf}
+use Rattle.ccsds.specs.Refusals.{firstOf, wrongCode, wrongWidth, wrongLabel, wrongLength, wrongPosition, wrongSymbol, Outcome, refused, answered}
+use Rattle.ccsds.specs.Sdnv.{sdnvBytes}
+use Rattle.ccsds.specs.declared.writer.Written.{Written}
+use Rattle.ccsds.specs.declared.writer.Written.the-variants.{Done, Refused}
+
+-- the LWC of a position
+abbrev pub lwcOf : ℕ → ℕ
+lwcOf position = position + 1
+
+-- a number in 16 bits, big-endian
+abbrev pub twoBytes : ℕ → List ℕ
+twoBytes x = x / 256 ∷ x % 256 ∷ []
+
+-- a header: version 1, protocol ID and reserved bit 0, one extension, LWC, LSC
+unfoldable pub headerOf : ℕ → ℕ → ℕ → List ℕ
+headerOf protocol lsc lwc = ((16 + protocol * 2) ∷ []) ++ (1 ∷ []) ++ twoBytes lwc ++ twoBytes lsc
+
+-- the value of type 1: W, k, n and seed 0
+unfoldable pub valueBytes : ℕ → ℕ → ℕ → List ℕ
+valueBytes w k n = sdnvBytes w ++ sdnvBytes k ++ sdnvBytes n ++ sdnvBytes 0
+
+-- the extension: type 1, the length of its value, and the value
+unfoldable pub extensionOf : ℕ → ℕ → ℕ → List ℕ
+extensionOf w k n = (1 ∷ []) ++ sdnvBytes (length (valueBytes w k n)) ++ valueBytes w k n
+
+-- the unit of a code's symbol
+unfoldable pub unitOf : Params → ℕ → ℕ → ℕ → ℕ → List ℕ → List ℕ
+unitOf c w protocol lsc lwc symbol = headerOf protocol lsc lwc ++ extensionOf w (c .k) (nOf c) ++ symbol
+
+-- where its symbol starts, and its length
+abbrev pub symbolStart : Params → ℕ → ℕ
+symbolStart c w = 6 + length (extensionOf w (c .k) (nOf c))
+
+unfoldable pub unitLength : Params → ℕ → ℕ
+unitLength c w = symbolStart c w + w
+
+-- the size of an output buffer; 0 for a code or a width that is refused
+unfoldable pub unitBytes : ℕ → ℕ → ℕ
+unitBytes number w = cond (wrongCode number || wrongWidth w) 0 (unitLength (codeOf number) w)
+
+-- the number of the refusal, or 0: of a code's number, a width, a protocol ID, an LSC, an LWC, and the lengths of the symbol and of
+-- the output
+unfoldable pub writeRefusal : ℕ → ℕ → ℕ → ℕ → ℕ → ℕ → ℕ → ℕ
+writeRefusal number w protocol lsc lwc symbols outs =
+    firstOf (
+    (wrongCode number, 1)
+    ∷ (wrongWidth w, 2)
+    ∷ (wrongLabel lsc protocol, 3)
+    ∷ (wrongLength outs (unitLength (codeOf number) w), 4)
+    ∷ (wrongPosition (nOf (codeOf number)) lwc, 9)
+    ∷ (wrongSymbol symbols w, 10)
+    ∷ []
+    )
+
+-- the cases of write's answer in the paper's words
+abbrev pub writtenAs : Written → Outcome Unit
+writtenAs Done = answered tt
+writtenAs (Refused number) = refused number

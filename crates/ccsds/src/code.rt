@@ -1,0 +1,117 @@
+// A code by its number: table 4-1's numbers, the sizes of the buffers, and the checks of a caller's numbers. For a number that is no
+// code's every number and size is 0, and so is a size for a width that is refused.
+use crate::tables;
+ghost use mathlib.Core.Path.{_≡_};
+ghost use Prim.Native.Nat.{_+_, _*_, _/_, _≤_};
+ghost use Rattle.ccsds.specs.Codes.{nOf};
+ghost use Rattle.ccsds.specs.Tables.{codeOf, isCode};
+ghost use Rattle.ccsds.specs.Refusals.{wrongWidth, bytesOf};
+
+pub struct Code {
+    pub number: usize,
+}
+
+impl Code {
+    pub const C1: Code = Code { number: 1 };
+
+    pub const C2: Code = Code { number: 2 };
+
+    pub const MAX_WIDTH: usize = 1024;
+
+    // The number is a code's.
+    pub fn known(self) -> bool
+        ensures { λ r. ⌜ r ≡ isCode (self .number) ⌝ }
+    {
+        let number = self.number;
+        match number {
+            1 => true,
+            2 => true,
+            _ => false,
+        }
+    }
+
+    // A width that is refused.
+    pub fn wrong_width(w: usize) -> bool
+        ensures { λ r. ⌜ r ≡ wrongWidth w ⌝ }
+    {
+        if w == 0 {
+            return true;
+        }
+        Self::MAX_WIDTH < w
+    }
+
+    // Symbols of a block.
+    pub fn n(self) -> usize
+        ensures { λ r. ⌜ r ≡ nOf (codeOf (self .number)) ⌝ }
+    {
+        let l = tables::layout_of(self.number);
+        l.k + l.m
+    }
+
+    // Information symbols.
+    pub fn k(self) -> usize
+        ensures { λ r. ⌜ r ≡ codeOf (self .number) .k ⌝ }
+    {
+        tables::layout_of(self.number).k
+    }
+
+    // Parity symbols.
+    pub fn m(self) -> usize
+        ensures { λ r. ⌜ r ≡ codeOf (self .number) .m ⌝ }
+    {
+        tables::layout_of(self.number).m
+    }
+
+    // The circulant size.
+    pub fn q(self) -> usize
+        ensures { λ r. ⌜ r ≡ codeOf (self .number) .q ⌝ }
+    {
+        tables::layout_of(self.number).q
+    }
+
+    // m / q.
+    pub fn a(self) -> usize
+        ensures { λ r. ⌜ r ≡ codeOf (self .number) .a ⌝ }
+    {
+        tables::layout_of(self.number).a
+    }
+
+    // Bytes of the information buffer.
+    pub fn information_bytes(self, w: usize) -> usize
+        ensures { λ r. ⌜ r ≡ bytesOf (codeOf (self .number) .k) w ⌝ }
+    {
+        bytes(self.k(), w)
+    }
+
+    // Bytes of the parity buffer, and of the second work buffer.
+    pub fn parity_bytes(self, w: usize) -> usize
+        ensures { λ r. ⌜ r ≡ bytesOf (codeOf (self .number) .m) w ⌝ }
+    {
+        bytes(self.m(), w)
+    }
+
+    // Bytes of a block's symbols. Its marks are n bytes.
+    pub fn block_bytes(self, w: usize) -> usize
+        ensures { λ r. ⌜ r ≡ bytesOf (nOf (codeOf (self .number))) w ⌝ }
+    {
+        bytes(self.n(), w)
+    }
+
+    // 64-bit words of the first work buffer.
+    pub fn work_words(self) -> usize
+        ensures { λ r. ⌜ r ≡ codeOf (self .number) .m * (nOf (codeOf (self .number)) / 64 + 1) ⌝ }
+    {
+        self.m() * (self.n() / 64 + 1)
+    }
+}
+
+// Bytes of so many symbols.
+fn bytes(symbols: usize, w: usize) -> usize
+    requires { ⌜ symbols ≤ 3072 ⌝ }
+    ensures { λ r. ⌜ r ≡ bytesOf symbols w ⌝ }
+{
+    if Code::wrong_width(w) {
+        return 0;
+    }
+    symbols * w
+}

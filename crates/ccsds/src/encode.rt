@@ -1,0 +1,131 @@
+// The encoder: parity bytes from information bytes.
+use crate::code::Code;
+use crate::tables;
+use crate::tables::Layout;
+ghost use mathlib.Core.Path.{_≡_};
+ghost use Prim.Native.Nat.{_<_, _≤_, _+_, _*_, _-_};
+ghost use lib.ListN.{length};
+ghost use Rattle.ccsds.specs.Codes.{rowOf, encodeOf};
+ghost use Rattle.ccsds.specs.Tables.{codeOf, Known};
+ghost use Rattle.ccsds.specs.Layout.{Given};
+ghost use Rattle.ccsds.specs.Refusals.{outcome, afterwards};
+ghost use Rattle.ccsds.specs.Encode.{encodeRefusal, encodedAs};
+ghost use Rattle.ccsds.specs.Steps.{addedAt, accumulated, carried, Sized};
+
+// What encode answers: that it is done, or the number of the refusal.
+pub enum Encoded {
+    Done,
+    Refused(u8),
+}
+
+// Adds information symbol row * q + step at each check row that it touches.
+fn add_symbol(
+    number: usize,
+    l: Layout,
+    w: usize,
+    row: usize,
+    step: usize,
+    info: &[u8],
+    parity: &mut [u8],
+)
+    requires { ⌜ Known number × Given (codeOf number) l ⌝ }
+    requires { ⌜ (row < length (codeOf number .rows)) × (step < codeOf number .q) ⌝ }
+    requires { ⌜ Sized (codeOf number) w (length (now info)) (length (now parity)) ⌝ }
+    ensures { λ _. ⌜ now (parity .exit) ≡ addedAt (codeOf number) w (now (info .entry)) (row * codeOf number .q + step) (rowOf (codeOf number) (row * codeOf number .q + step)) (now (parity .entry)) ⌝ }
+{
+    let from = (row * l.q + step) * w;
+    let n = tables::row_degree(number, l, row);
+    let mut i = 0;
+    while i < n {
+        let j = tables::check_row(number, l, row, step, i);
+        buffers::add_from(parity, j * w, info, from, w);
+        i += 1;
+    }
+}
+
+// Adds the q information symbols of a table row.
+fn add_row(number: usize, l: Layout, w: usize, row: usize, info: &[u8], parity: &mut [u8])
+    requires { ⌜ Known number × Given (codeOf number) l ⌝ }
+    requires { ⌜ row < length (codeOf number .rows) ⌝ }
+    requires { ⌜ Sized (codeOf number) w (length (now info)) (length (now parity)) ⌝ }
+    ensures { λ _. ⌜ now (parity .exit) ≡ accumulated (codeOf number) w (now (info .entry)) (row * codeOf number .q) (codeOf number .q) (now (parity .entry)) ⌝ }
+{
+    let q = l.q;
+    let mut step = 0;
+    while step < q {
+        add_symbol(number, l, w, row, step, info, parity);
+        step += 1;
+    }
+}
+
+// Adds every information symbol.
+fn accumulate(number: usize, l: Layout, w: usize, info: &[u8], parity: &mut [u8])
+    requires { ⌜ Known number × Given (codeOf number) l ⌝ }
+    requires { ⌜ Sized (codeOf number) w (length (now info)) (length (now parity)) ⌝ }
+    ensures { λ _. ⌜ now (parity .exit) ≡ accumulated (codeOf number) w (now (info .entry)) 0 (codeOf number .k) (now (parity .entry)) ⌝ }
+{
+    let rows = l.rows;
+    let mut row = 0;
+    while row < rows {
+        add_row(number, l, w, row, info, parity);
+        row += 1;
+    }
+}
+
+// Adds to each parity symbol but the first the one before it.
+fn carry(m: usize, w: usize, parity: &mut [u8])
+    requires { ⌜ (0 < m) × (length (now parity) ≡ m * w) ⌝ }
+    ensures { λ _. ⌜ now (parity .exit) ≡ carried w (m - 1) (now (parity .entry)) ⌝ }
+{
+    let mut j = 1;
+    while j < m {
+        buffers::add_earlier(parity, j * w, (j - 1) * w, w);
+        j += 1;
+    }
+}
+
+// Encodes into buffers of the right sizes.
+fn encode_sized(number: usize, w: usize, info: &[u8], parity: &mut [u8])
+    requires { ⌜ Known number × (0 < w) ⌝ }
+    requires { ⌜ Sized (codeOf number) w (length (now info)) (length (now parity)) ⌝ }
+    ensures { λ _. ⌜ now (parity .exit) ≡ encodeOf (codeOf number) w (now (info .entry)) ⌝ }
+{
+    let l = tables::layout_of(number);
+    let m = l.m;
+    buffers::clear(parity);
+    accumulate(number, l, w, info, parity);
+    carry(m, w, parity);
+}
+
+// The number of encode's refusal, or 0.
+fn check_encode(number: usize, w: usize, infos: usize, parities: usize) -> u8
+    ensures { λ r. ⌜ r ≡ encodeRefusal number w infos parities ⌝ }
+{
+    let code = Code { number };
+    if !code.known() {
+        return 1;
+    }
+    if Code::wrong_width(w) {
+        return 2;
+    }
+    if infos != code.information_bytes(w) {
+        return 4;
+    }
+    if parities != code.parity_bytes(w) {
+        return 4;
+    }
+    0
+}
+
+// The parity bytes of the information bytes, into a buffer of m * w bytes; or a refusal, which changes nothing.
+pub fn encode(code: usize, w: usize, info: &[u8], parity: &mut [u8]) -> Encoded
+    ensures answer { λ r. ⌜ encodedAs r ≡ outcome (encodeRefusal code w (length (now (info .entry))) (length (now (parity .entry)))) tt ⌝ }
+    ensures parity { λ _. ⌜ now (parity .exit) ≡ afterwards (encodeRefusal code w (length (now (info .entry))) (length (now (parity .entry)))) (encodeOf (codeOf code) w (now (info .entry))) (now (parity .entry)) ⌝ }
+{
+    let refusal = check_encode(code, w, info.len(), parity.len());
+    if refusal != 0 {
+        return Encoded::Refused(refusal);
+    }
+    encode_sized(code, w, info, parity);
+    Encoded::Done
+}

@@ -1,0 +1,199 @@
+// The unit reader: what a unit's bytes say, by themselves.
+use crate::big_endian;
+use crate::sdnv;
+use crate::sdnv::NumberRead;
+ghost use mathlib.Core.Path.{_≡_};
+ghost use Rattle.ccsds.specs.Refusals.{_⟫_};
+ghost use Rattle.ccsds.specs.Reader.{codingOf, extensionAt, extensionsOf, oneMore, wrongHeader, readUnit, codingAs, extensionAs, walkAs, readAs};
+
+// The coding parameters.
+pub struct Parameters {
+    pub w: usize,
+    pub k: usize,
+    pub n: usize,
+    pub seed: usize,
+}
+
+pub enum ParametersRead {
+    Four(Parameters),
+    Refused(u8),
+}
+
+// The value of a type 1: exactly four numbers.
+fn read_parameters(v: &[u8]) -> ParametersRead
+    ensures { λ r. ⌜ codingAs r ≡ codingOf (now (v .entry)) ⌝ }
+{
+    let w = match sdnv::number_at(v, 0) {
+        NumberRead::Read(x) => x,
+        NumberRead::Refused(r) => {
+            return ParametersRead::Refused(r);
+        }
+    };
+    let k = match sdnv::number_at(v, w.end) {
+        NumberRead::Read(x) => x,
+        NumberRead::Refused(r) => {
+            return ParametersRead::Refused(r);
+        }
+    };
+    let n = match sdnv::number_at(v, k.end) {
+        NumberRead::Read(x) => x,
+        NumberRead::Refused(r) => {
+            return ParametersRead::Refused(r);
+        }
+    };
+    let seed = match sdnv::number_at(v, n.end) {
+        NumberRead::Read(x) => x,
+        NumberRead::Refused(r) => {
+            return ParametersRead::Refused(r);
+        }
+    };
+    if seed.end != v.len() {
+        return ParametersRead::Refused(6);
+    }
+    ParametersRead::Four(Parameters {
+        w: w.value,
+        k: k.value,
+        n: n.value,
+        seed: seed.value,
+    })
+}
+
+// One extension: the coding parameters, or a type that is passed over.
+pub enum Extension {
+    Coding(Parameters),
+    PassedOver,
+}
+
+// The walk over extensions: the coding parameters, if they came, and the position that it came to.
+pub enum Walk {
+    To(Extension, usize),
+    Refused(u8),
+}
+
+// The extension at a position.
+fn read_extension(s: &[u8], at: usize) -> Walk
+    ensures { λ r. ⌜ walkAs r ≡ extensionAt (now (s .entry)) at ⌝ }
+{
+    if at >= s.len() {
+        return Walk::Refused(6);
+    }
+    let kind = s[at];
+    if kind == 0 {
+        return Walk::Refused(6);
+    }
+    if kind == 255 {
+        return Walk::Refused(6);
+    }
+    let len = match sdnv::number_at(s, at + 1) {
+        NumberRead::Read(x) => x,
+        NumberRead::Refused(r) => {
+            return Walk::Refused(r);
+        }
+    };
+    let a = len.end;
+    let e = a + len.value;
+    if e > s.len() {
+        return Walk::Refused(6);
+    }
+    if kind != 1 {
+        return Walk::To(Extension::PassedOver, e);
+    }
+    match read_parameters(&s[a..e]) {
+        ParametersRead::Four(p) => Walk::To(Extension::Coding(p), e),
+        ParametersRead::Refused(r) => Walk::Refused(r),
+    }
+}
+
+// One extension more. Two of type 1 are refused.
+fn walk_on(s: &[u8], found: Extension, at: usize) -> Walk
+    ensures { λ r. ⌜ walkAs r ≡ oneMore (now (s .entry)) (record { coding = extensionAs found; end = at }) ⌝ }
+{
+    match read_extension(s, at) {
+        Walk::Refused(r) => Walk::Refused(r),
+        Walk::To(x, end) => match found {
+            Extension::PassedOver => Walk::To(x, end),
+            Extension::Coding(_) => match x {
+                Extension::PassedOver => Walk::To(found, end),
+                Extension::Coding(_) => Walk::Refused(6),
+            },
+        },
+    }
+}
+
+// The extensions of a unit, so many.
+fn walk_extensions(s: &[u8], count: usize) -> Walk
+    ensures { λ r. ⌜ walkAs r ≡ extensionsOf (now (s .entry)) count ⌝ }
+{
+    let mut found = Extension::PassedOver;
+    let mut at: usize = 6;
+    let mut i: usize = 0;
+    while i < count {
+        match walk_on(s, found, at) {
+            Walk::To(x, end) => {
+                found = x;
+                at = end;
+            }
+            Walk::Refused(r) => {
+                return Walk::Refused(r);
+            }
+        }
+        i += 1;
+    }
+    Walk::To(found, at)
+}
+
+// What a unit says: the header's numbers, the coding parameters, if they came, and where the symbol starts.
+pub struct UnitParts {
+    pub protocol: usize,
+    pub count: usize,
+    pub lwc: usize,
+    pub lsc: usize,
+    pub coding: Extension,
+    pub symbol: usize,
+}
+
+pub enum UnitRead {
+    Read(UnitParts),
+    Refused(u8),
+}
+
+// Under 6 bytes, version not 1, reserved bit set, or extension count 0.
+fn wrong_header(s: &[u8]) -> bool
+    ensures { λ r. ⌜ r ≡ wrongHeader (now (s .entry)) ⌝ }
+{
+    if s.len() < 6 {
+        return true;
+    }
+    let first = s[0];
+    if first / 16 != 1 {
+        return true;
+    }
+    if first % 2 != 0 {
+        return true;
+    }
+    s[1] == 0
+}
+
+// Reads a unit.
+pub fn read_unit(s: &[u8]) -> UnitRead
+    ensures { λ r. ⌜ readAs r ≡ readUnit (now (s .entry)) ⌝ }
+{
+    if wrong_header(s) {
+        return UnitRead::Refused(5);
+    }
+    let first = big_endian::byte(s[0]);
+    let count = big_endian::byte(s[1]);
+    let lwc = big_endian::pair(s[2], s[3]);
+    let lsc = big_endian::pair(s[4], s[5]);
+    match walk_extensions(s, count) {
+        Walk::To(coding, symbol) => UnitRead::Read(UnitParts {
+            protocol: first / 2 % 8,
+            count,
+            lwc,
+            lsc,
+            coding,
+            symbol,
+        }),
+        Walk::Refused(r) => UnitRead::Refused(r),
+    }
+}

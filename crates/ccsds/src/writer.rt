@@ -1,0 +1,127 @@
+// The unit writer.
+use crate::checks;
+use crate::code::Code;
+use crate::put;
+ghost use mathlib.Core.Path.{_≡_};
+ghost use Prim.Native.Nat.{_+_, _<_, _≤_};
+ghost use lib.ListN.{length};
+ghost use Rattle.ccsds.specs.Tables.{codeOf};
+ghost use Rattle.ccsds.specs.Refusals.{outcome, afterwards};
+ghost use Rattle.ccsds.specs.Writer.{headerOf, valueBytes, extensionOf, unitOf, unitBytes, writeRefusal, writtenAs};
+ghost use Rattle.ccsds.specs.Put.{Put};
+
+// The length of the coding parameters' value.
+fn value_bytes(w: usize, k: usize, n: usize) -> usize
+    ensures { λ r. ⌜ r ≡ length (valueBytes w k n) ⌝ }
+{
+    put::sdnv_bytes(w) + put::sdnv_bytes(k) + put::sdnv_bytes(n) + put::sdnv_bytes(0)
+}
+
+impl Code {
+    // Bytes of a unit.
+    pub fn unit_bytes(self, w: usize) -> usize
+        ensures { λ r. ⌜ r ≡ unitBytes (self .number) w ⌝ }
+    {
+        if !self.known() {
+            return 0;
+        }
+        if Code::wrong_width(w) {
+            return 0;
+        }
+        let value = value_bytes(w, self.k(), self.n());
+        7 + put::sdnv_bytes(value) + value + w
+    }
+}
+
+// What write answers: that it is done, or the number of the refusal.
+pub enum Written {
+    Done,
+    Refused(u8),
+}
+
+// The number of write's refusal, or 0.
+fn check_write(
+    number: usize,
+    w: usize,
+    protocol: usize,
+    lsc: usize,
+    lwc: usize,
+    symbols: usize,
+    outs: usize,
+) -> u8
+    ensures { λ r. ⌜ r ≡ writeRefusal number w protocol lsc lwc symbols outs ⌝ }
+{
+    let code = Code { number };
+    if !code.known() {
+        return 1;
+    }
+    if Code::wrong_width(w) {
+        return 2;
+    }
+    if checks::wrong_label(lsc, protocol) {
+        return 3;
+    }
+    if outs != code.unit_bytes(w) {
+        return 4;
+    }
+    if checks::wrong_position(code.n(), lwc) {
+        return 9;
+    }
+    if symbols != w {
+        return 10;
+    }
+    0
+}
+
+fn put_header(out: &mut [u8], protocol: usize, lsc: usize, lwc: usize) -> usize
+    requires { ⌜ (6 ≤ length (now out)) × (protocol < 8) × (lsc < 65536) × (lwc < 65536) ⌝ }
+    ensures { λ r. ⌜ Put (now (out .entry)) (now (out .exit)) 0 r (headerOf protocol lsc lwc) ⌝ }
+{
+    let a = put::byte(out, 0, 16 + protocol * 2);
+    let b = put::byte(out, a, 1);
+    let c = put::pair(out, b, lwc);
+    put::pair(out, c, lsc)
+}
+
+fn put_value(out: &mut [u8], at: usize, w: usize, k: usize, n: usize) -> usize
+    requires { ⌜ at + length (valueBytes w k n) ≤ length (now out) ⌝ }
+    ensures { λ r. ⌜ Put (now (out .entry)) (now (out .exit)) at r (valueBytes w k n) ⌝ }
+{
+    let a = put::sdnv(out, at, w);
+    let b = put::sdnv(out, a, k);
+    let c = put::sdnv(out, b, n);
+    put::sdnv(out, c, 0)
+}
+
+fn put_extension(out: &mut [u8], at: usize, w: usize, k: usize, n: usize) -> usize
+    requires { ⌜ at + length (extensionOf w k n) ≤ length (now out) ⌝ }
+    ensures { λ r. ⌜ Put (now (out .entry)) (now (out .exit)) at r (extensionOf w k n) ⌝ }
+{
+    let a = put::byte(out, at, 1);
+    let b = put::sdnv(out, a, value_bytes(w, k, n));
+    put_value(out, b, w, k, n)
+}
+
+// Writes the unit of one symbol into an output of exactly its length; or a refusal, which changes nothing.
+pub fn write(
+    code: usize,
+    w: usize,
+    protocol: usize,
+    lsc: usize,
+    lwc: usize,
+    symbol: &[u8],
+    out: &mut [u8],
+) -> Written
+    ensures answer { λ r. ⌜ writtenAs r ≡ outcome (writeRefusal code w protocol lsc lwc (length (now (symbol .entry))) (length (now (out .entry)))) tt ⌝ }
+    ensures output { λ _. ⌜ now (out .exit) ≡ afterwards (writeRefusal code w protocol lsc lwc (length (now (symbol .entry))) (length (now (out .entry)))) (unitOf (codeOf code) w protocol lsc lwc (now (symbol .entry))) (now (out .entry)) ⌝ }
+{
+    let refusal = check_write(code, w, protocol, lsc, lwc, symbol.len(), out.len());
+    if refusal != 0 {
+        return Written::Refused(refusal);
+    }
+    let c = Code { number: code };
+    let a = put_header(out, protocol, lsc, lwc);
+    let b = put_extension(out, a, w, c.k(), c.n());
+    put::bytes(out, b, symbol);
+    Written::Done
+}
