@@ -1,0 +1,11 @@
+pub mod Order
+pub mod PartsLaws
+pub mod Digits
+pub mod BitsLaws
+pub mod SweepLaws
+pub mod SystemLaws
+pub mod ReducedLaws
+pub mod StepLaws
+pub mod SharedLaws
+pub mod FillLaws
+pub mod BuildLaws

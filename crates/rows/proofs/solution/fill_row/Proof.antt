@@ -1,0 +1,126 @@
+-- `rows::solution::fill_row` meets its contract: the pivot word of a reduced row is its pivot + 1, and `only` says whether it stands alone.
+-- Assumes nothing.
+use mathlib.Core.Path.{_≡_, refl, subst}
+use mathlib.Core.Logic.{inl, inr}
+use mathlib.Core.Bool.{true}
+use Prim.Native.Nat.{ℕ, _+_, _-_, _*_, _≤_, _<_}
+use native.Mathlib.Nat.{le-trans}
+use native.Mathlib.Omega.{arith}
+use lib.ListN.{length}
+use Rattle.algebra.proofs.Codeword.{slot}
+use Rattle.rows.specs.Bits.{rowBit, OnlyIs}
+use Rattle.rows.specs.Reduced.{pivotWord}
+use Rattle.rows.proofs.FillLaws.{word-pivot, shared-at}
+use borrow.Author.Needs.{needs}
+use Rattle.rows.proofs.solution.fill_row.Statement.{statement}
+use Rattle.rows.proofs.solution.fill_row.Tie as tie
+
+-- row s ends within the rows, and within the right-hand side
+ends : (c : tie.Start) → (c .args .s * (c .args .words + 1) + (c .args .words + 1) ≤ length (c .args .rows .now))
+    × (c .args .s * c .args .width + c .args .width ≤ length (c .args .rhs .now))
+ends c = (
+  le-trans (slot (c .args .s) (c .args .m) (c .args .words + 1) (c .pre .1 .1 .0)) (c .pre .0 .0),
+  le-trans (slot (c .args .s) (c .args .m) (c .args .width) (c .pre .1 .1 .0)) (c .pre .0 .1),
+)
+
+-- the position that the pivot word gives
+abbrev place : tie.Start → ℕ
+place c = pivotWord (c .args .rows .now) (c .args .words) (c .args .s) - 1
+
+is-place : (c : tie.Else1) → pivotWord (c .before .before .before .before .before .before .args .rows .now) (c .before .before .before .before .before .before .args .words) (c .before .before .before .before .before .before .args .s) ≡ place (c .before .before .before .before .before .before) + 1
+is-place c = omega arith
+
+pivot : (c : tie.Else1) → (place (c .before .before .before .before .before .before) < 64 * c .before .before .before .before .before .before .args .words) × (rowBit (c .before .before .before .before .before .before .args .rows .now) (c .before .before .before .before .before .before .args .s * (c .before .before .before .before .before .before .args .words + 1)) (place (c .before .before .before .before .before .before)) ≡ true)
+pivot c = word-pivot _ (c .before .before .before .before .before .before .args .m) _ _ _ (c .before .before .before .before .before .before .pre .1 .1 .1 _ (c .before .before .before .before .before .before .pre .1 .1 .0)) (is-place c)
+
+-- its symbol ends within the symbols
+symbol : (c : tie.Else1) → place (c .before .before .before .before .before .before) * c .before .before .before .before .before .before .args .width + c .before .before .before .before .before .before .args .width ≤ length (c .before .before .before .before .before .before .args .symbols .now)
+symbol c = le-trans (slot (place (c .before .before .before .before .before .before)) (64 * c .before .before .before .before .before .before .args .words) (c .before .before .before .before .before .before .args .width) (pivot c .0)) (c .before .before .before .before .before .before .pre .1 .0 .0)
+
+add-base : tie.Need-add-base
+add-base c = search needs
+
+mul-base : tie.Need-mul-base
+mul-base c = omega (arith, ends (c .before .before .before .before) .0)
+
+add-k : tie.Need-add-k
+add-k c = omega (arith, ends (c .before .before .before .before) .0)
+
+mul-v : tie.Need-mul-v
+mul-v c = omega (arith, ends (c .before .before .before .before) .0)
+
+shared-slice-read-v : tie.Need-shared-slice-read-v
+shared-slice-read-v c = omega (arith, ends (c .before .before .before .before .before) .0)
+
+returns : tie.Need-returns
+returns c = inr (record { shared = λ p e. absurd (omega (arith, c .if1 .taken)); symbols = refl; marks = refl })
+
+sub-p : tie.Need-sub-p
+sub-p c = search needs
+
+only-requires : tie.Need-only-requires
+only-requires c κs = let h = pivot c in ((omega arith, omega (arith, ends (c .before .before .before .before .before .before) .0)), h .1)
+
+mul-copy-from : tie.Need-mul-copy-from
+mul-copy-from c = omega (arith, symbol (c .before .before .before))
+
+mul-copy-from-2 : tie.Need-mul-copy-from-2
+mul-copy-from-2 c = omega (arith, ends (c .before .before .before .before .before .before .before .before .before) .1)
+
+copy-from-requires : tie.Need-copy-from-requires
+copy-from-requires c κs = (symbol (c .before .before .before), ends (c .before .before .before .before .before .before .before .before .before) .1)
+
+slice-write-marks : tie.Need-slice-write-marks
+slice-write-marks c = let h = pivot (c .before .before .before .before .before .before) .0 in omega arith
+
+same-length : tie.Need-same-length
+same-length c = search needs
+
+same-length-2 : tie.Need-same-length-2
+same-length-2 c = search needs
+
+returns-2 : tie.Need-returns-2
+returns-2 c =
+    inl (
+      place (c .before .before .before .before .before .before .before .before .before .before .before .before),
+      record {
+        alone = record {
+          word = is-place (c .before .before .before .before .before .before);
+          within = pivot (c .before .before .before .before .before .before) .0;
+          only = subst (OnlyIs _ _ _) (c .before .before .before .before .if2 .taken) (c .before .before .before .before .before .only .ensures);
+        };
+        symbols = c .before .before .copy-from .ensures;
+        marks = refl;
+      },
+    )
+
+returns-3 : tie.Need-returns-3
+returns-3 c =
+    let at-start = c .before .before .before .before .before .before .before .before in
+    inr (record {
+      shared = λ p h. shared-at (rowBit (at-start .args .rows .now) (at-start .args .s * (at-start .args .words + 1))) _ (place at-start) p _ (c .before .only .ensures) (c .if2 .left)
+          (let j : place at-start ≡ p = omega arith in j);
+      symbols = refl;
+      marks = refl;
+    })
+
+pub fill-row-spec : {M : Type 1} → statement M
+fill-row-spec =
+    tie.close
+    (tie.spec
+    add-base
+    mul-base
+    add-k
+    mul-v
+    shared-slice-read-v
+    returns
+    sub-p
+    only-requires
+    mul-copy-from
+    mul-copy-from-2
+    copy-from-requires
+    slice-write-marks
+    same-length
+    same-length-2
+    returns-2
+    returns-3)

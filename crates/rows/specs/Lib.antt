@@ -1,0 +1,9 @@
+pub mod Parts
+pub mod Bits
+pub mod Sweep
+pub mod System
+pub mod Reduced
+pub mod Step
+pub mod Shared
+pub mod Fill
+pub mod Build
