@@ -1,0 +1,11 @@
+pub mod Symbols
+pub mod BlockRefusal
+pub mod Taking
+pub mod FromTheList
+pub mod Demand3
+pub mod Solved
+pub mod Clearing
+pub mod Marks
+pub mod CloseRefusal
+pub mod Closing
+pub mod SystemLaws

@@ -1,0 +1,148 @@
+-- The refusals of a unit row by row, what is known of one that is admitted, and the ways of a take.
+-- Assumes nothing.
+use mathlib.Core.Path.{_≡_, refl, sym, ap, _∙_, subst}
+use mathlib.Core.Bool.{true, false, not, cond}
+use mathlib.Core.List.{List}
+use Prim.Native.Nat.{ℕ, zero, suc, _-_, _*_, _≤_, _<_}
+use native.Mathlib.Omega.{arith}
+use lib.Dec.{eqb, ltb}
+use lib.ListN.{length, getD, take, drop, set, length-drop}
+use borrow.Author.Tests.{lt-ltb, le-ltb, ltb-false, eq-eqb, ne-eqb, eqb-false, eqb-true, not-false}
+use Rattle.ccsds.specs.Codes.{nOf}
+use Rattle.ccsds.specs.Tables.{codeOf}
+use Rattle.ccsds.specs.Refusals.{wrongPosition, wrongSymbol, Outcome, refused, answered, outcome, _⟫_}
+use Rattle.ccsds.specs.Reader.{Parts, readUnit}
+use Rattle.ccsds.proofs.Refusals.{or-false, first-is, first-on, first-end, first-none, refused-by, answered-by}
+use Rattle.block.specs.Block.{checks, symbolAt, blockRefusal, wrongMark}
+use Rattle.block.specs.Take.{wrongParameters, foreign, unitRefusal, Placed, admission, Arrival, kept, repeated, Take, sameBytes, stored, unchanged, arrival, takeAdmitted, takeBy, takeOf}
+use Rattle.block.specs.declared.Block.{Block}
+use Rattle.block.proofs.BlockRefusal.{checks-n}
+
+-- ---- the refusals of a unit, row by row
+
+module _ (b : Block) (p : Parts) (len : ℕ) where
+  pub parameters-refused : wrongParameters b (p .coding) ≡ true → 7 ≡ unitRefusal b p len
+  unfolding unitRefusal
+  parameters-refused h = sym (first-is _ _ _ h)
+
+  module _ (parameters : wrongParameters b (p .coding) ≡ false) where
+    pub foreign-refused : foreign b p ≡ true → 8 ≡ unitRefusal b p len
+    unfolding unitRefusal
+    foreign-refused h = sym (first-on _ _ _ parameters ∙ first-is _ _ _ h)
+
+    module _ (own : foreign b p ≡ false) where
+      pub position-refused : wrongPosition (nOf (codeOf (b .code))) (p .lwc) ≡ true → 9 ≡ unitRefusal b p len
+      unfolding unitRefusal
+      position-refused h =
+          sym (first-on _ _ _ parameters ∙ first-on _ _ _ own ∙ first-is _ _ _ (ap (λ (n : ℕ). wrongPosition n (p .lwc)) (checks-n b) ∙ h))
+
+      module _ (position : wrongPosition (nOf (codeOf (b .code))) (p .lwc) ≡ false) where
+        inside : wrongPosition (checks b .n) (p .lwc) ≡ false
+        inside = ap (λ (n : ℕ). wrongPosition n (p .lwc)) (checks-n b) ∙ position
+
+        pub symbol-refused : (len - p .symbol ≡ b .w → ⊥) → 10 ≡ unitRefusal b p len
+        unfolding unitRefusal wrongSymbol
+        symbol-refused h =
+            sym (first-on _ _ _ parameters ∙ first-on _ _ _ own ∙ first-on _ _ _ inside ∙ first-is _ _ _ (ap not (ne-eqb (len - p .symbol) (b .w) h)))
+
+        pub unit-admitted : len - p .symbol ≡ b .w → 0 ≡ unitRefusal b p len
+        unfolding unitRefusal wrongSymbol
+        unit-admitted h =
+            sym (first-on _ _ _ parameters ∙ first-on _ _ _ own ∙ first-on _ _ _ inside
+            ∙ first-on _ _ _ (ap not (eq-eqb (len - p .symbol) (b .w) h)) ∙ first-end)
+
+-- ---- an admitted unit
+
+pub record Inside (b : Block) (x : Placed) : Type 0 where
+  pub position : x .position < checks b .n
+  pub size : length (x .symbol) ≡ b .w
+
+-- what the rows say of a unit that none of them refuses
+pub record Fitting (b : Block) (p : Parts) (len : ℕ) : Type 0 where
+  pub above : 0 < p .lwc
+  pub most : p .lwc ≤ checks b .n
+  pub symbol : len - p .symbol ≡ b .w
+
+pub fitting : (b : Block) (p : Parts) (len : ℕ) → unitRefusal b p len ≡ 0 → Fitting b p len
+unfolding unitRefusal wrongPosition wrongSymbol
+fitting b p len z =
+    let a1 = first-none (wrongParameters b (p .coding)) 6 _ z in
+    let a2 = first-none (foreign b p) 7 _ (a1 .1) in
+    let a3 = first-none (wrongPosition (checks b .n) (p .lwc)) 8 _ (a2 .1) in
+    let a4 = first-none (wrongSymbol (len - p .symbol) (b .w)) 9 _ (a3 .1) in
+    let l = or-false (eqb (p .lwc) 0) (ltb (checks b .n) (p .lwc)) (a3 .0) in
+    let nz : p .lwc ≡ 0 → ⊥ = eqb-false (p .lwc) 0 (l .0) in
+    record { above = omega arith; most = ltb-false (checks b .n) (p .lwc) (l .1); symbol = eqb-true _ _ (not-false _ (a4 .0)) }
+
+unit-right : (b : Block) (p : Parts) (unit : List ℕ) → unitRefusal b p (length unit) ≡ 0
+    → Inside b (record { position = p .lwc - 1; symbol = drop (length unit - b .w) unit })
+unit-right b p unit z =
+    let f : Fitting b p (length unit) = fitting b p (length unit) z in
+    record { position = omega arith; size = length-drop (length unit - b .w) unit ∙ omega arith }
+
+pub admitted-inside : (b : Block) (unit : List ℕ) (x : Placed) → admission b unit ≡ answered x → Inside b x
+unfolding admission
+admitted-inside b unit x = from (readUnit unit)
+  where
+    by : (p : Parts) (n : ℕ) → unitRefusal b p (length unit) ≡ n
+        → outcome n (record { position = p .lwc - 1; symbol = drop (length unit - b .w) unit }) ≡ answered x → Inside b x
+    by p zero e q = subst (Inside b) (cc) (unit-right b p unit e)
+    by p (suc n) e q = let z : _≡_ {A = ℕ} 0 1 = cc in absurd (omega arith)
+
+    from : (r : Outcome Parts) → (r ⟫ λ p. outcome (unitRefusal b p (length unit)) (record { position = p .lwc - 1; symbol = drop (length unit - b .w) unit })) ≡ answered x → Inside b x
+    from (refused n) q = let z : _≡_ {A = ℕ} 0 1 = cc in absurd (omega arith)
+    from (answered p) q = by p (unitRefusal b p (length unit)) refl q
+
+-- admission, by what the reader read and by the refusal of the unit
+module _ (b : Block) (unit : List ℕ) where
+  pub unread : (n : ℕ) → readUnit unit ≡ refused n → refused n ≡ admission b unit
+  unfolding admission
+  unread n e = rw e
+
+  pub turned-down : (p : Parts) (r : ℕ) → readUnit unit ≡ answered p → r ≡ unitRefusal b p (length unit) → (r ≡ 0 → ⊥) → refused r ≡ admission b unit
+  unfolding admission
+  turned-down p r e f h = refused-by r _ f h (record { position = p .lwc - 1; symbol = drop (length unit - b .w) unit }) ∙ sym (rw e)
+
+  pub admitted : (p : Parts) (r : ℕ) → readUnit unit ≡ answered p → r ≡ unitRefusal b p (length unit) → r ≡ 0
+      → answered (record { position = p .lwc - 1; symbol = drop (length unit - b .w) unit }) ≡ admission b unit
+  unfolding admission
+  admitted p r e f h = answered-by r _ f h (record { position = p .lwc - 1; symbol = drop (length unit - b .w) unit }) ∙ sym (rw e)
+
+-- ---- an admitted unit, by the mark at its position
+
+module _ (b : Block) (symbols marks : List ℕ) (x : Placed) where
+  pub at-wrong : 2 < getD marks (x .position) 0 → arrival b symbols marks x ≡ unchanged b symbols marks (refused 11)
+  unfolding arrival wrongMark
+  at-wrong h = rw (lt-ltb 2 (getD marks (x .position) 0) h)
+
+  -- at mark 1
+  pub at-heard : getD marks (x .position) 0 ≡ 1
+      → arrival b symbols marks x ≡ unchanged b symbols marks (cond (sameBytes (symbolAt (b .w) symbols (x .position)) (x .symbol)) (answered repeated) (refused 12))
+  unfolding arrival wrongMark
+  at-heard e = rw e
+
+  -- at mark 0 or 2
+  pub at-new : getD marks (x .position) 0 ≤ 2 → (getD marks (x .position) 0 ≡ 1 → ⊥)
+      → arrival b symbols marks x
+      ≡ record { answer = answered kept; symbols = stored symbols (x .position * b .w) (x .symbol); marks = set marks (x .position) 1 }
+  unfolding arrival wrongMark
+  at-new h n = rw (le-ltb 2 (getD marks (x .position) 0) h, ne-eqb (getD marks (x .position) 0) 1 n)
+
+-- ---- a take, by the refusal of the block and by admission
+
+module _ (b : Block) (symbols marks unit : List ℕ) where
+  pub take-refused : (r : ℕ) → r ≡ blockRefusal b (length symbols) (length marks) → (r ≡ 0 → ⊥) → takeOf b symbols marks unit ≡ unchanged b symbols marks (refused r)
+  unfolding takeOf
+  take-refused r e h = ap (takeBy b symbols marks unit) (sym e) ∙ go r h
+    where
+      go : (n : ℕ) → (n ≡ 0 → ⊥) → takeBy b symbols marks unit n ≡ unchanged b symbols marks (refused n)
+      go zero k = absurd (k refl)
+      go (suc n) k = refl
+
+  pub take-by : (a : Outcome Placed) → blockRefusal b (length symbols) (length marks) ≡ 0 → admission b unit ≡ a → takeOf b symbols marks unit ≡ takeAdmitted b symbols marks a
+  unfolding takeOf
+  take-by a z e = ap (takeBy b symbols marks unit) z ∙ ap (takeAdmitted b symbols marks) e
+
+-- part by part
+pub apart : {o : Take} {a : Outcome Arrival} {s m : List ℕ} → o ≡ record { answer = a; symbols = s; marks = m } → (a ≡ o .answer) × ((s ≡ o .symbols) × (m ≡ o .marks))
+apart e = (sym (ap (λ (o : Take). o .answer) e), (sym (ap (λ (o : Take). o .symbols) e), sym (ap (λ (o : Take). o .marks) e)))

@@ -1,0 +1,78 @@
+-- Document 01, "Open, take, close": close, by the codewords that agree with the heard symbols (`Closing` of algebra).
+-- Assumes nothing.
+use mathlib.Core.Bool.{Bool, false, _||_}
+use mathlib.Core.List.{List, [], _∷_}
+use Prim.Native.Nat.{ℕ, _+_, _*_, _/_}
+use lib.ListN.{length, replicate}
+use Rattle.algebra.specs.Closing.{Verdict, whole, ambiguous, inconsistent, verdict, symbolsAfter, marksAfter, count}
+use Rattle.ccsds.specs.Refusals.{firstOf, wrongCode, wrongWidth, wrongLabel, wrongLength, Outcome, refused, answered, outcome, afterwards}
+use Rattle.block.specs.Block.{checks, wrongBuffers, wrongMark}
+use Rattle.block.specs.declared.Block.{Block}
+use Rattle.block.specs.declared.close.Verdict as coded-verdict
+use Rattle.block.specs.declared.close.Verdict.the-variants.{Whole, Ambiguous, Inconsistent}
+use Rattle.block.specs.declared.close.Report as coded-report
+use Rattle.block.specs.declared.close.Closed.{Closed}
+use Rattle.block.specs.declared.close.Closed.the-variants.{Told, Refused}
+
+-- 4, length, of the work buffers: m × (n / 64 + 1) words and m × W bytes
+unfoldable pub wrongWork : Block → ℕ → ℕ → Bool
+wrongWork b words bytes = wrongLength words (checks b .m * (checks b .n / 64 + 1)) || wrongLength bytes (checks b .m * b .w)
+
+-- 11, mark: one above 2 anywhere
+unfoldable pub wrongMarks : List ℕ → Bool
+wrongMarks [] = false
+wrongMarks (mark ∷ marks) = wrongMark mark || wrongMarks marks
+
+-- a verdict with the counts of marks 1, 2 and 0
+pub record Report : Type 0 where
+  pub verdict : Verdict
+  pub heard : ℕ
+  pub filled : ℕ
+  pub left : ℕ
+
+abbrev pub reportOf : Verdict → List ℕ → Report
+reportOf v marks = record { verdict = v; heard = count 1 marks; filled = count 2 marks; left = count 0 marks }
+
+-- what close answers, and what its four lent buffers hold after it
+pub record Close : Type 0 where
+  pub answer : Outcome Report
+  pub symbols : List ℕ
+  pub marks : List ℕ
+  pub words : List ℕ
+  pub bytes : List ℕ
+
+module _ (b : Block) (symbols marks words bytes : List ℕ) where
+  -- the number of the refusal, or 0
+  unfoldable pub closeRefusal : ℕ
+  closeRefusal =
+      firstOf (
+      (wrongCode (b .code), 1)
+      ∷ (wrongWidth (b .w), 2)
+      ∷ (wrongLabel (b .lsc) (b .protocol), 3)
+      ∷ (wrongBuffers b (length symbols) (length marks) || wrongWork b (length words) (length bytes), 4)
+      ∷ (wrongMarks marks, 11)
+      ∷ []
+      )
+
+  -- the work buffers are all zero after a verdict
+  unfoldable pub closeOf : Close
+  closeOf = record {
+    answer = outcome closeRefusal (reportOf (verdict (checks b) (b .w) symbols marks) (marksAfter (checks b) (b .w) symbols marks));
+    symbols = afterwards closeRefusal (symbolsAfter (checks b) (b .w) symbols marks) symbols;
+    marks = afterwards closeRefusal (marksAfter (checks b) (b .w) symbols marks) marks;
+    words = afterwards closeRefusal (replicate (length words) 0) words;
+    bytes = afterwards closeRefusal (replicate (length bytes) 0) bytes;
+  }
+
+-- the cases of close's answer in the paper's words
+abbrev pub verdictAs : coded-verdict.Verdict → Verdict
+verdictAs Whole = whole
+verdictAs Ambiguous = ambiguous
+verdictAs Inconsistent = inconsistent
+
+abbrev pub reportAs : coded-report.Report → Report
+reportAs r = record { verdict = verdictAs (r .verdict); heard = r .heard; filled = r .filled; left = r .left }
+
+abbrev pub closedAs : Closed → Outcome Report
+closedAs (Told r) = answered (reportAs r)
+closedAs (Refused number) = refused number

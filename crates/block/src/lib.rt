@@ -1,0 +1,14 @@
+// Blocks: open, take, close. Built on the contracts of the codes and units alone.
+mod checks;
+pub mod close;
+pub mod open;
+mod system;
+pub mod take;
+
+// A block's record: its code's number, the bytes of a symbol, its protocol ID and its block number.
+pub struct Block {
+    pub code: usize,
+    pub w: usize,
+    pub protocol: usize,
+    pub lsc: usize,
+}

@@ -1,0 +1,136 @@
+// Take.
+use crate::Block;
+use crate::checks;
+use ccsds::code::Code;
+use ccsds::reader::Extension;
+use ccsds::reader::UnitParts;
+use ccsds::reader::UnitRead;
+ghost use mathlib.Core.Path.{_≡_};
+ghost use Prim.Native.Nat.{_<_, _≤_, _+_, _*_};
+ghost use lib.ListN.{length};
+ghost use Rattle.ccsds.specs.Reader.{extensionAs};
+ghost use Rattle.block.specs.Take.{wrongParameters, foreign, unitRefusal, admission, arrival, takeOf, takenAs};
+ghost use Rattle.block.specs.Steps.{partsAs, admittedAs};
+
+// What take answers: that the symbol is kept, that it was heard before, or the number of the refusal.
+pub enum Taken {
+    Kept,
+    Repeated,
+    Refused(u8),
+}
+
+// 7, parameters.
+fn wrong_parameters(b: Block, x: Extension) -> bool
+    ensures { λ r. ⌜ r ≡ wrongParameters b (extensionAs x) ⌝ }
+{
+    let Extension::Coding(p) = x else {
+        return true;
+    };
+    let code = Code { number: b.code };
+    if p.w != b.w {
+        return true;
+    }
+    if p.k != code.k() {
+        return true;
+    }
+    if p.n != code.n() {
+        return true;
+    }
+    p.seed != 0
+}
+
+// 8, foreign.
+fn wrong_label(b: Block, p: UnitParts) -> bool
+    ensures { λ r. ⌜ r ≡ foreign b (partsAs p) ⌝ }
+{
+    if p.lsc != b.lsc {
+        return true;
+    }
+    p.protocol != b.protocol
+}
+
+// 7 to 10, or 0: of a unit of `len` bytes.
+fn check_unit(b: Block, p: UnitParts, len: usize) -> u8
+    requires { ⌜ p .symbol ≤ len ⌝ }
+    ensures { λ r. ⌜ r ≡ unitRefusal b (partsAs p) len ⌝ }
+{
+    let x = p.coding;
+    let code = Code { number: b.code };
+    if wrong_parameters(b, x) {
+        return 7;
+    }
+    if wrong_label(b, p) {
+        return 8;
+    }
+    if ccsds::checks::wrong_position(code.n(), p.lwc) {
+        return 9;
+    }
+    if len - p.symbol != b.w {
+        return 10;
+    }
+    0
+}
+
+// An admitted unit's position, and where its symbol starts.
+enum Admitted {
+    At(usize, usize),
+    Refused(u8),
+}
+
+// Whether the block admits a unit.
+fn admit(b: Block, unit: &[u8]) -> Admitted
+    ensures { λ r. ⌜ admittedAs (now (unit .entry)) r ≡ admission b (now (unit .entry)) ⌝ }
+{
+    match ccsds::reader::read_unit(unit) {
+        UnitRead::Refused(number) => Admitted::Refused(number),
+        UnitRead::Read(p) => {
+            let refusal = check_unit(b, p, unit.len());
+            if refusal != 0 {
+                return Admitted::Refused(refusal);
+            }
+            Admitted::At(p.lwc - 1, unit.len() - b.w)
+        }
+    }
+}
+
+// Takes an admitted unit's symbol, by the mark at its position.
+fn arrive(b: Block, symbols: &mut [u8], marks: &mut [u8], position: usize, symbol: &[u8]) -> Taken
+    requires { ⌜ position < length (now marks) ⌝ }
+    requires { ⌜ position * b .w + b .w ≤ length (now symbols) ⌝ }
+    requires { ⌜ length (now symbol) ≡ b .w ⌝ }
+    ensures answer { λ r. ⌜ takenAs r ≡ arrival b (now (symbols .entry)) (now (marks .entry)) (record { position = position; symbol = now (symbol .entry) }) .answer ⌝ }
+    ensures symbols { λ _. ⌜ now (symbols .exit) ≡ arrival b (now (symbols .entry)) (now (marks .entry)) (record { position = position; symbol = now (symbol .entry) }) .symbols ⌝ }
+    ensures marks { λ _. ⌜ now (marks .exit) ≡ arrival b (now (symbols .entry)) (now (marks .entry)) (record { position = position; symbol = now (symbol .entry) }) .marks ⌝ }
+{
+    let w = b.w;
+    let mark = marks[position];
+    if mark > 2 {
+        return Taken::Refused(11);
+    }
+    let at = position * w;
+    if mark == 1 {
+        if check::same(&symbols[at..at + w], symbol) {
+            return Taken::Repeated;
+        }
+        return Taken::Refused(12);
+    }
+    marks[position] = 1;
+    bytes::copy(symbol, &mut symbols[at..at + w]);
+    Taken::Kept
+}
+
+// Takes one unit: kept, repeated, or a refusal. Only a kept one changes the block.
+pub fn take(b: Block, symbols: &mut [u8], marks: &mut [u8], unit: &[u8]) -> Taken
+    ensures answer { λ r. ⌜ takenAs r ≡ takeOf b (now (symbols .entry)) (now (marks .entry)) (now (unit .entry)) .answer ⌝ }
+    ensures symbols { λ _. ⌜ now (symbols .exit) ≡ takeOf b (now (symbols .entry)) (now (marks .entry)) (now (unit .entry)) .symbols ⌝ }
+    ensures marks { λ _. ⌜ now (marks .exit) ≡ takeOf b (now (symbols .entry)) (now (marks .entry)) (now (unit .entry)) .marks ⌝ }
+{
+    let refusal = checks::check_block(b, symbols.len(), marks.len());
+    if refusal != 0 {
+        return Taken::Refused(refusal);
+    }
+    match admit(b, unit) {
+        Admitted::Refused(number) => Taken::Refused(number),
+        Admitted::At(position, start) => arrive(b, symbols, marks, position, &unit[start..]),
+    }
+}
