@@ -2,11 +2,12 @@
 use ccsds::tables;
 use ccsds::tables::Layout;
 ghost use mathlib.Core.Path.{_≡_};
+ghost use mathlib.Core.List.{[]};
 ghost use Prim.Native.Nat.{_<_, _+_, _*_, _/_};
-ghost use lib.ListN.{length};
+ghost use lib.ListN.{length, getD};
 ghost use Rattle.ccsds.specs.Codes.{nOf, checksOf};
 ghost use Rattle.ccsds.specs.Tables.{codeOf, Known};
-ghost use Rattle.ccsds.specs.Layout.{Given};
+ghost use Rattle.ccsds.specs.Layout.{Given, Front};
 ghost use Rattle.block.specs.System.{Built, Partly, nowhere};
 
 // Brings information symbol row * q + step into each check row that it touches.
@@ -16,6 +17,7 @@ fn add_symbol(
     w: usize,
     words: usize,
     row: usize,
+    ys: &[usize; 8],
     step: usize,
     symbols: &[u8],
     marks: &[u8],
@@ -24,6 +26,7 @@ fn add_symbol(
 )
     requires { ⌜ Known number × Given (codeOf number) l ⌝ }
     requires { ⌜ (row < length (codeOf number .rows)) × (step < codeOf number .q) ⌝ }
+    requires { ⌜ Front (getD (codeOf number .rows) row []) (now ys) ⌝ }
     requires { ⌜ Partly (codeOf number) w words (now symbols) (now marks) (row * codeOf number .q + step) nowhere (now rows) (now rhs) ⌝ }
     ensures { λ _. ⌜ Partly (codeOf number) w words (now (symbols .entry)) (now (marks .entry)) (row * codeOf number .q + step + 1) nowhere (now (rows .exit)) (now (rhs .exit)) ⌝ }
 {
@@ -31,7 +34,7 @@ fn add_symbol(
     let mut i = tables::row_degree(number, l, row);
     while i > 0 {
         i -= 1;
-        let j = tables::check_row(number, l, row, step, i);
+        let j = tables::check_row(number, l, row, step, ys, i);
         rows::build::touch(rows, rhs, symbols, marks, words, w, j, x);
     }
 }
@@ -53,10 +56,23 @@ fn add_row(
     requires { ⌜ Partly (codeOf number) w words (now symbols) (now marks) (row * codeOf number .q) nowhere (now rows) (now rhs) ⌝ }
     ensures { λ _. ⌜ Partly (codeOf number) w words (now (symbols .entry)) (now (marks .entry)) ((row + 1) * codeOf number .q) nowhere (now (rows .exit)) (now (rhs .exit)) ⌝ }
 {
+    let ys = tables::addresses(number, l, row);
     let q = l.q;
     let mut step = 0;
     while step < q {
-        add_symbol(number, l, w, words, row, step, symbols, marks, rows, rhs);
+        add_symbol(
+            number,
+            l,
+            w,
+            words,
+            row,
+            &ys,
+            step,
+            symbols,
+            marks,
+            rows,
+            rhs,
+        );
         step += 1;
     }
 }

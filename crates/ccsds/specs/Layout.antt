@@ -45,3 +45,9 @@ pub record Given (c : Params) (r : Layout) : Type 0 where
   pub laid : (row : ℕ) → row < length (c .rows) → (i : ℕ) → i < length (getD (c .rows) row [])
       → (startOf r row + i < length (joined (c .rows))) × (getD (joined (c .rows)) (startOf r row + i) 0 ≡ getD (getD (c .rows) row []) i 0)
   pub degree : (row : ℕ) → row < length (c .rows) → length (getD (c .rows) row []) ≡ degreeOf r row
+
+-- ys has 8 elements and begins with those of l
+pub record Front (l ys : List ℕ) : Type 0 where
+  pub size : length ys ≡ 8
+  pub few : length l ≤ 8
+  pub each : (i : ℕ) → i < length l → getD ys i 0 ≡ getD l i 0

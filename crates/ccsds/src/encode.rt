@@ -3,11 +3,12 @@ use crate::code::Code;
 use crate::tables;
 use crate::tables::Layout;
 ghost use mathlib.Core.Path.{_≡_};
+ghost use mathlib.Core.List.{[]};
 ghost use Prim.Native.Nat.{_<_, _≤_, _+_, _*_, _-_};
-ghost use lib.ListN.{length};
+ghost use lib.ListN.{length, getD};
 ghost use Rattle.ccsds.specs.Codes.{rowOf, encodeOf};
 ghost use Rattle.ccsds.specs.Tables.{codeOf, Known};
-ghost use Rattle.ccsds.specs.Layout.{Given};
+ghost use Rattle.ccsds.specs.Layout.{Given, Front};
 ghost use Rattle.ccsds.specs.Refusals.{outcome, afterwards};
 ghost use Rattle.ccsds.specs.Encode.{encodeRefusal, encodedAs};
 ghost use Rattle.ccsds.specs.Steps.{addedAt, accumulated, carried, Sized};
@@ -24,12 +25,14 @@ fn add_symbol(
     l: Layout,
     w: usize,
     row: usize,
+    ys: &[usize; 8],
     step: usize,
     info: &[u8],
     parity: &mut [u8],
 )
     requires { ⌜ Known number × Given (codeOf number) l ⌝ }
     requires { ⌜ (row < length (codeOf number .rows)) × (step < codeOf number .q) ⌝ }
+    requires { ⌜ Front (getD (codeOf number .rows) row []) (now ys) ⌝ }
     requires { ⌜ Sized (codeOf number) w (length (now info)) (length (now parity)) ⌝ }
     ensures { λ _. ⌜ now (parity .exit) ≡ addedAt (codeOf number) w (now (info .entry)) (row * codeOf number .q + step) (rowOf (codeOf number) (row * codeOf number .q + step)) (now (parity .entry)) ⌝ }
 {
@@ -37,7 +40,7 @@ fn add_symbol(
     let n = tables::row_degree(number, l, row);
     let mut i = 0;
     while i < n {
-        let j = tables::check_row(number, l, row, step, i);
+        let j = tables::check_row(number, l, row, step, ys, i);
         buffers::add_from(parity, j * w, info, from, w);
         i += 1;
     }
@@ -50,10 +53,11 @@ fn add_row(number: usize, l: Layout, w: usize, row: usize, info: &[u8], parity: 
     requires { ⌜ Sized (codeOf number) w (length (now info)) (length (now parity)) ⌝ }
     ensures { λ _. ⌜ now (parity .exit) ≡ accumulated (codeOf number) w (now (info .entry)) (row * codeOf number .q) (codeOf number .q) (now (parity .entry)) ⌝ }
 {
+    let ys = tables::addresses(number, l, row);
     let q = l.q;
     let mut step = 0;
     while step < q {
-        add_symbol(number, l, w, row, step, info, parity);
+        add_symbol(number, l, w, row, &ys, step, info, parity);
         step += 1;
     }
 }

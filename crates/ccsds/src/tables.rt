@@ -6,7 +6,7 @@ ghost use Prim.Native.Nat.{_<_, _≤_, _+_, _*_};
 ghost use lib.ListN.{length, getD};
 ghost use Rattle.ccsds.specs.Codes.{place};
 ghost use Rattle.ccsds.specs.Tables.{codeOf, Known};
-ghost use Rattle.ccsds.specs.Layout.{Given, startIn};
+ghost use Rattle.ccsds.specs.Layout.{Given, Front, startIn};
 
 // Table 4-2, row by row.
 const C1: [u16; 80] = [
@@ -114,17 +114,42 @@ fn address(number: usize, l: Layout, row: usize, i: usize) -> usize
     }
 }
 
-// The check row that information symbol row * q + step touches by address i of its table row. Address and step are below m, so one
-// subtraction does for the remainder.
-pub fn check_row(number: usize, l: Layout, row: usize, step: usize, i: usize) -> usize
+// The addresses of a table row, at the front of an array. A read of a constant array copies all of it first, so that a loop over symbols
+// reads its row once, by this.
+pub fn addresses(number: usize, l: Layout, row: usize) -> [usize; 8]
+    requires { ⌜ Given (codeOf number) l ⌝ }
+    requires { ⌜ row < length (codeOf number .rows) ⌝ }
+    ensures { λ r. ⌜ Front (getD (codeOf number .rows) row []) r ⌝ }
+{
+    let mut ys = [0usize; 8];
+    let n = row_degree(number, l, row);
+    let mut i = 0;
+    while i < n {
+        ys[i] = address(number, l, row, i);
+        i += 1;
+    }
+    ys
+}
+
+// The check row that information symbol row * q + step touches by address i of its table row, whose addresses are ys. Address and step are
+// below m, so one subtraction does for the remainder.
+pub fn check_row(
+    number: usize,
+    l: Layout,
+    row: usize,
+    step: usize,
+    ys: &[usize; 8],
+    i: usize,
+) -> usize
     requires { ⌜ Known number ⌝ }
     requires { ⌜ Given (codeOf number) l ⌝ }
     requires { ⌜ row < length (codeOf number .rows) ⌝ }
     requires { ⌜ step < codeOf number .q ⌝ }
+    requires { ⌜ Front (getD (codeOf number .rows) row []) (now ys) ⌝ }
     requires { ⌜ i < length (getD (codeOf number .rows) row []) ⌝ }
     ensures { λ r. ⌜ r ≡ place (codeOf number) (row * codeOf number .q + step) (getD (getD (codeOf number .rows) row []) i 0) ⌝ }
 {
     let m = l.m;
-    let j = address(number, l, row, i) + step * l.a;
+    let j = ys[i] + step * l.a;
     if j < m { j } else { j - m }
 }

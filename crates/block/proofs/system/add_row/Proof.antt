@@ -12,21 +12,26 @@ use Rattle.block.proofs.system.add_row.Statement.{statement}
 use Rattle.block.proofs.system.add_row.Tie as tie
 
 abbrev Inv-loop : tie.InvT-loop
-Inv-loop number l w words row symbols marks rows₀ rhs₀ q step₀ rows rhs step =
+Inv-loop number l w words row symbols marks rows₀ rhs₀ ys q step₀ rows rhs step =
     (step ≤ q) × Partly (codeOf number) w words symbols marks (row * codeOf number .q + step) nowhere rows rhs
 
 abbrev μ-loop : tie.MeasureT-loop
-μ-loop number l w words row symbols marks rows₀ rhs₀ q step₀ rows rhs step = q - step
+μ-loop number l w words row symbols marks rows₀ rhs₀ ys q step₀ rows rhs step = q - step
+
+addresses-requires : tie.Need-addresses-requires Inv-loop μ-loop
+addresses-requires c κs = (c .before .before .before .before .pre .0 .1, c .before .before .before .before .pre .1 .0)
 
 loop-holds : tie.Need-loop-holds Inv-loop μ-loop
 loop-holds c =
-    let s = c .before .before .before .before in
+    let s = c .before .before .before .before .before in
     (omega arith, at-same _ (s .pre .1 .1) (omega arith))
 
 add-symbol-requires : tie.Need-add-symbol-requires Inv-loop μ-loop
 add-symbol-requires c κs =
-    let s = c .before .before .before .before .before .before .before .before in
-    (s .pre .0, ((s .pre .1 .0, omega (arith, s .pre .0 .1 .q)), c .before .before .before .loop .inv .1))
+    let s = c .before .before .before .before .before .before .before .before .before .before in (
+      s .pre .0,
+      ((s .pre .1 .0, omega (arith, s .pre .0 .1 .q)), (c .before .before .before .before .before .addresses .ensures, c .before .before .before .before .loop .inv .1)),
+    )
 
 add-step : tie.Need-add-step Inv-loop μ-loop
 add-step c = omega arith
@@ -38,14 +43,14 @@ loop-again : tie.Need-loop-again Inv-loop μ-loop
 loop-again c = (omega arith, at-same _ (c .before .before .before .before .add-symbol .ensures) (omega arith))
 
 same-length : tie.Need-same-length Inv-loop μ-loop
-same-length c = c .before .loop .inv .1 .row-words ∙ sym (c .before .before .before .before .before .before .pre .1 .1 .row-words)
+same-length c = c .before .loop .inv .1 .row-words ∙ sym (c .before .before .before .before .before .before .before .pre .1 .1 .row-words)
 
 same-length-2 : tie.Need-same-length-2 Inv-loop μ-loop
-same-length-2 c = c .before .loop .inv .1 .rhs-bytes ∙ sym (c .before .before .before .before .before .before .pre .1 .1 .rhs-bytes)
+same-length-2 c = c .before .loop .inv .1 .rhs-bytes ∙ sym (c .before .before .before .before .before .before .before .pre .1 .1 .rhs-bytes)
 
 returns : tie.Need-returns Inv-loop μ-loop
 returns c =
-    let s = c .before .before .before .before .before .before in
+    let s = c .before .before .before .before .before .before .before in
     let q = codeOf (s .args .number) .q in
     let e : s .args .row * q + c .before .loop .step ≡ (s .args .row + 1) * q =
     omega (arith, s .pre .0 .1 .q, ap (λ (n : ℕ). n * q) (add-one (s .args .row)), suc-mul (s .args .row) q) in
@@ -57,6 +62,7 @@ add-row-spec =
     (tie.spec
     Inv-loop
     μ-loop
+    addresses-requires
     loop-holds
     add-symbol-requires
     add-step

@@ -19,12 +19,12 @@ abbrev symbol : ℕ → ℕ → ℕ → ℕ
 symbol number row step = row * codeOf number .q + step
 
 abbrev Inv-loop : tie.InvT-loop
-Inv-loop number l w words row step symbols marks rows₀ rhs₀ x i₀ rows rhs i =
+Inv-loop number l w words row ys step symbols marks rows₀ rhs₀ x i₀ rows rhs i =
     (i ≤ length (rowOf (codeOf number) (symbol number row step)))
     × Partly (codeOf number) w words symbols marks (symbol number row step) (rowsFrom (codeOf number) (symbol number row step) i) rows rhs
 
 abbrev μ-loop : tie.MeasureT-loop
-μ-loop number l w words row step symbols marks rows₀ rhs₀ x i₀ rows rhs i = i
+μ-loop number l w words row ys step symbols marks rows₀ rhs₀ x i₀ rows rhs i = i
 
 -- its number in the code's own words, and its table row
 module _ (s : tie.Start Inv-loop μ-loop) where
@@ -56,7 +56,7 @@ loop-holds : tie.Need-loop-holds Inv-loop μ-loop
 loop-holds c =
     let s = c .before .before .before .before .before .before in
     let h : c .row-degree .result ≡ length (rowOf (codeOf (s .args .number)) (x s)) = c .row-degree .ensures ∙ ap length (sym (table-row s)) in
-    (omega arith, addresses-none _ (valid s) _ _ _ _ _ (below s) _ _ _ h (s .pre .1 .1))
+    (omega arith, addresses-none _ (valid s) _ _ _ _ _ (below s) _ _ _ h (s .pre .1 .1 .1))
 
 sub-i : tie.Need-sub-i Inv-loop μ-loop
 sub-i c = omega arith
@@ -65,7 +65,7 @@ check-row-requires : tie.Need-check-row-requires Inv-loop μ-loop
 check-row-requires c κs =
     let s = c .before .before .before .before .before .before .before .before in
     let h : c .before .loop .i - 1 < length (rowOf (codeOf (s .args .number)) (x s)) = omega arith in
-    (s .pre .0 .0, (s .pre .0 .1, (s .pre .1 .0 .0, (s .pre .1 .0 .1, subst⁻¹ (λ (l : List ℕ). c .before .loop .i - 1 < length l) (sym (table-row s)) h))))
+    (s .pre .0 .0, (s .pre .0 .1, (s .pre .1 .0 .0, (s .pre .1 .0 .1, (s .pre .1 .1 .0, subst⁻¹ (λ (l : List ℕ). c .before .loop .i - 1 < length l) (sym (table-row s)) h)))))
 
 touch-requires : tie.Need-touch-requires Inv-loop μ-loop
 touch-requires c κs =
@@ -88,10 +88,10 @@ loop-again c =
     (omega arith, addresses-more _ (valid s) _ _ _ _ _ (below s) _ _ _ _ _ _ _ (omega arith) (l .inv .0) (l .inv .1) e (same s) (t .ensures .0) (t .ensures .1) (t .kept .0) (t .kept .1 .0))
 
 same-length : tie.Need-same-length Inv-loop μ-loop
-same-length c = c .before .loop .inv .1 .row-words ∙ sym (c .before .before .before .before .before .before .before .before .pre .1 .1 .row-words)
+same-length c = c .before .loop .inv .1 .row-words ∙ sym (c .before .before .before .before .before .before .before .before .pre .1 .1 .1 .row-words)
 
 same-length-2 : tie.Need-same-length-2 Inv-loop μ-loop
-same-length-2 c = c .before .loop .inv .1 .rhs-bytes ∙ sym (c .before .before .before .before .before .before .before .before .pre .1 .1 .rhs-bytes)
+same-length-2 c = c .before .loop .inv .1 .rhs-bytes ∙ sym (c .before .before .before .before .before .before .before .before .pre .1 .1 .1 .rhs-bytes)
 
 returns : tie.Need-returns Inv-loop μ-loop
 returns c =

@@ -20,13 +20,13 @@ abbrev symbol : ℕ → ℕ → ℕ → ℕ
 symbol number row step = row * codeOf number .q + step
 
 abbrev Inv-loop : tie.InvT-loop
-Inv-loop number l w row step info parity₀ from n i₀ parity i =
+Inv-loop number l w row ys step info parity₀ from n i₀ parity i =
     (i ≤ n) × (length parity ≡ length parity₀) × (n ≡ length (rowOf (codeOf number) (symbol number row step))) × (from ≡ symbol number row step * w)
     × (addedAt (codeOf number) w info (symbol number row step) (drop i (rowOf (codeOf number) (symbol number row step))) parity
     ≡ addedAt (codeOf number) w info (symbol number row step) (rowOf (codeOf number) (symbol number row step)) parity₀)
 
 abbrev μ-loop : tie.MeasureT-loop
-μ-loop number l w row step info parity₀ from n i₀ parity i = n - i
+μ-loop number l w row ys step info parity₀ from n i₀ parity i = n - i
 
 -- its number in the code's own words, and where it lies
 module _ (s : tie.Start Inv-loop μ-loop) where
@@ -40,7 +40,7 @@ module _ (s : tie.Start Inv-loop μ-loop) where
   below = symbol-lt _ valid _ _ (s .pre .1 .0 .0) (s .pre .1 .0 .1)
 
   inside : symbol (s .args .number) (s .args .row) (s .args .step) * s .args .w + s .args .w ≤ length (s .args .info .now)
-  inside = here _ (s .args .w) _ _ below (s .pre .1 .1 .info)
+  inside = here _ (s .args .w) _ _ below (s .pre .1 .1 .1 .info)
 
   table-row : rowOf (codeOf (s .args .number)) (symbol (s .args .number) (s .args .row) (s .args .step)) ≡ getD (codeOf (s .args .number) .rows) (s .args .row) []
   table-row = row-is _ valid _ _ (s .pre .1 .0 .0) (s .pre .1 .0 .1)
@@ -68,7 +68,7 @@ check-row-requires : tie.Need-check-row-requires Inv-loop μ-loop
 check-row-requires c κs =
     let s = c .before .before .before .before .before .before in
     let h : c .before .loop .i < length (rowOf (codeOf (s .args .number)) (symbol (s .args .number) (s .args .row) (s .args .step))) = omega arith in
-    (s .pre .0 .0, (s .pre .0 .1, (s .pre .1 .0 .0, (s .pre .1 .0 .1, subst⁻¹ (λ (l : List ℕ). c .before .loop .i < length l) (sym (table-row s)) h))))
+    (s .pre .0 .0, (s .pre .0 .1, (s .pre .1 .0 .0, (s .pre .1 .0 .1, (s .pre .1 .1 .0, subst⁻¹ (λ (l : List ℕ). c .before .loop .i < length l) (sym (table-row s)) h)))))
 
 -- the check row is one of the code's, so its symbol lies in the parity buffer
 there : (d : Params) (v : Valid d) (x y j w n : ℕ) → j ≡ place d x y → n ≡ d .m * w → j * w + w ≤ n
@@ -77,13 +77,13 @@ there d v x y j w n hj hn = here (d .m) w j n (subst⁻¹ (λ (i : ℕ). i < d .
 mul-add-from : tie.Need-mul-add-from Inv-loop μ-loop
 mul-add-from c =
     let s = c .before .before .before .before .before .before .before .before in
-    omega (arith, there _ (valid s) _ _ _ (s .args .w) _ (c .before .check-row .ensures) (s .pre .1 .1 .parity))
+    omega (arith, there _ (valid s) _ _ _ (s .args .w) _ (c .before .check-row .ensures) (s .pre .1 .1 .1 .parity))
 
 add-from-requires : tie.Need-add-from-requires Inv-loop μ-loop
 add-from-requires c κs =
     let s = c .before .before .before .before .before .before .before .before in
     let l = c .before .before .before .loop in (
-      there _ (valid s) _ _ _ (s .args .w) _ (c .before .check-row .ensures) (l .inv .1 ∙ s .pre .1 .1 .parity),
+      there _ (valid s) _ _ _ (s .args .w) _ (c .before .check-row .ensures) (l .inv .1 ∙ s .pre .1 .1 .1 .parity),
       omega (arith, inside s, l .inv .3),
     )
 
