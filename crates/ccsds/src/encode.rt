@@ -1,49 +1,22 @@
 // The encoder: parity bytes from information bytes.
+use crate::accumulate;
 use crate::code::Code;
 use crate::tables;
 use crate::tables::Layout;
 ghost use mathlib.Core.Path.{_≡_};
-ghost use mathlib.Core.List.{[]};
 ghost use Prim.Native.Nat.{_<_, _≤_, _+_, _*_, _-_};
-ghost use lib.ListN.{length, getD};
-ghost use Rattle.ccsds.specs.Codes.{rowOf, encodeOf};
+ghost use lib.ListN.{length};
+ghost use Rattle.ccsds.specs.Codes.{encodeOf};
 ghost use Rattle.ccsds.specs.Tables.{codeOf, Known};
-ghost use Rattle.ccsds.specs.Layout.{Given, Front};
+ghost use Rattle.ccsds.specs.Layout.{Given};
 ghost use Rattle.ccsds.specs.Refusals.{outcome, afterwards};
 ghost use Rattle.ccsds.specs.Encode.{encodeRefusal, encodedAs};
-ghost use Rattle.ccsds.specs.Steps.{addedAt, accumulated, carried, Sized};
+ghost use Rattle.ccsds.specs.Steps.{accumulated, carried, Sized};
 
 // What encode answers: that it is done, or the number of the refusal.
 pub enum Encoded {
     Done,
     Refused(u8),
-}
-
-// Adds information symbol row * q + step at each check row that it touches.
-fn add_symbol(
-    number: usize,
-    l: Layout,
-    w: usize,
-    row: usize,
-    ys: &[usize; 8],
-    step: usize,
-    info: &[u8],
-    parity: &mut [u8],
-)
-    requires { ⌜ Known number × Given (codeOf number) l ⌝ }
-    requires { ⌜ (row < length (codeOf number .rows)) × (step < codeOf number .q) ⌝ }
-    requires { ⌜ Front (getD (codeOf number .rows) row []) (now ys) ⌝ }
-    requires { ⌜ Sized (codeOf number) w (length (now info)) (length (now parity)) ⌝ }
-    ensures { λ _. ⌜ now (parity .exit) ≡ addedAt (codeOf number) w (now (info .entry)) (row * codeOf number .q + step) (rowOf (codeOf number) (row * codeOf number .q + step)) (now (parity .entry)) ⌝ }
-{
-    let from = (row * l.q + step) * w;
-    let n = tables::row_degree(number, l, row);
-    let mut i = 0;
-    while i < n {
-        let j = tables::check_row(number, l, row, step, ys, i);
-        buffers::add_from(parity, j * w, info, from, w);
-        i += 1;
-    }
 }
 
 // Adds the q information symbols of a table row.
@@ -57,13 +30,13 @@ fn add_row(number: usize, l: Layout, w: usize, row: usize, info: &[u8], parity: 
     let q = l.q;
     let mut step = 0;
     while step < q {
-        add_symbol(number, l, w, row, &ys, step, info, parity);
+        accumulate::add_symbol(number, l, w, row, &ys, step, info, parity);
         step += 1;
     }
 }
 
 // Adds every information symbol.
-fn accumulate(number: usize, l: Layout, w: usize, info: &[u8], parity: &mut [u8])
+fn add_information(number: usize, l: Layout, w: usize, info: &[u8], parity: &mut [u8])
     requires { ⌜ Known number × Given (codeOf number) l ⌝ }
     requires { ⌜ Sized (codeOf number) w (length (now info)) (length (now parity)) ⌝ }
     ensures { λ _. ⌜ now (parity .exit) ≡ accumulated (codeOf number) w (now (info .entry)) 0 (codeOf number .k) (now (parity .entry)) ⌝ }
@@ -97,7 +70,7 @@ fn encode_sized(number: usize, w: usize, info: &[u8], parity: &mut [u8])
     let l = tables::layout_of(number);
     let m = l.m;
     buffers::clear(parity);
-    accumulate(number, l, w, info, parity);
+    add_information(number, l, w, info, parity);
     carry(m, w, parity);
 }
 

@@ -1,4 +1,5 @@
 // The standard's side: codes, encoder and units of CCSDS 131.5-O-1. It knows nothing of blocks.
+pub mod accumulate;
 pub mod big_endian;
 pub mod checks;
 pub mod code;

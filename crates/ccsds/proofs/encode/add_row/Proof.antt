@@ -6,7 +6,9 @@ use native.Mathlib.Omega.{arith}
 use lib.ListN.{length}
 use Rattle.ccsds.specs.Tables.{codeOf}
 use Rattle.ccsds.specs.Steps.{accumulated}
-use Rattle.ccsds.proofs.Turns.{symbol-more}
+use Rattle.ccsds.proofs.Valid.{valid-of}
+use Rattle.ccsds.proofs.Address.{symbol-lt}
+use Rattle.ccsds.proofs.Turns.{here, symbol-more}
 use Rattle.ccsds.proofs.encode.add_row.Statement.{statement}
 use Rattle.ccsds.proofs.encode.add_row.Tie as tie
 
@@ -29,7 +31,7 @@ add-symbol-requires c κs =
     let s = c .before .before .before .before .before .before .before in
     let l = c .before .before .before .loop in (
       s .pre .0,
-      ((s .pre .1 .0, omega arith), (c .before .before .before .before .addresses .ensures, record { info = s .pre .1 .1 .info; parity = l .inv .2 ∙ s .pre .1 .1 .parity })),
+      ((s .pre .1 .0, omega arith), (c .before .before .before .before .addresses .ensures, (here _ (s .args .w) _ _ (symbol-lt _ (valid-of _ (s .pre .0 .0)) _ _ (s .pre .1 .0) (omega arith)) (s .pre .1 .1 .info), l .inv .2 ∙ s .pre .1 .1 .parity))),
     )
 
 add-step : tie.Need-add-step Inv-loop μ-loop

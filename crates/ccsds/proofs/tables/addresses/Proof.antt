@@ -1,16 +1,15 @@
 -- `ccsds::tables::addresses` meets its contract: after i turns, the first i addresses stand in the array.
 -- Assumes nothing.
-use mathlib.Core.Path.{_≡_, refl, sym, ap, _∙_, subst⁻¹}
+use mathlib.Core.Path.{_≡_, refl, _∙_, subst⁻¹}
 use mathlib.Core.Bool.{Bool, true, false, cond}
-use mathlib.Core.List.{List, []}
-use Prim.Native.Nat.{ℕ, _+_, _<_, _≤_, _-_}
+use mathlib.Core.List.{[]}
+use Prim.Native.Nat.{ℕ, _<_, _≤_, _-_}
 use native.Mathlib.Nat.{not-suc-le-zero}
-use native.Mathlib.Decide.{decLt}
 use native.Mathlib.Omega.{arith}
 use lib.Dec.{ltb}
-use lib.ListN.{length, getD, set, length-set}
-use lib.Seq.{getD-set-same, getD-set-other}
+use lib.ListN.{length, getD, length-set}
 use Rattle.ccsds.specs.Tables.{codeOf}
+use Rattle.ccsds.proofs.Fronts.{front-more}
 use Rattle.ccsds.proofs.tables.addresses.Statement.{statement}
 use Rattle.ccsds.proofs.tables.addresses.Tie as tie
 
@@ -29,17 +28,6 @@ few s = subst⁻¹ (λ (n : ℕ). n ≤ 8) (s .pre .0 .degree _ (s .pre .1)) (ei
     either : (b : Bool) (x y : ℕ) → x ≤ 8 → y ≤ 8 → cond b x y ≤ 8
     either true x y h g = h
     either false x y h g = g
-
--- one more element of the front
-more : (l ys : List ℕ) (i y : ℕ) → i < length ys → ((k : ℕ) → k < i → getD ys k 0 ≡ getD l k 0) → y ≡ getD l i 0
-    → (k : ℕ) → k < i + 1 → getD (set ys i y) k 0 ≡ getD l k 0
-more l ys i y h each e k g = go (decLt k i)
-  where
-    go : Dec (k < i) → getD (set ys i y) k 0 ≡ getD l k 0
-    go (yes b) = getD-set-other ys i k y 0 (λ q. omega arith) ∙ each k b
-    go (no b) =
-        let q : i ≡ k = omega arith in
-        ap (λ (j : ℕ). getD (set ys i y) j 0) (sym q) ∙ getD-set-same ys i y 0 h ∙ e ∙ ap (λ (j : ℕ). getD l j 0) q
 
 row-degree-requires : tie.Need-row-degree-requires Inv-loop μ-loop
 row-degree-requires c κs = c .pre
@@ -70,7 +58,7 @@ loop-again c =
     let s = c .before .before .before .before in
     let l = c .before .before .loop in
     let h : l .i < length (l .ys) = omega (arith, few s, l .inv .1, l .inv .2) in
-    (omega arith, l .inv .1, length-set (l .ys) (l .i) _ ∙ l .inv .2, more (getD (codeOf (s .args .number) .rows) (s .args .row) []) (l .ys) (l .i) _ h (l .inv .3) (c .address .ensures))
+    (omega arith, l .inv .1, length-set (l .ys) (l .i) _ ∙ l .inv .2, front-more (λ k. getD (getD (codeOf (s .args .number) .rows) (s .args .row) []) k 0) (l .ys) (l .i) _ h (l .inv .3) (c .address .ensures))
 
 returns : tie.Need-returns Inv-loop μ-loop
 returns c =

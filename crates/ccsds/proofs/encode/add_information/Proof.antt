@@ -1,4 +1,4 @@
--- `ccsds::encode::accumulate` meets its contract: after `row` turns, the symbols of `row` table rows are added.
+-- `ccsds::encode::add_information` meets its contract: after `row` turns, the symbols of `row` table rows are added.
 -- Assumes nothing.
 use mathlib.Core.Path.{_≡_, refl, sym, ap, _∙_}
 use Prim.Native.Nat.{ℕ, _≤_, _-_, _*_}
@@ -9,8 +9,8 @@ use Rattle.ccsds.specs.Tables.{codeOf}
 use Rattle.ccsds.specs.Steps.{accumulated}
 use Rattle.ccsds.proofs.Valid.{valid-of}
 use Rattle.ccsds.proofs.Turns.{row-more}
-use Rattle.ccsds.proofs.encode.accumulate.Statement.{statement}
-use Rattle.ccsds.proofs.encode.accumulate.Tie as tie
+use Rattle.ccsds.proofs.encode.add_information.Statement.{statement}
+use Rattle.ccsds.proofs.encode.add_information.Tie as tie
 
 abbrev Inv-loop : tie.InvT-loop
 Inv-loop number l w info parity₀ rows row₀ parity row =
@@ -55,5 +55,5 @@ returns c =
     let k : l .row * codeOf (a .number) .q ≡ codeOf (a .number) .k = ap (λ (n : ℕ). n * codeOf (a .number) .q) h ∙ valid-of _ (s .pre .0 .0) .whole in
     l .inv .3 ∙ ap (λ (n : ℕ). accumulated (codeOf (a .number)) (a .w) (a .info .now) 0 n (a .parity .now)) k
 
-pub accumulate-spec : {M : Type 1} → statement M
-accumulate-spec = tie.close (tie.spec Inv-loop μ-loop loop-holds add-row-requires add-row loop-less loop-again same-length returns)
+pub add-information-spec : {M : Type 1} → statement M
+add-information-spec = tie.close (tie.spec Inv-loop μ-loop loop-holds add-row-requires add-row loop-less loop-again same-length returns)

@@ -1,4 +1,4 @@
--- `ccsds::encode::add_symbol` meets its contract: after i turns, adding at the other addresses gives what the contract asks for.
+-- `ccsds::accumulate::add_at` meets its contract: after i turns, adding at the other addresses gives what the contract asks for.
 -- Assumes nothing.
 use mathlib.Core.Path.{_≡_, refl, sym, ap, _∙_, subst⁻¹}
 use mathlib.Core.List.{List, []}
@@ -9,64 +9,44 @@ use borrow.Author.Needs.{needs}
 use Rattle.ccsds.specs.Codes.{Params, rowOf, place}
 use Rattle.ccsds.specs.Tables.{codeOf}
 use Rattle.ccsds.specs.Steps.{addedAt}
-use Rattle.ccsds.proofs.Valid.{Valid, valid-of, few-of, place-lt}
-use Rattle.ccsds.proofs.Address.{symbol-lt, row-is}
+use Rattle.ccsds.proofs.Valid.{Valid, valid-of, place-lt}
+use Rattle.ccsds.proofs.Address.{row-is}
 use Rattle.ccsds.proofs.Turns.{here, address-more, address-all}
-use Rattle.ccsds.proofs.encode.add_symbol.Statement.{statement}
-use Rattle.ccsds.proofs.encode.add_symbol.Tie as tie
+use Rattle.ccsds.proofs.accumulate.add_at.Statement.{statement}
+use Rattle.ccsds.proofs.accumulate.add_at.Tie as tie
 
 -- the symbol that is added
 abbrev symbol : ℕ → ℕ → ℕ → ℕ
 symbol number row step = row * codeOf number .q + step
 
 abbrev Inv-loop : tie.InvT-loop
-Inv-loop number l w row ys step info parity₀ from n i₀ parity i =
-    (i ≤ n) × (length parity ≡ length parity₀) × (n ≡ length (rowOf (codeOf number) (symbol number row step))) × (from ≡ symbol number row step * w)
-    × (addedAt (codeOf number) w info (symbol number row step) (drop i (rowOf (codeOf number) (symbol number row step))) parity
-    ≡ addedAt (codeOf number) w info (symbol number row step) (rowOf (codeOf number) (symbol number row step)) parity₀)
+Inv-loop number l w row ys step s from sums₀ n i₀ sums i =
+    (i ≤ n) × (length sums ≡ length sums₀) × (n ≡ length (rowOf (codeOf number) (symbol number row step)))
+    × (addedAt (codeOf number) w s from (symbol number row step) (drop i (rowOf (codeOf number) (symbol number row step))) sums
+    ≡ addedAt (codeOf number) w s from (symbol number row step) (rowOf (codeOf number) (symbol number row step)) sums₀)
 
 abbrev μ-loop : tie.MeasureT-loop
-μ-loop number l w row ys step info parity₀ from n i₀ parity i = n - i
+μ-loop number l w row ys step s from sums₀ n i₀ sums i = n - i
 
 -- its number in the code's own words, and where it lies
 module _ (s : tie.Start Inv-loop μ-loop) where
   valid : Valid (codeOf (s .args .number))
   valid = valid-of _ (s .pre .0 .0)
 
-  same : s .args .row * s .args .l .q + s .args .step ≡ symbol (s .args .number) (s .args .row) (s .args .step)
-  same = ap (λ (q : ℕ). s .args .row * q + s .args .step) (s .pre .0 .1 .q)
-
-  below : symbol (s .args .number) (s .args .row) (s .args .step) < codeOf (s .args .number) .k
-  below = symbol-lt _ valid _ _ (s .pre .1 .0 .0) (s .pre .1 .0 .1)
-
-  inside : symbol (s .args .number) (s .args .row) (s .args .step) * s .args .w + s .args .w ≤ length (s .args .info .now)
-  inside = here _ (s .args .w) _ _ below (s .pre .1 .1 .1 .info)
-
   table-row : rowOf (codeOf (s .args .number)) (symbol (s .args .number) (s .args .row) (s .args .step)) ≡ getD (codeOf (s .args .number) .rows) (s .args .row) []
   table-row = row-is _ valid _ _ (s .pre .1 .0 .0) (s .pre .1 .0 .1)
 
-mul-from : tie.Need-mul-from Inv-loop μ-loop
-mul-from c = let s = c .before .before .before in omega (arith, same s, below s, few-of (s .args .number))
-
-add-from : tie.Need-add-from Inv-loop μ-loop
-add-from c = let s = c .before .before .before in omega (arith, same s, below s, few-of (s .args .number))
-
-mul-from-2 : tie.Need-mul-from-2 Inv-loop μ-loop
-mul-from-2 c =
-    let s = c .before .before .before in
-    omega (arith, inside s, ap (λ (x : ℕ). x * s .args .w) (same s))
-
 row-degree-requires : tie.Need-row-degree-requires Inv-loop μ-loop
-row-degree-requires c κs = let s = c .before .before .before in (s .pre .0 .1, s .pre .1 .0 .0)
+row-degree-requires c κs = let s = c .before .before in (s .pre .0 .1, s .pre .1 .0 .0)
 
 loop-holds : tie.Need-loop-holds Inv-loop μ-loop
 loop-holds c =
-    let s = c .before .before .before .before in
-    (omega arith, refl, c .row-degree .ensures ∙ ap length (sym (table-row s)), ap (λ (x : ℕ). x * s .args .w) (same s), refl)
+    let s = c .before .before .before in
+    (omega arith, refl, c .row-degree .ensures ∙ ap length (sym (table-row s)), refl)
 
 check-row-requires : tie.Need-check-row-requires Inv-loop μ-loop
 check-row-requires c κs =
-    let s = c .before .before .before .before .before .before in
+    let s = c .before .before .before .before .before in
     let h : c .before .loop .i < length (rowOf (codeOf (s .args .number)) (symbol (s .args .number) (s .args .row) (s .args .step))) = omega arith in
     (s .pre .0 .0, (s .pre .0 .1, (s .pre .1 .0 .0, (s .pre .1 .0 .1, (s .pre .1 .1 .0, subst⁻¹ (λ (l : List ℕ). c .before .loop .i < length l) (sym (table-row s)) h)))))
 
@@ -76,15 +56,15 @@ there d v x y j w n hj hn = here (d .m) w j n (subst⁻¹ (λ (i : ℕ). i < d .
 
 mul-add-from : tie.Need-mul-add-from Inv-loop μ-loop
 mul-add-from c =
-    let s = c .before .before .before .before .before .before .before .before in
-    omega (arith, there _ (valid s) _ _ _ (s .args .w) _ (c .before .check-row .ensures) (s .pre .1 .1 .1 .parity))
+    let s = c .before .before .before .before .before .before .before in
+    omega (arith, there _ (valid s) _ _ _ (s .args .w) _ (c .before .check-row .ensures) (s .pre .1 .1 .1 .1))
 
 add-from-requires : tie.Need-add-from-requires Inv-loop μ-loop
 add-from-requires c κs =
-    let s = c .before .before .before .before .before .before .before .before in
+    let s = c .before .before .before .before .before .before .before in
     let l = c .before .before .before .loop in (
-      there _ (valid s) _ _ _ (s .args .w) _ (c .before .check-row .ensures) (l .inv .1 ∙ s .pre .1 .1 .1 .parity),
-      omega (arith, inside s, l .inv .3),
+      there _ (valid s) _ _ _ (s .args .w) _ (c .before .check-row .ensures) (l .inv .1 ∙ s .pre .1 .1 .1 .1),
+      s .pre .1 .1 .1 .0,
     )
 
 add-i : tie.Need-add-i Inv-loop μ-loop
@@ -96,15 +76,14 @@ loop-less c = omega arith
 loop-again : tie.Need-loop-again Inv-loop μ-loop
 loop-again c =
     let l = c .before .before .before .before .before .before .loop in
-    let s = c .before .before .before .before .before .before .before .before .before .before .before in
+    let s = c .before .before .before .before .before .before .before .before .before .before in
     let h : l .i < length (rowOf (codeOf (s .args .number)) (symbol (s .args .number) (s .args .row) (s .args .step))) = omega arith in (
       omega arith,
       c .before .before .add-from .kept .0 ∙ l .inv .1,
       l .inv .2,
-      l .inv .3,
       address-more _ _ _ _ _ _ _ _ _ _ _ h
           (c .before .before .before .before .check-row .ensures ∙ ap (λ (r : List ℕ). place (codeOf (s .args .number)) (symbol (s .args .number) (s .args .row) (s .args .step)) (getD r (l .i) 0)) (sym (table-row s)))
-          (l .inv .3) (c .before .before .add-from .ensures) (l .inv .4),
+          (c .before .before .add-from .ensures) (l .inv .3),
     )
 
 same-length : tie.Need-same-length Inv-loop μ-loop
@@ -113,19 +92,16 @@ same-length c = c .before .loop .inv .1
 returns : tie.Need-returns Inv-loop μ-loop
 returns c =
     let l = c .before .loop in
-    let s = c .before .before .before .before .before .before in
+    let s = c .before .before .before .before .before in
     let h : l .i ≡ length (rowOf (codeOf (s .args .number)) (symbol (s .args .number) (s .args .row) (s .args .step))) = omega arith in
-    address-all _ _ _ _ _ _ _ _ h (l .inv .4)
+    address-all _ _ _ _ _ _ _ _ _ h (l .inv .3)
 
-pub add-symbol-spec : {M : Type 1} → statement M
-add-symbol-spec =
+pub add-at-spec : {M : Type 1} → statement M
+add-at-spec =
     tie.close
     (tie.spec
     Inv-loop
     μ-loop
-    mul-from
-    add-from
-    mul-from-2
     row-degree-requires
     loop-holds
     check-row-requires
