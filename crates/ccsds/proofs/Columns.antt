@@ -52,14 +52,14 @@ module _ (w b : ℕ) (hb : b < w) where
     room : (p : List ℕ) (x y : ℕ) → length p ≡ c .m * w → place c x y * w + w ≤ length p
     room p x y h = omega (arith, slot (place c x y) (c .m) w (place-lt c v x y))
 
-    pub addedAt-length : (x : ℕ) (ys p : List ℕ) → length (addedAt c w info (x * w) x ys p) ≡ length p
+    pub addedAt-length : (x : ℕ) (ys p : List ℕ) → length (addedAt c w info x ys p) ≡ length p
     unfolding addedAt
     addedAt-length x [] p = refl
     addedAt-length x (y ∷ ys) p =
         addedAt-length x ys (added p (place c x y * w) info (x * w) w) ∙ added-length p (place c x y * w) info (x * w) w
 
     pub addedAt-column : (x j : ℕ) (ys p : List ℕ) → Apart (place c x) ys → length p ≡ c .m * w
-        → byteAt w (addedAt c w info (x * w) x ys p) b j ≡ byteAt w p b j ⊕ pick (hits (place c x) ys j) (byteAt w info b x)
+        → byteAt w (addedAt c w info x ys p) b j ≡ byteAt w p b j ⊕ pick (hits (place c x) ys j) (byteAt w info b x)
     unfolding addedAt hits
     addedAt-column x j [] p a h = sym (sums.unit (byteAt w p b j))
     addedAt-column x j (y ∷ ys) p a h =
@@ -85,7 +85,7 @@ module _ (w b : ℕ) (hb : b < w) where
     accumulated-column j (suc n) p l h =
         let t = pick (touches c n j) (byteAt w info b n) in
         let q = accumulated c w info 0 n p in
-        ap (λ (x : ℕ). byteAt w (addedAt c w info (x * w) x (rowOf c x) q) b j) (zero-add n)
+        ap (λ (x : ℕ). byteAt w (addedAt c w info x (rowOf c x) q) b j) (zero-add n)
         ∙ addedAt-column n j (rowOf c n) q (row-apart c v n l) (accumulated-length n p ∙ h)
         ∙ ap (λ (x : ℕ). x ⊕ t) (accumulated-column j n p (omega arith) h)
         ∙ sums.assoc (byteAt w p b j) (sum (λ x. touches c x j) (byteAt w info b) n) t

@@ -1,7 +1,7 @@
 -- The turns of the encoder's loops.
 -- Assumes nothing.
 use mathlib.Core.Path.{_≡_, refl, sym, ap, ap₂, _∙_}
-use mathlib.Core.List.{List, [], _∷_}
+use mathlib.Core.List.{List}
 use Prim.Native.Nat.{ℕ, zero, suc, _+_, _-_, _*_, _<_, _≤_}
 use native.Mathlib.Nat.{add-assoc, add-zero, add-suc, suc-mul, not-suc-le-zero}
 use native.Mathlib.Numerals.{add-one}
@@ -9,48 +9,38 @@ use native.Mathlib.Omega.{arith}
 use lib.ListN.{length, getD, drop}
 use lib.Seq.{drop-cons, drop-length}
 use Rattle.buffers.specs.Parts.{added}
-use Rattle.buffers.proofs.Added.{added-same}
 use Rattle.algebra.proofs.Codeword.{slot}
 use Rattle.ccsds.specs.Codes.{Params, rowOf, place}
 use Rattle.ccsds.specs.Steps.{addedAt, accumulated, carried}
 
-module _ (c : Params) (w : ℕ) (s : List ℕ) (from : ℕ) where
+module _ (c : Params) (w : ℕ) (info : List ℕ) where
   -- one address more
-  pub address-more : (x : ℕ) (ys : List ℕ) (i : ℕ) (p p′ r : List ℕ) (j : ℕ) → i < length ys → j ≡ place c x (getD ys i 0)
-      → p′ ≡ added p (j * w) s from w → addedAt c w s from x (drop i ys) p ≡ r → addedAt c w s from x (drop (i + 1) ys) p′ ≡ r
+  pub address-more : (x : ℕ) (ys : List ℕ) (i : ℕ) (p p′ r : List ℕ) (j from : ℕ) → i < length ys → j ≡ place c x (getD ys i 0) → from ≡ x * w
+      → p′ ≡ added p (j * w) info from w → addedAt c w info x (drop i ys) p ≡ r → addedAt c w info x (drop (i + 1) ys) p′ ≡ r
   unfolding addedAt
-  address-more x ys i p p′ r j h hj hp hr =
-      ap₂ (λ (n : ℕ) (l : List ℕ). addedAt c w s from x (drop n ys) l) (add-one i)
-      (hp ∙ ap (λ (y : ℕ). added p (y * w) s from w) hj)
-      ∙ sym (ap (λ (l : List ℕ). addedAt c w s from x l p) (drop-cons ys i 0 h)) ∙ hr
+  address-more x ys i p p′ r j from h hj hf hp hr =
+      ap₂ (λ (n : ℕ) (l : List ℕ). addedAt c w info x (drop n ys) l) (add-one i)
+      (hp ∙ ap₂ (λ (y f : ℕ). added p (y * w) info f w) hj hf)
+      ∙ sym (ap (λ (l : List ℕ). addedAt c w info x l p) (drop-cons ys i 0 h)) ∙ hr
 
   -- no address is left
-  pub address-all : (x : ℕ) (ys : List ℕ) (i : ℕ) (p r : List ℕ) → i ≡ length ys → addedAt c w s from x (drop i ys) p ≡ r → p ≡ r
+  pub address-all : (x : ℕ) (ys : List ℕ) (i : ℕ) (p r : List ℕ) → i ≡ length ys → addedAt c w info x (drop i ys) p ≡ r → p ≡ r
   unfolding addedAt
-  address-all x ys i p r h hr = sym (ap (λ (l : List ℕ). addedAt c w s from x l p) (ap (λ (n : ℕ). drop n ys) h ∙ drop-length ys)) ∙ hr
+  address-all x ys i p r h hr = sym (ap (λ (l : List ℕ). addedAt c w info x l p) (ap (λ (n : ℕ). drop n ys) h ∙ drop-length ys)) ∙ hr
 
-  -- the same bytes at another place
-  pub same-symbol : (t : List ℕ) (at x : ℕ) (ys p : List ℕ) → ((b : ℕ) → b < w → getD s (from + b) 0 ≡ getD t (at + b) 0)
-      → addedAt c w s from x ys p ≡ addedAt c w t at x ys p
-  unfolding addedAt
-  same-symbol t at x [] p e = refl
-  same-symbol t at x (y ∷ ys) p e =
-      same-symbol t at x ys _ e ∙ ap (addedAt c w t at x ys) (added-same p (place c x y * w) s from t at w e)
-
-module _ (c : Params) (w : ℕ) (info : List ℕ) where
   -- one information symbol more
   pub symbol-more : (from n : ℕ) (p₀ p p′ : List ℕ) → p ≡ accumulated c w info from n p₀
-      → p′ ≡ addedAt c w info ((from + n) * w) (from + n) (rowOf c (from + n)) p → p′ ≡ accumulated c w info from (n + 1) p₀
+      → p′ ≡ addedAt c w info (from + n) (rowOf c (from + n)) p → p′ ≡ accumulated c w info from (n + 1) p₀
   unfolding accumulated
   symbol-more from n p₀ p p′ e h =
-      h ∙ ap (addedAt c w info ((from + n) * w) (from + n) (rowOf c (from + n))) e ∙ ap (λ (m : ℕ). accumulated c w info from m p₀) (sym (add-one n))
+      h ∙ ap (addedAt c w info (from + n) (rowOf c (from + n))) e ∙ ap (λ (m : ℕ). accumulated c w info from m p₀) (sym (add-one n))
 
   -- a run of symbols, and then one more run
   runs : (from n m : ℕ) (p : List ℕ) → accumulated c w info (from + n) m (accumulated c w info from n p) ≡ accumulated c w info from (n + m) p
   unfolding accumulated
   runs from n zero p = ap (λ (k : ℕ). accumulated c w info from k p) (sym (add-zero n))
   runs from n (suc m) p =
-      ap₂ (λ (x : ℕ) (q : List ℕ). addedAt c w info (x * w) x (rowOf c x) q) (add-assoc from n m) (runs from n m p)
+      ap₂ (λ (x : ℕ) (q : List ℕ). addedAt c w info x (rowOf c x) q) (add-assoc from n m) (runs from n m p)
       ∙ ap (λ (k : ℕ). accumulated c w info from k p) (sym (add-suc n m))
 
   -- one table row more: q symbols

@@ -9,51 +9,9 @@ ghost use lib.ListN.{length, getD};
 ghost use Rattle.ccsds.specs.Codes.{rowOf};
 ghost use Rattle.ccsds.specs.Tables.{codeOf, Known};
 ghost use Rattle.ccsds.specs.Layout.{Given, Front};
-ghost use Rattle.ccsds.specs.Steps.{addedAt, Copy};
+ghost use Rattle.ccsds.specs.Steps.{addedAt};
 
-// Adds the w bytes of s from index `from` on at each check row that information symbol row * q + step touches.
-fn add_at(
-    number: usize,
-    l: Layout,
-    w: usize,
-    row: usize,
-    ys: &[usize; 8],
-    step: usize,
-    s: &[u8],
-    from: usize,
-    sums: &mut [u8],
-)
-    requires { ⌜ Known number × Given (codeOf number) l ⌝ }
-    requires { ⌜ (row < length (codeOf number .rows)) × (step < codeOf number .q) ⌝ }
-    requires { ⌜ Front (getD (codeOf number .rows) row []) (now ys) ⌝ }
-    requires { ⌜ (from + w ≤ length (now s)) × (length (now sums) ≡ codeOf number .m * w) ⌝ }
-    ensures { λ _. ⌜ now (sums .exit) ≡ addedAt (codeOf number) w (now (s .entry)) from (row * codeOf number .q + step) (rowOf (codeOf number) (row * codeOf number .q + step)) (now (sums .entry)) ⌝ }
-{
-    let n = tables::row_degree(number, l, row);
-    let mut i = 0;
-    while i < n {
-        let j = tables::check_row(number, l, row, step, ys, i);
-        buffers::add_from(sums, j * w, s, from, w);
-        i += 1;
-    }
-}
-
-// The w bytes of s from index `from` on, at the front of an array.
-fn narrow(s: &[u8], from: usize, w: usize) -> [u8; 64]
-    requires { ⌜ (w ≤ 64) × (from + w ≤ length (now s)) ⌝ }
-    ensures { λ r. ⌜ Copy (now (s .entry)) from w r ⌝ }
-{
-    let mut copy = [0u8; 64];
-    let mut i = 0;
-    while i < w {
-        copy[i] = s[from + i];
-        i += 1;
-    }
-    copy
-}
-
-// Adds information symbol row * q + step of `symbols` at each check row that it touches. A narrow one is copied first: its sums then need no
-// test of whether source and target overlap, which would take longer than they do.
+// Adds information symbol row * q + step of `symbols` at each check row that it touches. The addresses of its table row are ys.
 pub fn add_symbol(
     number: usize,
     l: Layout,
@@ -68,13 +26,14 @@ pub fn add_symbol(
     requires { ⌜ (row < length (codeOf number .rows)) × (step < codeOf number .q) ⌝ }
     requires { ⌜ Front (getD (codeOf number .rows) row []) (now ys) ⌝ }
     requires { ⌜ ((row * codeOf number .q + step) * w + w ≤ length (now symbols)) × (length (now sums) ≡ codeOf number .m * w) ⌝ }
-    ensures { λ _. ⌜ now (sums .exit) ≡ addedAt (codeOf number) w (now (symbols .entry)) ((row * codeOf number .q + step) * w) (row * codeOf number .q + step) (rowOf (codeOf number) (row * codeOf number .q + step)) (now (sums .entry)) ⌝ }
+    ensures { λ _. ⌜ now (sums .exit) ≡ addedAt (codeOf number) w (now (symbols .entry)) (row * codeOf number .q + step) (rowOf (codeOf number) (row * codeOf number .q + step)) (now (sums .entry)) ⌝ }
 {
     let from = (row * l.q + step) * w;
-    if w < 64 {
-        let copy = narrow(symbols, from, w);
-        add_at(number, l, w, row, ys, step, &copy, 0, sums);
-        return;
+    let n = tables::row_degree(number, l, row);
+    let mut i = 0;
+    while i < n {
+        let j = tables::check_row(number, l, row, step, ys, i);
+        buffers::add_from(sums, j * w, symbols, from, w);
+        i += 1;
     }
-    add_at(number, l, w, row, ys, step, symbols, from, sums);
 }

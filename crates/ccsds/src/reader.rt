@@ -4,7 +4,7 @@ use crate::sdnv;
 use crate::sdnv::NumberRead;
 ghost use mathlib.Core.Path.{_≡_};
 ghost use Rattle.ccsds.specs.Refusals.{_⟫_};
-ghost use Rattle.ccsds.specs.Reader.{codingOf, extensionAt, extensionsOf, oneMore, wrongHeader, readUnit, codingAs, extensionAs, walkAs, readAs};
+ghost use Rattle.ccsds.specs.Reader.{codingOf, extensionAt, extensionsOf, wrongHeader, readUnit, codingAs, walkAs, readAs};
 
 // The coding parameters.
 pub struct Parameters {
@@ -104,34 +104,34 @@ fn read_extension(s: &[u8], at: usize) -> Walk
     }
 }
 
-// One extension more. Two of type 1 are refused.
-fn walk_on(s: &[u8], found: Extension, at: usize) -> Walk
-    ensures { λ r. ⌜ walkAs r ≡ oneMore (now (s .entry)) (record { coding = extensionAs found; end = at }) ⌝ }
-{
-    match read_extension(s, at) {
-        Walk::Refused(r) => Walk::Refused(r),
-        Walk::To(x, end) => match found {
-            Extension::PassedOver => Walk::To(x, end),
-            Extension::Coding(_) => match x {
-                Extension::PassedOver => Walk::To(found, end),
-                Extension::Coding(_) => Walk::Refused(6),
-            },
-        },
-    }
-}
-
-// The extensions of a unit, so many.
+// The extensions of a unit, so many. Two of type 1 are refused. What was found is carried as its parts: an enum that goes round a loop is
+// copied at odd addresses, which is slow.
 fn walk_extensions(s: &[u8], count: usize) -> Walk
     ensures { λ r. ⌜ walkAs r ≡ extensionsOf (now (s .entry)) count ⌝ }
 {
-    let mut found = Extension::PassedOver;
+    let mut found = false;
+    let mut p = Parameters {
+        w: 0,
+        k: 0,
+        n: 0,
+        seed: 0,
+    };
     let mut at: usize = 6;
     let mut i: usize = 0;
     while i < count {
-        match walk_on(s, found, at) {
+        match read_extension(s, at) {
             Walk::To(x, end) => {
-                found = x;
                 at = end;
+                match x {
+                    Extension::PassedOver => {}
+                    Extension::Coding(q) => {
+                        if found {
+                            return Walk::Refused(6);
+                        }
+                        found = true;
+                        p = q;
+                    }
+                }
             }
             Walk::Refused(r) => {
                 return Walk::Refused(r);
@@ -139,7 +139,10 @@ fn walk_extensions(s: &[u8], count: usize) -> Walk
         }
         i += 1;
     }
-    Walk::To(found, at)
+    if found {
+        return Walk::To(Extension::Coding(p), at);
+    }
+    Walk::To(Extension::PassedOver, at)
 }
 
 // What a unit says: the header's numbers, the coding parameters, if they came, and where the symbol starts.

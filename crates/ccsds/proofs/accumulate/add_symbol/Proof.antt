@@ -1,93 +1,138 @@
--- `ccsds::accumulate::add_symbol` meets its contract: a copy of the symbol does as well as the symbol.
+-- `ccsds::accumulate::add_symbol` meets its contract: after i turns, adding at the other addresses gives what the contract asks for.
 -- Assumes nothing.
-use mathlib.Core.Path.{_≡_, ap, _∙_}
-use Prim.Native.Nat.{ℕ, _+_, _*_, _<_}
-use native.Mathlib.Nat.{zero-add}
+use mathlib.Core.Path.{_≡_, refl, sym, ap, _∙_, subst⁻¹}
+use mathlib.Core.List.{List, []}
+use Prim.Native.Nat.{ℕ, _<_, _≤_, _-_, _*_, _+_}
 use native.Mathlib.Omega.{arith}
-use lib.ListN.{length, getD}
+use lib.ListN.{length, drop, getD}
 use borrow.Author.Needs.{needs}
+use Rattle.ccsds.specs.Codes.{Params, rowOf, place}
 use Rattle.ccsds.specs.Tables.{codeOf}
-use Rattle.ccsds.specs.Codes.{rowOf}
 use Rattle.ccsds.specs.Steps.{addedAt}
-use Rattle.ccsds.proofs.Valid.{valid-of, few-of}
-use Rattle.ccsds.proofs.Address.{symbol-lt}
-use Rattle.ccsds.proofs.Turns.{same-symbol}
+use Rattle.ccsds.proofs.Valid.{Valid, valid-of, few-of, place-lt}
+use Rattle.ccsds.proofs.Address.{symbol-lt, row-is}
+use Rattle.ccsds.proofs.Turns.{here, address-more, address-all}
 use Rattle.ccsds.proofs.accumulate.add_symbol.Statement.{statement}
 use Rattle.ccsds.proofs.accumulate.add_symbol.Tie as tie
 
--- the symbol's number in the code's own words
-module _ (s : tie.Start) where
-  abbrev x : ℕ
-  x = s .args .row * codeOf (s .args .number) .q + s .args .step
+-- the symbol that is added
+abbrev symbol : ℕ → ℕ → ℕ → ℕ
+symbol number row step = row * codeOf number .q + step
 
-  same : s .args .row * s .args .l .q + s .args .step ≡ x
+abbrev Inv-loop : tie.InvT-loop
+Inv-loop number l w row ys step symbols sums₀ from n i₀ sums i =
+    (i ≤ n) × (length sums ≡ length sums₀) × (n ≡ length (rowOf (codeOf number) (symbol number row step))) × (from ≡ symbol number row step * w)
+    × (addedAt (codeOf number) w symbols (symbol number row step) (drop i (rowOf (codeOf number) (symbol number row step))) sums
+    ≡ addedAt (codeOf number) w symbols (symbol number row step) (rowOf (codeOf number) (symbol number row step)) sums₀)
+
+abbrev μ-loop : tie.MeasureT-loop
+μ-loop number l w row ys step symbols sums₀ from n i₀ sums i = n - i
+
+-- its number in the code's own words, and where it lies
+module _ (s : tie.Start Inv-loop μ-loop) where
+  valid : Valid (codeOf (s .args .number))
+  valid = valid-of _ (s .pre .0 .0)
+
+  same : s .args .row * s .args .l .q + s .args .step ≡ symbol (s .args .number) (s .args .row) (s .args .step)
   same = ap (λ (q : ℕ). s .args .row * q + s .args .step) (s .pre .0 .1 .q)
 
-  same-place : (s .args .row * s .args .l .q + s .args .step) * s .args .w ≡ x * s .args .w
-  same-place = ap (λ (n : ℕ). n * s .args .w) same
+  below : symbol (s .args .number) (s .args .row) (s .args .step) < codeOf (s .args .number) .k
+  below = symbol-lt _ valid _ _ (s .pre .1 .0 .0) (s .pre .1 .0 .1)
 
-  below : x < codeOf (s .args .number) .k
-  below = symbol-lt _ (valid-of _ (s .pre .0 .0)) _ _ (s .pre .1 .0 .0) (s .pre .1 .0 .1)
+  inside : symbol (s .args .number) (s .args .row) (s .args .step) * s .args .w + s .args .w ≤ length (s .args .symbols .now)
+  inside = s .pre .1 .1 .1 .0
 
-mul-from : tie.Need-mul-from
+  table-row : rowOf (codeOf (s .args .number)) (symbol (s .args .number) (s .args .row) (s .args .step)) ≡ getD (codeOf (s .args .number) .rows) (s .args .row) []
+  table-row = row-is _ valid _ _ (s .pre .1 .0 .0) (s .pre .1 .0 .1)
+
+mul-from : tie.Need-mul-from Inv-loop μ-loop
 mul-from c = let s = c .before .before .before in omega (arith, same s, below s, few-of (s .args .number))
 
-add-from : tie.Need-add-from
+add-from : tie.Need-add-from Inv-loop μ-loop
 add-from c = let s = c .before .before .before in omega (arith, same s, below s, few-of (s .args .number))
 
-mul-from-2 : tie.Need-mul-from-2
-mul-from-2 c = let s = c .before .before .before in omega (arith, same-place s, s .pre .1 .1 .1 .0)
+mul-from-2 : tie.Need-mul-from-2 Inv-loop μ-loop
+mul-from-2 c =
+    let s = c .before .before .before in
+    omega (arith, inside s, ap (λ (x : ℕ). x * s .args .w) (same s))
 
-narrow-requires : tie.Need-narrow-requires
-narrow-requires c κs =
+row-degree-requires : tie.Need-row-degree-requires Inv-loop μ-loop
+row-degree-requires c κs = let s = c .before .before .before in (s .pre .0 .1, s .pre .1 .0 .0)
+
+loop-holds : tie.Need-loop-holds Inv-loop μ-loop
+loop-holds c =
     let s = c .before .before .before .before in
-    (omega arith, omega (arith, same-place s, s .pre .1 .1 .1 .0))
+    (omega arith, refl, c .row-degree .ensures ∙ ap length (sym (table-row s)), ap (λ (x : ℕ). x * s .args .w) (same s), refl)
 
-slice-aggregate-add-at : tie.Need-slice-aggregate-add-at
-slice-aggregate-add-at c = search needs
+check-row-requires : tie.Need-check-row-requires Inv-loop μ-loop
+check-row-requires c κs =
+    let s = c .before .before .before .before .before .before in
+    let h : c .before .loop .i < length (rowOf (codeOf (s .args .number)) (symbol (s .args .number) (s .args .row) (s .args .step))) = omega arith in
+    (s .pre .0 .0, (s .pre .0 .1, (s .pre .1 .0 .0, (s .pre .1 .0 .1, (s .pre .1 .1 .0, subst⁻¹ (λ (l : List ℕ). c .before .loop .i < length l) (sym (table-row s)) h)))))
 
-add-at-requires : tie.Need-add-at-requires
-add-at-requires c κs =
-    let s = c .before .before .before .before .before .before .before in
-    (s .pre .0, (s .pre .1 .0, (s .pre .1 .1 .0, (omega (arith, c .before .before .narrow .ensures .size), s .pre .1 .1 .1 .1))))
+-- the check row is one of the code's, so its symbol lies in the parity buffer
+there : (d : Params) (v : Valid d) (x y j w n : ℕ) → j ≡ place d x y → n ≡ d .m * w → j * w + w ≤ n
+there d v x y j w n hj hn = here (d .m) w j n (subst⁻¹ (λ (i : ℕ). i < d .m) hj (place-lt d v x y)) hn
 
-same-length : tie.Need-same-length
-same-length c = search needs
-
-returns : tie.Need-returns
-returns c =
-    let s = c .before .before .before .before .before .before .before .before .before .before in
-    let n = c .before .before .before .before .before .narrow in
-    c .before .before .add-at .ensures
-    ∙ same-symbol (codeOf (s .args .number)) (s .args .w) (n .result) 0 (s .args .symbols .now) (x s * s .args .w) (x s) (rowOf (codeOf (s .args .number)) (x s)) (s .args .sums .now)
-    (λ b h. ap (λ (i : ℕ). getD (n .result) i 0) (zero-add b) ∙ n .ensures .each b h ∙ ap (λ (i : ℕ). getD (s .args .symbols .now) (i + b) 0) (same-place s))
-
-add-at-requires-2 : tie.Need-add-at-requires-2
-add-at-requires-2 c κs =
-    let s = c .before .before .before .before .before in
-    (s .pre .0, (s .pre .1 .0, (s .pre .1 .1 .0, (omega (arith, same-place s, s .pre .1 .1 .1 .0), s .pre .1 .1 .1 .1))))
-
-same-length-2 : tie.Need-same-length-2
-same-length-2 c = search needs
-
-returns-2 : tie.Need-returns-2
-returns-2 c =
+mul-add-from : tie.Need-mul-add-from Inv-loop μ-loop
+mul-add-from c =
     let s = c .before .before .before .before .before .before .before .before in
-    c .before .before .add-at2 .ensures
-    ∙ ap (λ (i : ℕ). addedAt (codeOf (s .args .number)) (s .args .w) (s .args .symbols .now) i (x s) (rowOf (codeOf (s .args .number)) (x s)) (s .args .sums .now)) (same-place s)
+    omega (arith, there _ (valid s) _ _ _ (s .args .w) _ (c .before .check-row .ensures) (s .pre .1 .1 .1 .1))
+
+add-from-requires : tie.Need-add-from-requires Inv-loop μ-loop
+add-from-requires c κs =
+    let s = c .before .before .before .before .before .before .before .before in
+    let l = c .before .before .before .loop in (
+      there _ (valid s) _ _ _ (s .args .w) _ (c .before .check-row .ensures) (l .inv .1 ∙ s .pre .1 .1 .1 .1),
+      omega (arith, inside s, l .inv .3),
+    )
+
+add-i : tie.Need-add-i Inv-loop μ-loop
+add-i c = omega arith
+
+loop-less : tie.Need-loop-less Inv-loop μ-loop
+loop-less c = omega arith
+
+loop-again : tie.Need-loop-again Inv-loop μ-loop
+loop-again c =
+    let l = c .before .before .before .before .before .before .loop in
+    let s = c .before .before .before .before .before .before .before .before .before .before .before in
+    let h : l .i < length (rowOf (codeOf (s .args .number)) (symbol (s .args .number) (s .args .row) (s .args .step))) = omega arith in (
+      omega arith,
+      c .before .before .add-from .kept .0 ∙ l .inv .1,
+      l .inv .2,
+      l .inv .3,
+      address-more _ _ _ _ _ _ _ _ _ _ _ h
+          (c .before .before .before .before .check-row .ensures ∙ ap (λ (r : List ℕ). place (codeOf (s .args .number)) (symbol (s .args .number) (s .args .row) (s .args .step)) (getD r (l .i) 0)) (sym (table-row s)))
+          (l .inv .3) (c .before .before .add-from .ensures) (l .inv .4),
+    )
+
+same-length : tie.Need-same-length Inv-loop μ-loop
+same-length c = c .before .loop .inv .1
+
+returns : tie.Need-returns Inv-loop μ-loop
+returns c =
+    let l = c .before .loop in
+    let s = c .before .before .before .before .before .before in
+    let h : l .i ≡ length (rowOf (codeOf (s .args .number)) (symbol (s .args .number) (s .args .row) (s .args .step))) = omega arith in
+    address-all _ _ _ _ _ _ _ _ h (l .inv .4)
 
 pub add-symbol-spec : {M : Type 1} → statement M
 add-symbol-spec =
     tie.close
     (tie.spec
+    Inv-loop
+    μ-loop
     mul-from
     add-from
     mul-from-2
-    narrow-requires
-    slice-aggregate-add-at
-    add-at-requires
+    row-degree-requires
+    loop-holds
+    check-row-requires
+    mul-add-from
+    add-from-requires
+    add-i
+    loop-less
+    loop-again
     same-length
-    returns
-    add-at-requires-2
-    same-length-2
-    returns-2)
+    returns)
