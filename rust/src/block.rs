@@ -1,0 +1,4 @@
+//! A block and its buffers.
+
+/// A block.
+pub struct Block {}

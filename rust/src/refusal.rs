@@ -1,0 +1,84 @@
+//! Why a call is turned down.
+use std::fmt;
+
+/// Why a call was turned down; it has then changed nothing that it was lent. Where several apply, the one with the smallest number is
+/// answered.
+#[derive(Clone, Copy, Debug, PartialEq, Eq, PartialOrd, Ord, Hash)]
+#[non_exhaustive]
+#[repr(u8)]
+pub enum Refusal {
+    /// The code's number is neither 1 nor 2.
+    Code = 1,
+    /// W is 0 or above 1,024.
+    Width = 2,
+    /// LSC is 0 or above 65,534, or the protocol ID is above 7.
+    Label = 3,
+    /// A block, work, information, parity or output buffer isn't exactly its size.
+    Length = 4,
+    /// A unit of under 6 bytes, of another version than 1, with the reserved bit set, or without extensions.
+    Header = 5,
+    /// The bytes end early, type 0 or 255, an SDNV too long or too large, two of type 1, or type 1 not four numbers.
+    Extension = 6,
+    /// No type 1, or not the block's W, k, n and seed 0.
+    Parameters = 7,
+    /// The unit's LSC or protocol ID isn't the block's.
+    Foreign = 8,
+    /// LWC is 0 or above n.
+    Position = 9,
+    /// The symbol isn't W bytes.
+    Symbol = 10,
+    /// A mark above 2: at the unit's position (take), anywhere (close).
+    Mark = 11,
+    /// Heard there before with other bytes.
+    Conflict = 12,
+}
+
+impl Refusal {
+    /// All of them, from 1 up.
+    pub const ALL: [Refusal; 12] = [
+        Refusal::Code,
+        Refusal::Width,
+        Refusal::Label,
+        Refusal::Length,
+        Refusal::Header,
+        Refusal::Extension,
+        Refusal::Parameters,
+        Refusal::Foreign,
+        Refusal::Position,
+        Refusal::Symbol,
+        Refusal::Mark,
+        Refusal::Conflict,
+    ];
+
+    /// Its number in the requirements.
+    pub fn number(self) -> u8 {
+        self as u8
+    }
+
+    /// The refusal of a number, from 1 to 12.
+    pub fn from_number(number: u8) -> Option<Refusal> {
+        Refusal::ALL.into_iter().find(|r| r.number() == number)
+    }
+}
+
+impl fmt::Display for Refusal {
+    fn fmt(&self, f: &mut fmt::Formatter<'_>) -> fmt::Result {
+        let why = match self {
+            Refusal::Code => "code: the number is neither 1 nor 2",
+            Refusal::Width => "width: W is 0 or above 1024",
+            Refusal::Label => "label: LSC is 0 or above 65534, or the protocol ID is above 7",
+            Refusal::Length => "length: a buffer isn't exactly its size",
+            Refusal::Header => "header: under 6 bytes, version not 1, reserved bit set, or no extensions",
+            Refusal::Extension => "extension: not readable",
+            Refusal::Parameters => "parameters: not the block's W, k, n and seed 0",
+            Refusal::Foreign => "foreign: the unit's LSC or protocol ID isn't the block's",
+            Refusal::Position => "position: LWC is 0 or above n",
+            Refusal::Symbol => "symbol: not W bytes",
+            Refusal::Mark => "mark: above 2",
+            Refusal::Conflict => "conflict: heard there before with other bytes",
+        };
+        write!(f, "refused {}, {}", self.number(), why)
+    }
+}
+
+impl std::error::Error for Refusal {}
