@@ -1,6 +1,9 @@
 /*
  * A small C1 block there and back: encode, write a unit of each symbol, lose some, take the rest in another order, close, compare.
  * Exit status 0 and a line of counts, or 1 and what went wrong.
+ *
+ * With the library installed (make install):
+ *     cc -std=c11 roundtrip.c $(pkg-config --cflags --libs lipvezor) -o roundtrip
  */
 #include "lipvezor.h"
 
@@ -18,11 +21,11 @@ static void expect(int holds, const char *what)
     }
 }
 
+/* of exactly the size that a call asks for; what it holds at first does not matter to any call */
 static void *buffer(size_t count, size_t size)
 {
     void *p = malloc(count * size);
     expect(p != NULL, "memory");
-    memset(p, 0xA5, count * size);
     return p;
 }
 

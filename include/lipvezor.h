@@ -1,12 +1,13 @@
 /*
- * Lipvezor: the erasure layer of a satellite downlink (codes C1 and C2 of CCSDS 131.5-O-1), for C11 and C++.
+ * Lipvezor: the erasure layer of a satellite downlink (codes C1 and C2 of CCSDS 131.5-O-1), for C11 and C++11.
  *
  * Sending:   lipvezor_encode, then for each symbol lipvezor_show and lipvezor_write.
  * Receiving: lipvezor_open, lipvezor_take for each unit that arrives, in any order, and lipvezor_close. A block may be closed more than
  *            once, and units may be taken between two closes.
  *
- * Link with the archive libboundary.a, which the build makes for x86-64 Linux. Nothing is allocated, no call keeps a pointer, and no
- * call reads or writes anything but what it was lent: two threads may call at the same time on different buffers.
+ * Link with -llipvezor after make install (pkg-config knows it as lipvezor), or in the repository with target/staticlib/libboundary.a,
+ * which is the same archive. It is for x86-64 Linux and needs no library but C's own. Nothing is allocated, no call keeps a pointer, and
+ * no call reads or writes anything but what it was lent: two threads may call at the same time on different buffers.
  *
  * Numbers. Every call may be handed any numbers, bytes and lengths. What does not fit is refused: a refusal has a number from 1 on
  * (lipvezor_answer), the first that applies is answered, from the smallest number up, and a refused call has changed nothing that it was
@@ -30,6 +31,7 @@
 #ifdef __cplusplus
 extern "C" {
 #define LIPVEZOR_ARRAY(length)
+static_assert(sizeof(size_t) == 8, "lipvezor: a size_t has 64 bits");
 #else
 /* an array of at least so many elements */
 #define LIPVEZOR_ARRAY(length) static length

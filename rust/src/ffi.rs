@@ -80,46 +80,57 @@ mod c {
 // Safety, for every call below: numbers may be any; a slice's pointer is valid and aligned for its length, also where that is 0; the callee
 // keeps no pointer.
 
+#[inline]
 pub fn n(code: usize) -> usize {
     unsafe { c::lipvezor_n(code) }
 }
 
+#[inline]
 pub fn k(code: usize) -> usize {
     unsafe { c::lipvezor_k(code) }
 }
 
+#[inline]
 pub fn m(code: usize) -> usize {
     unsafe { c::lipvezor_m(code) }
 }
 
+#[inline]
 pub fn information_bytes(code: usize, w: usize) -> usize {
     unsafe { c::lipvezor_information_bytes(code, w) }
 }
 
+#[inline]
 pub fn parity_bytes(code: usize, w: usize) -> usize {
     unsafe { c::lipvezor_parity_bytes(code, w) }
 }
 
+#[inline]
 pub fn symbol_bytes(code: usize, w: usize) -> usize {
     unsafe { c::lipvezor_symbol_bytes(code, w) }
 }
 
+#[inline]
 pub fn unit_bytes(code: usize, w: usize) -> usize {
     unsafe { c::lipvezor_unit_bytes(code, w) }
 }
 
+#[inline]
 pub fn work_words(code: usize) -> usize {
     unsafe { c::lipvezor_work_words(code) }
 }
 
+#[inline]
 pub fn work_bytes(code: usize, w: usize) -> usize {
     unsafe { c::lipvezor_work_bytes(code, w) }
 }
 
+#[inline]
 pub fn encode(code: usize, w: usize, information: &[u8], parity: &mut [u8]) -> u8 {
     unsafe { c::lipvezor_encode(code, w, information.as_ptr(), information.len(), parity.as_mut_ptr(), parity.len()) }
 }
 
+#[inline]
 pub fn show(code: usize, w: usize, information: &[u8], parity: &[u8], lwc: usize, out: &mut [u8]) -> usize {
     unsafe {
         c::lipvezor_show(
@@ -136,18 +147,22 @@ pub fn show(code: usize, w: usize, information: &[u8], parity: &[u8], lwc: usize
     }
 }
 
+#[inline]
 pub fn write(code: usize, w: usize, protocol: usize, lsc: usize, lwc: usize, symbol: &[u8], out: &mut [u8]) -> u8 {
     unsafe { c::lipvezor_write(code, w, protocol, lsc, lwc, symbol.as_ptr(), symbol.len(), out.as_mut_ptr(), out.len()) }
 }
 
+#[inline]
 pub fn read(unit: &[u8], values: &mut [usize; 10]) -> u8 {
     unsafe { c::lipvezor_read(unit.as_ptr(), unit.len(), values.as_mut_ptr()) }
 }
 
+#[inline]
 pub fn open(code: usize, w: usize, protocol: usize, lsc: usize, symbols: &mut [u8], marks: &mut [u8]) -> u8 {
     unsafe { c::lipvezor_open(code, w, protocol, lsc, symbols.as_mut_ptr(), symbols.len(), marks.as_mut_ptr(), marks.len()) }
 }
 
+#[inline]
 pub fn take(code: usize, w: usize, protocol: usize, lsc: usize, symbols: &mut [u8], marks: &mut [u8], unit: &[u8]) -> u8 {
     unsafe {
         c::lipvezor_take(
@@ -165,6 +180,7 @@ pub fn take(code: usize, w: usize, protocol: usize, lsc: usize, symbols: &mut [u
     }
 }
 
+#[inline]
 #[allow(clippy::too_many_arguments)]
 pub fn close(
     code: usize,

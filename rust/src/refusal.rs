@@ -3,6 +3,16 @@ use std::fmt;
 
 /// Why a call was turned down; it has then changed nothing that it was lent. Where several apply, the one with the smallest number is
 /// answered.
+///
+/// ```
+/// use lipvezor::{Block, Code, Refusal};
+///
+/// let refusal = Block::open(Code(3), 16, 1, 7).unwrap_err();
+/// assert_eq!(refusal, Refusal::Code);
+/// assert_eq!(refusal.number(), 1);
+/// assert_eq!(refusal.to_string(), "refused 1, code: the number is neither 1 nor 2");
+/// assert_eq!(Refusal::from_number(13), None);
+/// ```
 #[derive(Clone, Copy, Debug, PartialEq, Eq, PartialOrd, Ord, Hash)]
 #[non_exhaustive]
 #[repr(u8)]

@@ -1,0 +1,358 @@
+//! Close in plain Rust: the steps of `block::system`, `rows` and `block::close`, in their order.
+use crate::plain_encode::add;
+use crate::plain_tables::{check_block, check_length, Layout};
+use lipvezor::{Closed, Refusal, Verdict};
+
+const CLOSED: u16 = 65535;
+
+/// Counts row additions, or doesn't.
+pub trait Tally {
+    fn addition(&mut self);
+}
+
+impl Tally for () {
+    fn addition(&mut self) {}
+}
+
+impl Tally for usize {
+    fn addition(&mut self) {
+        *self += 1;
+    }
+}
+
+/// Two different parts of a slice, where a part is `len` long: one to read and one to change.
+fn two<T>(all: &mut [T], from: usize, to: usize, len: usize) -> (&[T], &mut [T]) {
+    if from < to {
+        let (before, on) = all.split_at_mut(to * len);
+        (&before[from * len..][..len], &mut on[..len])
+    } else {
+        let (before, on) = all.split_at_mut(from * len);
+        (&on[..len], &mut before[to * len..][..len])
+    }
+}
+
+/// The packed equations: rows of `words` words and a pivot word, right-hand sides of `w` bytes.
+pub struct System<'a> {
+    pub rows: &'a mut [u64],
+    pub rhs: &'a mut [u8],
+    pub words: usize,
+    pub w: usize,
+}
+
+impl System<'_> {
+    pub fn stride(&self) -> usize {
+        self.words + 1
+    }
+
+    /// The positions of row r, without the pivot word.
+    pub fn row(&self, r: usize) -> &[u64] {
+        &self.rows[r * self.stride()..][..self.words]
+    }
+
+    pub fn has(&self, r: usize, p: usize) -> bool {
+        self.row(r)[p / 64] >> (p % 64) & 1 == 1
+    }
+
+    pub fn set_pivot(&mut self, r: usize, pivot: u64) {
+        let at = r * self.stride() + self.words;
+        self.rows[at] = pivot;
+    }
+
+    /// The first row from `from` on that has position p and for which `wanted` holds.
+    pub fn next(&self, p: usize, from: usize, wanted: impl Fn(usize) -> bool) -> Option<usize> {
+        let (word, bit) = (p / 64, 1 << (p % 64));
+        let mut rows = self.rows[from * self.stride()..].chunks_exact(self.stride()).zip(from..);
+        rows.find(|&(row, j)| row[word] & bit != 0 && wanted(j)).map(|(_, j)| j)
+    }
+
+    /// Adds row r to row j. The pivot word takes no part.
+    pub fn add_row(&mut self, r: usize, j: usize) {
+        let (row, other) = two(self.rows, r, j, self.words + 1);
+        for (d, s) in other[..self.words].iter_mut().zip(&row[..self.words]) {
+            *d ^= *s;
+        }
+        let (rhs, other) = two(self.rhs, r, j, self.w);
+        add(other, rhs);
+    }
+
+    /// Position x comes into row j.
+    fn touch(&mut self, symbols: &[u8], marks: &[u8], j: usize, x: usize) {
+        let w = self.w;
+        if marks[x] == 1 {
+            add(&mut self.rhs[j * w..(j + 1) * w], &symbols[x * w..(x + 1) * w]);
+        } else {
+            let at = j * self.stride() + x / 64;
+            self.rows[at] |= 1 << (x % 64);
+        }
+    }
+
+    /// The equations of a block.
+    pub fn build(&mut self, layout: &Layout, symbols: &[u8], marks: &[u8]) {
+        self.rows.fill(0);
+        self.rhs.fill(0);
+        for (row, addresses) in layout.table.iter().enumerate() {
+            for step in 0..layout.q {
+                let x = row * layout.q + step;
+                for &address in addresses.iter().rev() {
+                    self.touch(symbols, marks, layout.check_row(address, step), x);
+                }
+            }
+        }
+        for t in 0..layout.m {
+            self.touch(symbols, marks, t, layout.k + t);
+            if t + 1 < layout.m {
+                self.touch(symbols, marks, t + 1, layout.k + t);
+            }
+        }
+    }
+
+    /// No equation without unknowns fails.
+    pub fn consistent(&self) -> bool {
+        let mut equations = self.rows.chunks_exact(self.stride()).zip(self.rhs.chunks_exact(self.w));
+        equations.all(|(row, rhs)| row[self.words] != 0 || rhs.iter().all(|&b| b == 0))
+    }
+
+    /// Fills each position that stands alone in a row.
+    pub fn fill(&self, symbols: &mut [u8], marks: &mut [u8]) {
+        for (row, rhs) in self.rows.chunks_exact(self.stride()).zip(self.rhs.chunks_exact(self.w)) {
+            let (row, pivot) = row.split_at(self.words);
+            if pivot[0] == 0 {
+                continue;
+            }
+            let p = (pivot[0] - 1) as usize;
+            let only = |(i, &word): (usize, &u64)| word == if i == p / 64 { 1 << (p % 64) } else { 0 };
+            if row.iter().enumerate().all(only) {
+                symbols[p * self.w..(p + 1) * self.w].copy_from_slice(rhs);
+                marks[p] = 2;
+            }
+        }
+    }
+}
+
+pub fn weight(row: &[u64]) -> usize {
+    let mut n = 0;
+    for word in row {
+        if *word != 0 {
+            n += word.count_ones() as usize;
+        }
+    }
+    n
+}
+
+fn weigh(system: &System, hints: &mut [u16]) {
+    for (hint, row) in hints.iter_mut().zip(system.rows.chunks_exact(system.stride())) {
+        *hint = match weight(&row[..system.words]) {
+            0 => CLOSED,
+            w => w as u16,
+        };
+    }
+}
+
+/// A row with the least hint, or the first from row `from` on, round the end, whose hint is at most `enough`.
+fn pick(hints: &[u16], from: usize, enough: u16) -> Option<usize> {
+    let mut best = None;
+    let mut least = CLOSED;
+    for part in [from..hints.len(), 0..from] {
+        let start = part.start;
+        for (i, &hint) in hints[part].iter().enumerate() {
+            if hint < least {
+                best = Some(start + i);
+                if hint <= enough {
+                    return best;
+                }
+                least = hint;
+            }
+        }
+    }
+    best
+}
+
+fn joined(a: u16, b: u16) -> u16 {
+    match a as u64 + b as u64 {
+        s if s < 3 => 1,
+        s if s > 60000 => 60000,
+        s => (s - 2) as u16,
+    }
+}
+
+/// Row r goes into each other row that is not CLOSED and has position p.
+fn push<T: Tally>(system: &mut System, hints: &mut [u16], r: usize, p: usize, tally: &mut T) {
+    let own = hints[r];
+    let mut from = 0;
+    while let Some(j) = system.next(p, from, |j| hints[j] != CLOSED && j != r) {
+        system.add_row(r, j);
+        hints[j] = joined(hints[j], own);
+        tally.addition();
+        from = j + 1;
+    }
+    hints[r] = CLOSED;
+}
+
+/// The lowest position of the row's last word that is not 0.
+fn latest(row: &[u64]) -> Option<usize> {
+    let i = row.iter().rposition(|&word| word != 0)?;
+    Some(i * 64 + row[i].trailing_zeros() as usize)
+}
+
+/// The first part of elimination. Answers how many turns it took; `order` has each turn's row and position.
+fn prepare<T: Tally>(system: &mut System, order: &mut [(u16, u16)], m: usize, tally: &mut T) -> usize {
+    let mut hints = [0; 1024];
+    let hints = &mut hints[..m];
+    weigh(system, hints);
+    let mut from = 0;
+    let mut enough = 1;
+    for (t, place) in order[..m].iter_mut().enumerate() {
+        let Some(r) = pick(hints, from, enough) else {
+            return t;
+        };
+        from = r;
+        enough = hints[r];
+        *place = match latest(system.row(r)) {
+            Some(p) => {
+                push(system, hints, r, p, tally);
+                (r as u16, p as u16)
+            }
+            None => {
+                hints[r] = CLOSED;
+                (r as u16, 0)
+            }
+        };
+    }
+    m
+}
+
+/// A mask of the digits of word i that two rows have.
+fn shared_in(system: &System, i: usize) -> u64 {
+    let mut seen = 0;
+    let mut shared = 0;
+    for row in system.rows.chunks_exact(system.stride()) {
+        shared |= seen & row[i];
+        seen |= row[i];
+    }
+    shared
+}
+
+/// The rows whose pivot from the first part stands in no other row get it at once.
+fn finish_all_alone(system: &mut System, done: &mut [bool], order: &[(u16, u16)]) {
+    let mut masks = [0; 48];
+    for (i, mask) in masks[..system.words].iter_mut().enumerate() {
+        *mask = shared_in(system, i);
+    }
+    for &(r, p) in order {
+        let (r, p) = (r as usize, p as usize);
+        if masks[p / 64] >> (p % 64) & 1 == 0 && system.has(r, p) {
+            system.set_pivot(r, p as u64 + 1);
+            done[r] = true;
+        }
+    }
+}
+
+pub fn lowest(row: &[u64]) -> Option<usize> {
+    let i = row.iter().position(|&word| word != 0)?;
+    Some(i * 64 + row[i].trailing_zeros() as usize)
+}
+
+/// Adds row r to each other row that has position p.
+fn sweep<T: Tally>(system: &mut System, r: usize, p: usize, tally: &mut T) {
+    let mut from = 0;
+    while let Some(j) = system.next(p, from, |j| j != r) {
+        system.add_row(r, j);
+        tally.addition();
+        from = j + 1;
+    }
+}
+
+/// Gives row r a pivot, the guess if it can be, and takes that position out of every other row.
+fn finish_row<T: Tally>(system: &mut System, done: &mut [bool], r: usize, guess: usize, tally: &mut T) {
+    if done[r] {
+        return;
+    }
+    let pivot = if system.has(r, guess) { Some(guess) } else { lowest(system.row(r)) };
+    match pivot {
+        Some(p) => {
+            system.set_pivot(r, p as u64 + 1);
+            sweep(system, r, p, tally);
+        }
+        None => system.set_pivot(r, 0),
+    }
+    done[r] = true;
+}
+
+fn eliminate<T: Tally>(system: &mut System, m: usize, tally: &mut T) {
+    let mut order = [(0, 0); 1024];
+    let turns = prepare(system, &mut order, m, tally);
+    let order = &order[..turns];
+    let mut done = [false; 1024];
+    finish_all_alone(system, &mut done, order);
+    for &(r, guess) in order.iter().rev() {
+        finish_row(system, &mut done, r as usize, guess as usize, tally);
+    }
+    for r in 0..m {
+        finish_row(system, &mut done, r, 0, tally);
+    }
+}
+
+/// Close's refusals.
+#[allow(clippy::too_many_arguments)]
+pub fn check_close(
+    code: usize,
+    w: usize,
+    protocol: usize,
+    lsc: usize,
+    symbols: &[u8],
+    marks: &[u8],
+    words: &[u64],
+    bytes: &[u8],
+) -> Result<&'static Layout, Refusal> {
+    let layout = check_block(code, w, protocol, lsc, symbols, marks)?;
+    check_length(words.len(), layout.m * (layout.n() / 64 + 1))?;
+    check_length(bytes.len(), layout.m * w)?;
+    if marks.iter().any(|&mark| mark > 2) {
+        return Err(Refusal::Mark);
+    }
+    Ok(layout)
+}
+
+/// What is read off a reduced system; clears the work buffers.
+pub fn settle(system: System, symbols: &mut [u8], marks: &mut [u8]) -> Closed {
+    for (symbol, mark) in symbols.chunks_exact_mut(system.w).zip(marks.iter_mut()) {
+        if *mark != 1 {
+            *mark = 0;
+            symbol.fill(0);
+        }
+    }
+    let ok = system.consistent();
+    if ok {
+        system.fill(symbols, marks);
+    }
+    system.rows.fill(0);
+    system.rhs.fill(0);
+    let count = |v| marks.iter().filter(|&&mark| mark == v).count();
+    let (heard, filled, left) = (count(1), count(2), count(0));
+    let verdict = match (ok, left) {
+        (false, _) => Verdict::Inconsistent,
+        (true, 0) => Verdict::Whole,
+        (true, _) => Verdict::Ambiguous,
+    };
+    Closed { verdict, heard, filled, left }
+}
+
+#[inline(never)]
+#[allow(clippy::too_many_arguments)]
+pub fn close<T: Tally>(
+    code: usize,
+    w: usize,
+    protocol: usize,
+    lsc: usize,
+    symbols: &mut [u8],
+    marks: &mut [u8],
+    words: &mut [u64],
+    bytes: &mut [u8],
+    tally: &mut T,
+) -> Result<Closed, Refusal> {
+    let layout = check_close(code, w, protocol, lsc, symbols, marks, words, bytes)?;
+    let mut system = System { rows: words, rhs: bytes, words: layout.n() / 64, w };
+    system.build(layout, symbols, marks);
+    eliminate(&mut system, layout.m, tally);
+    Ok(settle(system, symbols, marks))
+}

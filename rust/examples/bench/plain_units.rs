@@ -1,0 +1,179 @@
+//! Write and take in plain Rust: the steps of `ccsds::writer`, `ccsds::reader` and `block::take`.
+use crate::plain_tables::{check_block, check_code, check_label, check_length};
+use lipvezor::{Parameters, Refusal, Taken, UnitParts};
+
+fn sdnv_bytes(v: usize) -> usize {
+    match v {
+        0..=0x7F => 1,
+        0x80..=0x3FFF => 2,
+        0x4000..=0x1F_FFFF => 3,
+        0x20_0000..=0xFFF_FFFF => 4,
+        _ => 5,
+    }
+}
+
+fn value_bytes(w: usize, k: usize, n: usize) -> usize {
+    sdnv_bytes(w) + sdnv_bytes(k) + sdnv_bytes(n) + sdnv_bytes(0)
+}
+
+/// An output that is written from the front.
+struct Output<'a> {
+    bytes: &'a mut [u8],
+    at: usize,
+}
+
+impl Output<'_> {
+    fn byte(&mut self, x: u8) {
+        self.bytes[self.at] = x;
+        self.at += 1;
+    }
+
+    fn pair(&mut self, x: u16) {
+        for byte in x.to_be_bytes() {
+            self.byte(byte);
+        }
+    }
+
+    fn sdnv(&mut self, v: usize) {
+        for shift in [28, 21, 14, 7] {
+            let high = v >> shift;
+            if high != 0 {
+                self.byte(128 | (high & 127) as u8);
+            }
+        }
+        self.byte((v & 127) as u8);
+    }
+
+    fn slice(&mut self, s: &[u8]) {
+        self.bytes[self.at..self.at + s.len()].copy_from_slice(s);
+        self.at += s.len();
+    }
+}
+
+#[inline(never)]
+pub fn write(code: usize, w: usize, protocol: usize, lsc: usize, lwc: usize, symbol: &[u8], out: &mut [u8]) -> Result<(), Refusal> {
+    let layout = check_code(code, w)?;
+    check_label(protocol, lsc)?;
+    let (k, n) = (layout.k, layout.n());
+    let value = value_bytes(w, k, n);
+    check_length(out.len(), 7 + sdnv_bytes(value) + value + w)?;
+    if lwc == 0 || lwc > n {
+        return Err(Refusal::Position);
+    }
+    if symbol.len() != w {
+        return Err(Refusal::Symbol);
+    }
+    let mut out = Output { bytes: out, at: 0 };
+    out.byte((16 + protocol * 2) as u8);
+    out.byte(1);
+    out.pair(lwc as u16);
+    out.pair(lsc as u16);
+    out.byte(1);
+    out.sdnv(value_bytes(w, k, n));
+    out.sdnv(w);
+    out.sdnv(k);
+    out.sdnv(n);
+    out.sdnv(0);
+    out.slice(symbol);
+    Ok(())
+}
+
+/// The number at a position, and the position after it.
+fn number_at(s: &[u8], at: usize) -> Result<(usize, usize), Refusal> {
+    let mut value = 0;
+    for (i, &b) in s.iter().enumerate().skip(at).take(5) {
+        value = value * 128 + (b % 128) as usize;
+        if b < 128 {
+            if value > 0xFFFF_FFFF {
+                return Err(Refusal::Extension);
+            }
+            return Ok((value, i + 1));
+        }
+    }
+    Err(Refusal::Extension)
+}
+
+fn read_parameters(v: &[u8]) -> Result<Parameters, Refusal> {
+    let (w, at) = number_at(v, 0)?;
+    let (k, at) = number_at(v, at)?;
+    let (n, at) = number_at(v, at)?;
+    let (seed, at) = number_at(v, at)?;
+    if at != v.len() {
+        return Err(Refusal::Extension);
+    }
+    Ok(Parameters { w, k, n, seed })
+}
+
+/// The extension at a position, if it is of type 1, and the position after it.
+fn read_extension(s: &[u8], at: usize) -> Result<(Option<Parameters>, usize), Refusal> {
+    let kind = *s.get(at).ok_or(Refusal::Extension)?;
+    if kind == 0 || kind == 255 {
+        return Err(Refusal::Extension);
+    }
+    let (len, start) = number_at(s, at + 1)?;
+    let value = s.get(start..start + len).ok_or(Refusal::Extension)?;
+    if kind != 1 {
+        return Ok((None, start + len));
+    }
+    Ok((Some(read_parameters(value)?), start + len))
+}
+
+fn read(s: &[u8]) -> Result<UnitParts, Refusal> {
+    let [first, count, w1, w0, c1, c0, ..] = *s else {
+        return Err(Refusal::Header);
+    };
+    if first / 16 != 1 || first % 2 != 0 || count == 0 {
+        return Err(Refusal::Header);
+    }
+    let mut coding = None;
+    let mut at = 6;
+    for _ in 0..count {
+        let (found, end) = read_extension(s, at)?;
+        if found.is_some() {
+            if coding.is_some() {
+                return Err(Refusal::Extension);
+            }
+            coding = found;
+        }
+        at = end;
+    }
+    Ok(UnitParts {
+        protocol: (first / 2 % 8) as usize,
+        count: count as usize,
+        lwc: u16::from_be_bytes([w1, w0]) as usize,
+        lsc: u16::from_be_bytes([c1, c0]) as usize,
+        symbol: at,
+        coding,
+    })
+}
+
+#[inline(never)]
+pub fn take(code: usize, w: usize, protocol: usize, lsc: usize, symbols: &mut [u8], marks: &mut [u8], unit: &[u8]) -> Result<Taken, Refusal> {
+    let layout = check_block(code, w, protocol, lsc, symbols, marks)?;
+    let parts = read(unit)?;
+    if parts.coding != Some(Parameters { w, k: layout.k, n: layout.n(), seed: 0 }) {
+        return Err(Refusal::Parameters);
+    }
+    if parts.lsc != lsc || parts.protocol != protocol {
+        return Err(Refusal::Foreign);
+    }
+    if parts.lwc == 0 || parts.lwc > layout.n() {
+        return Err(Refusal::Position);
+    }
+    let symbol = &unit[parts.symbol..];
+    if symbol.len() != w {
+        return Err(Refusal::Symbol);
+    }
+    let position = parts.lwc - 1;
+    let place = &mut symbols[position * w..(position + 1) * w];
+    match marks[position] {
+        0 | 2 => {
+            marks[position] = 1;
+            place.copy_from_slice(symbol);
+            Ok(Taken::Kept)
+        }
+        1 if place == symbol => Ok(Taken::Repeated),
+        1 => Err(Refusal::Conflict),
+        _ => Err(Refusal::Mark),
+    }
+}

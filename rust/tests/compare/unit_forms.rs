@@ -1,0 +1,189 @@
+//! Units in all forms, from readable to nonsense.
+use super::drafts::{padded_sdnv, Draft, Extension};
+use super::random::Random;
+use super::units::Reader;
+use super::{Difference, Stats};
+use crate::model::{codes, units, Code, Fault};
+
+/// Each byte of a few units with each value; each unit cut off at each length, and longer.
+pub fn altered(fault: Fault, random: &mut Random) -> Result<Stats, Difference> {
+    let mut stats = Stats::default();
+    for (code, w) in [(&codes::C1, 3), (&codes::C2, 1), (&codes::C1, 200)] {
+        let mut reader = Reader::new(code, w, fault);
+        for lwc in [1, code.k, code.k + 1, code.n] {
+            let plain = reader.draft(lwc, random);
+            let mut dressed = plain.clone();
+            dressed.extensions[0].length = padded_sdnv(dressed.extensions[0].value.len(), 2);
+            dressed.extensions.insert(0, Extension::new(7, vec![1, 2, 3]));
+            dressed.extensions.push(Extension::new(254, vec![0x80; 4]));
+            for draft in [plain, dressed] {
+                let unit = draft.bytes();
+                reader.compare(&unit)?;
+                for length in 0..unit.len() {
+                    reader.compare(&unit[..length])?;
+                }
+                for more in [1, 2, 100] {
+                    reader.compare(&[unit.clone(), vec![0; more]].concat())?;
+                }
+                for place in 0..unit.len() {
+                    for value in 0..=255 {
+                        let mut other = unit.clone();
+                        other[place] = value;
+                        reader.compare(&other)?;
+                    }
+                }
+            }
+        }
+        stats += reader.stats;
+    }
+    Ok(stats)
+}
+
+/// Forms of a number: shortest and padded to five bytes, then too long, too large, and unfinished.
+fn forms(value: usize) -> Vec<Vec<u8>> {
+    let shortest = units::sdnv(value).len();
+    let mut forms: Vec<Vec<u8>> = (0..=7 - shortest).map(|zeros| padded_sdnv(value, zeros)).collect();
+    let mut unfinished = units::sdnv(value);
+    *unfinished.last_mut().unwrap() |= 0x80;
+    forms.push(unfinished);
+    forms
+}
+
+/// Numbers about the borders of one to five groups and of 32 bits.
+fn border_numbers() -> Vec<usize> {
+    let borders = [1 << 7, 1 << 14, 1 << 21, 1 << 28, 1 << 32, 1 << 35];
+    let mut numbers = vec![0, 1, 2, 3, 512, 768, 2048, 3072, 1 << 31, (1 << 33) + 3, (1 << 32) + 512];
+    numbers.extend(borders.into_iter().flat_map(|border| [border - 2, border - 1, border, border + 1]));
+    numbers
+}
+
+/// All forms of such numbers as each of the four parameters and as lengths.
+pub fn numbers(fault: Fault, random: &mut Random) -> Result<Stats, Difference> {
+    let code = &codes::C1;
+    let mut reader = Reader::new(code, 3, fault);
+    for number in border_numbers().into_iter().chain([3, code.k, code.n, 0]) {
+        for form in forms(number) {
+            for slot in 0..4 {
+                let mut parameters = [3, code.k, code.n, 0].map(units::sdnv);
+                parameters[slot] = form.clone();
+                let mut draft = reader.draft(1 + random.below(code.n), random);
+                draft.extensions = vec![Extension::new(1, parameters.concat())];
+                reader.compare(&draft.bytes())?;
+            }
+            for kind in [1, 2] {
+                let mut draft = reader.draft(1 + random.below(code.n), random);
+                draft.extensions[0].kind = kind;
+                draft.extensions[0].length = form.clone();
+                reader.compare(&draft.bytes())?;
+            }
+        }
+    }
+    Ok(reader.stats)
+}
+
+/// Type 1 with all forms of its true length, of lengths that leave out or take in some bytes, with fewer and more numbers, and cut.
+pub fn values(fault: Fault, random: &mut Random) -> Result<Stats, Difference> {
+    let code = &codes::C1;
+    let mut reader = Reader::new(code, 3, fault);
+    let proper = reader.draft(1, random);
+    let value = &proper.extensions[0].value;
+    let mut extensions = Vec::new();
+    for length in value.len() - 2..value.len() + 5 {
+        extensions.extend(forms(length).into_iter().map(|length| Extension { kind: 1, length, value: value.clone() }));
+    }
+    for numbers in [&[3, code.k, code.n][..], &[3, code.k, code.n, 0, 0], &[0; 4]] {
+        extensions.push(Extension::new(1, numbers.iter().flat_map(|&number| units::sdnv(number)).collect()));
+    }
+    extensions.extend((0..value.len()).map(|cut| Extension::new(1, value[..cut].to_vec())));
+    for extension in extensions {
+        let mut draft = reader.draft(1 + random.below(code.n), random);
+        draft.extensions = vec![extension];
+        reader.compare(&draft.bytes())?;
+    }
+    Ok(reader.stats)
+}
+
+/// Every extension count, true and not, with type 1 at every place, twice or missing.
+pub fn counts(fault: Fault, random: &mut Random) -> Result<Stats, Difference> {
+    let code = &codes::C1;
+    let mut reader = Reader::new(code, 2, fault);
+    for count in 1..=255usize {
+        let mut draft = reader.draft(1 + random.below(code.n), random);
+        let coding = draft.extensions[0].clone();
+        let others: Vec<Extension> =
+            (0..count).map(|i| Extension::new(2 + random.below(253) as u8, vec![i as u8; random.below(4)])).collect();
+        draft.extensions = others.clone();
+        reader.compare(&draft.bytes())?;
+        for place in [0, random.below(count), count - 1] {
+            draft.extensions = others.clone();
+            draft.extensions[place] = coding.clone();
+            reader.compare(&draft.bytes())?;
+            for said in [count - 1, count + 1] {
+                let wrong = Draft { count: Some(said as u8), ..draft.clone() };
+                reader.compare(&wrong.bytes())?;
+            }
+            draft.extensions[random.below(count)] = coding.clone();
+            reader.compare(&draft.bytes())?;
+        }
+    }
+    Ok(reader.stats)
+}
+
+/// Random lists of extensions, from readable to nonsense.
+pub fn random_units(rounds: usize, fault: Fault, random: &mut Random) -> Result<Stats, Difference> {
+    let mut stats = Stats::default();
+    for (code, w) in [(&codes::C1, 1), (&codes::C1, 16), (&codes::C2, 2)] {
+        let mut reader = Reader::new(code, w, fault);
+        for _ in 0..rounds {
+            let lwc = random.below(code.n + 3);
+            let mut draft = reader.draft(lwc, random);
+            draft.extensions = (0..1 + random.below(4)).map(|_| any_extension(code, w, random)).collect();
+            if random.chance(0.1) {
+                draft.count = Some(random.below(6) as u8);
+            }
+            if random.chance(0.05) {
+                draft.symbol.truncate(random.below(w + 1));
+            }
+            reader.compare(&draft.bytes())?;
+        }
+        for _ in 0..rounds / 4 {
+            let mut unit = vec![0; random.below(40)];
+            random.fill(&mut unit);
+            if random.chance(0.8) {
+                unit.splice(..unit.len().min(2), [0x1A, 1 + random.below(3) as u8]);
+            }
+            reader.compare(&unit)?;
+        }
+        stats += reader.stats;
+    }
+    Ok(stats)
+}
+
+fn any_extension(code: &Code, w: usize, random: &mut Random) -> Extension {
+    let kind = [1, 1, 2, 254, 1 + random.below(254) as u8, random.below(256) as u8][random.below(6)];
+    let value = if kind == 1 || random.chance(0.2) {
+        let mut numbers = [w, code.k, code.n, 0].map(|number| padded_sdnv(number, random.below(3)));
+        if random.chance(0.2) {
+            numbers[random.below(4)] = any_sdnv(random);
+        }
+        numbers.concat()
+    } else {
+        let mut value = vec![0; random.below(12)];
+        random.fill(&mut value);
+        value
+    };
+    let length = match random.below(20) {
+        0 => any_sdnv(random),
+        1 => padded_sdnv(value.len() + 1, random.below(3)),
+        2 => padded_sdnv(value.len().saturating_sub(1), random.below(3)),
+        _ => padded_sdnv(value.len(), random.below(6)),
+    };
+    Extension { kind, length, value }
+}
+
+fn any_sdnv(random: &mut Random) -> Vec<u8> {
+    let numbers = border_numbers();
+    let number = numbers[random.below(numbers.len())];
+    let forms = forms(number);
+    forms[random.below(forms.len())].clone()
+}

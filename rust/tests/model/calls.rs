@@ -1,0 +1,76 @@
+//! Each call by itself, on buffers of any length and content. A refused one changes nothing.
+use super::refusals::{code_and_width, refuse_if, Record};
+use super::{closing, encoder, units, Fault};
+use lipvezor::{Closed, Taken};
+
+pub fn encode(code: usize, w: usize, information: &[u8], parity: &mut [u8], fault: Fault) -> Result<(), u8> {
+    let code = code_and_width(code, w)?;
+    refuse_if(information.len() != code.k * w || parity.len() != code.m * w, 4)?;
+    parity.copy_from_slice(&encoder::parity(code, w, information, fault));
+    Ok(())
+}
+
+/// The symbol, or nothing.
+pub fn show<'a>(code: usize, w: usize, information: &'a [u8], parity: &'a [u8], lwc: usize, fault: Fault) -> &'a [u8] {
+    let Ok(code) = code_and_width(code, w) else { return &[] };
+    if information.len() != code.k * w || parity.len() != code.m * w {
+        return &[];
+    }
+    let Some(position) = code.position(lwc, fault) else { return &[] };
+    match position.checked_sub(code.k) {
+        None => &information[position * w..][..w],
+        Some(j) => &parity[j * w..][..w],
+    }
+}
+
+pub fn write(record: Record, lwc: usize, symbol: &[u8], out: &mut [u8], fault: Fault) -> Result<(), u8> {
+    let code = record.checked()?;
+    let sample = units::write(code, record.w, record.protocol, record.lsc, 1, &vec![0; record.w]);
+    refuse_if(out.len() != sample.len(), 4)?;
+    code.position(lwc, fault).ok_or(9)?;
+    refuse_if(symbol.len() != record.w, 10)?;
+    out.copy_from_slice(&units::write(code, record.w, record.protocol, record.lsc, lwc, symbol));
+    Ok(())
+}
+
+pub fn open(record: Record, symbols: &mut [u8], marks: &mut [u8]) -> Result<(), u8> {
+    record.with_buffers(symbols.len(), marks.len())?;
+    symbols.fill(0);
+    marks.fill(0);
+    Ok(())
+}
+
+pub fn take(record: Record, symbols: &mut [u8], marks: &mut [u8], unit: &[u8], fault: Fault) -> Result<Taken, u8> {
+    let code = record.with_buffers(symbols.len(), marks.len())?;
+    let unit = record.admit(code, unit, fault)?;
+    let stored = &mut symbols[unit.position * record.w..][..record.w];
+    let mark = &mut marks[unit.position];
+    refuse_if(*mark > 2, 11)?;
+    if *mark == 1 {
+        refuse_if(*stored != unit.symbol, 12)?;
+        return Ok(Taken::Repeated);
+    }
+    stored.copy_from_slice(&unit.symbol);
+    *mark = 1;
+    Ok(Taken::Kept)
+}
+
+pub fn close(
+    record: Record,
+    symbols: &mut [u8],
+    marks: &mut [u8],
+    words: &mut [u64],
+    bytes: &mut [u8],
+    fault: Fault,
+) -> Result<Closed, u8> {
+    let code = record.with_work(symbols.len(), marks.len(), words.len(), bytes.len())?;
+    refuse_if(marks.iter().any(|&mark| mark > 2), 11)?;
+    let heard: Vec<Option<&[u8]>> =
+        symbols.chunks_exact(record.w).zip(marks.iter()).map(|(symbol, &mark)| (mark == 1).then_some(symbol)).collect();
+    let outcome = closing::close(code, record.w, &heard, fault);
+    symbols.copy_from_slice(&outcome.symbols);
+    marks.copy_from_slice(&outcome.marks);
+    words.fill(0);
+    bytes.fill(0);
+    Ok(outcome.closed)
+}

@@ -1,0 +1,110 @@
+//! The model by itself: its tables, its encoder against the check rows, its solver against enumeration.
+mod compare;
+mod model;
+
+use compare::random::Random;
+use model::{codes, encoder, solver, Fault};
+
+#[test]
+fn tables() {
+    for (code, addresses) in [(&codes::C1, 80), (&codes::C2, 72)] {
+        assert_eq!(code.table.len(), 16);
+        assert_eq!(code.table.iter().map(|row| row.len()).sum::<usize>(), addresses);
+        for row in code.table {
+            assert!(row.windows(2).all(|pair| pair[0] < pair[1]) && row.iter().all(|&y| y < code.m), "{row:?}");
+        }
+        assert_eq!((code.n, code.m, code.table.len() * code.q), (code.k + code.m, code.a * code.q, code.k));
+    }
+}
+
+/// Check row j: the sum of all u_x that touch j, plus p_j, plus p_(j - 1) where j > 0, is zero.
+#[test]
+fn encoder_and_check_rows() {
+    let mut random = compare::seeded();
+    for code in codes::BOTH {
+        for w in [1, 2, 5] {
+            let mut information = vec![0; code.k * w];
+            random.fill(&mut information);
+            let word = encoder::codeword(code, w, &information);
+            for (j, row) in code.check_rows(Fault::None).into_iter().enumerate() {
+                let mut sum = vec![0; w];
+                row.into_iter().for_each(|position| encoder::add(&mut sum, &word[position * w..][..w]));
+                assert_eq!(sum, vec![0; w], "check row {j} of C{}", code.number);
+            }
+        }
+    }
+}
+
+/// A small system, and which symbols are known.
+struct System {
+    w: usize,
+    rows: Vec<Vec<usize>>,
+    known: Vec<Option<Vec<u8>>>,
+}
+
+fn system(random: &mut Random) -> System {
+    let (n, w) = (1 + random.below(18), 1 + random.below(2));
+    let missing = random.below(n.min(12) + 1);
+    let zero = random.chance(0.3);
+    let mut known: Vec<Option<Vec<u8>>> =
+        (0..n).map(|_| Some((0..w).map(|_| if zero { 0 } else { random.next() as u8 }).collect())).collect();
+    for &position in &random.shuffled(n)[..missing] {
+        known[position] = None;
+    }
+    let density = [0.1, 0.3, 0.5][random.below(3)];
+    let rows = (0..random.below(14)).map(|_| (0..n).filter(|_| random.chance(density)).collect()).collect();
+    System { w, rows, known }
+}
+
+impl System {
+    /// All assignments of one bit of the missing symbols that satisfy every row, as bits of a number.
+    fn solutions(&self, bit: usize) -> Vec<usize> {
+        let mut missing = 0;
+        let places: Vec<Option<usize>> = self
+            .known
+            .iter()
+            .map(|symbol| {
+                symbol.is_none().then(|| {
+                    missing += 1;
+                    missing - 1
+                })
+            })
+            .collect();
+        let bit_of = |position: usize, assignment: usize| match (&self.known[position], places[position]) {
+            (Some(symbol), _) => usize::from(symbol[bit / 8] >> (bit % 8) & 1),
+            (None, place) => assignment >> place.unwrap() & 1,
+        };
+        (0..1 << missing)
+            .filter(|&assignment| self.rows.iter().all(|row| row.iter().fold(0, |sum, &position| sum ^ bit_of(position, assignment)) == 0))
+            .collect()
+    }
+}
+
+#[test]
+fn solver_and_enumeration() {
+    let mut random = compare::seeded();
+    let mut found = [0; 3];
+    for round in 0..2000 {
+        let system = system(&mut random);
+        let bits: Vec<Vec<usize>> = (0..8 * system.w).map(|bit| system.solutions(bit)).collect();
+        let known: Vec<Option<&[u8]>> = system.known.iter().map(Option::as_deref).collect();
+        let solution = solver::solve(&system.rows, system.w, &known);
+
+        let none = bits.iter().any(Vec::is_empty);
+        assert_eq!(solution.failed, none, "round {round}");
+        if none {
+            found[0] += 1;
+            continue;
+        }
+        let one = bits.iter().all(|solutions| solutions.len() == 1);
+        assert_eq!(solution.free, !one, "round {round}");
+        found[if one { 1 } else { 2 }] += 1;
+        for (place, value) in solution.values.iter().enumerate() {
+            let agreed = |solutions: &Vec<usize>| solutions.iter().all(|solution| (solution ^ solutions[0]) >> place & 1 == 0);
+            let symbol = (0..system.w).map(|byte| (0..8).map(|b| ((bits[byte * 8 + b][0] >> place & 1) as u8) << b).sum()).collect();
+            assert_eq!(*value, bits.iter().all(agreed).then_some(symbol), "round {round}, missing symbol {place}");
+        }
+    }
+    println!("compared systems with no solution, one and more: {found:?}");
+    assert!(found.iter().all(|&number| number > 100));
+}
