@@ -2,13 +2,14 @@
 -- Assumes nothing.
 use mathlib.Core.Path.{_≡_, refl, sym, ap, _∙_, subst}
 use mathlib.Core.Bool.{Bool, true, false, not, false≢true}
-use mathlib.Core.List.{List}
+use mathlib.Core.List.{List, _++_}
 use Prim.Native.Nat.{ℕ, _+_, _*_, _/_, _≤_, _<_}
-use native.Mathlib.Nat.{le-of-eq}
+use native.Mathlib.Nat.{le-of-eq, mul-le-mul-left}
 use native.Mathlib.Omega.{arith}
-use lib.ListN.{length, getD, replicate}
+use lib.ListN.{length, getD, take, drop, replicate, length-append, length-drop}
+use lib.Seq.{length-take-le}
 use Rattle.algebra.specs.Staircase.{staircase}
-use Rattle.algebra.specs.Closing.{Verdict, verdict, symbolsAfter, marksAfter, count}
+use Rattle.algebra.specs.Closing.{Verdict, verdict, count}
 use Rattle.ccsds.specs.Codes.{nOf, checksOf}
 use Rattle.ccsds.specs.Tables.{codeOf, Known}
 use Rattle.ccsds.specs.Refusals.{refused, answered}
@@ -16,93 +17,142 @@ use Rattle.ccsds.proofs.Refusals.{refused-by, kept-by, answered-by, changed-by}
 use Rattle.ccsds.proofs.Valid.{valid-of}
 use Rattle.rows.specs.System.{Same}
 use Rattle.rows.specs.Reduced.{Reduced}
-use Rattle.rows.specs.Fill.{Consistent, Fails, ConsistentIs, Filled}
+use Rattle.rows.specs.Fill.{Consistent, Fails, ConsistentIs, Stands, Filled}
 use Rattle.block.specs.Block.{checks}
-use Rattle.block.specs.System.{Built}
-use Rattle.block.specs.Close.{Report, reportOf, Close, closeRefusal, closeOf}
+use Rattle.block.specs.System.{rank, Places, Built}
+use Rattle.block.specs.Close.{Report, reportOf, closeRefusal, closeOf}
 use Rattle.block.specs.Solving.{Ready, Solved, Cleared, verdictBy, Settled}
 use Rattle.block.specs.declared.Block.{Block}
+use Rattle.block.proofs.Unknowns.{rank-most}
 use Rattle.block.proofs.Solved.{settled-no, settled-yes}
 
--- a position's place in a packed row
 whole-words : (b : Block) → Known (b .code) → checks b .n ≡ 64 * (checks b .n / 64)
 unfolding checks staircase
 whole-words b k = sym (valid-of (b .code) k .packed)
 
-pub ready-same : (b : Block) (s k l d l′ d′ : ℕ) → Ready b s k l d → l′ ≡ l → d′ ≡ d → Ready b s k l′ d′
-ready-same b s k l d l′ d′ R e f = rw (e, f) R
+pub ready-same : (b : Block) (p s k l d l′ d′ : ℕ) → Ready b p s k l d → l′ ≡ l → d′ ≡ d → Ready b p s k l′ d′
+ready-same b p s k l d l′ d′ R e f = rw (e, f) R
 
--- m and n as the code has them
-module _ (b : Block) (m n : ℕ) (em : m ≡ codeOf (b .code) .m) (en : n ≡ nOf (codeOf (b .code))) where
+-- the lengths that a block has
+module _ (b : Block) (p s k l d : ℕ) (R : Ready b p s k l d) where
+  pub some-positions : (0 < k) × (k ≤ 3072)
+  unfolding checks staircase
+  some-positions =
+      let v = valid-of (b .code) (R .known) in
+      let e : k ≡ nOf (codeOf (b .code)) = R .marks-size in
+      let h : 0 < codeOf (b .code) .m = v .some-m in
+      let n : nOf (codeOf (b .code)) ≡ codeOf (b .code) .k + codeOf (b .code) .m = refl in
+      (omega arith, omega (arith, v .few))
+
+  pub symbols-length : s ≡ k * b .w
+  symbols-length = R .symbols-size ∙ ap (λ (n : ℕ). n * b .w) (sym (R .marks-size))
+
+  -- a block of the same lengths, with the unknowns of `marks`
+  pub stands : (marks ps : List ℕ) (s′ k′ : ℕ) → length marks ≡ k → Places marks ps → s′ ≡ s → k′ ≡ k → Stands ps p k′ × (k′ * b .w ≤ s′)
+  stands marks ps s′ k′ e P es ek = (
+    record {
+      enough = let h : length ps ≡ 3072 = P .size in omega (arith, R .few);
+      each = λ u h. subst (λ (n : ℕ). getD ps u 0 < n) (e ∙ sym ek) (P .within u);
+    },
+    le-of-eq (ap (λ (n : ℕ). n * b .w) ek ∙ sym (es ∙ symbols-length)),
+  )
+
+-- m as the code has it
+module _ (b : Block) (m : ℕ) (em : m ≡ codeOf (b .code) .m) where
   to-m : m ≡ checks b .m
   unfolding checks staircase
   to-m = em
 
-  to-n : n / 64 ≡ checks b .n / 64
-  unfolding checks staircase
-  to-n = ap (λ (x : ℕ). x / 64) en
+  module _ (p s k l d : ℕ) (R : Ready b p s k l d) where
+    pub small : (p ≤ 48) × (m ≤ 1024)
+    small = let v = valid-of (b .code) (R .known) in (R .few, omega (arith, em, v .few-rows))
 
-  module _ (s k l d : ℕ) (R : Ready b s k l d) where
-    pub small : (n / 64 ≤ 48) × (m ≤ 1024)
-    small =
-        let v = valid-of (b .code) (R .known) in
-        let h : nOf (codeOf (b .code)) ≤ 3072 = v .few in
-        let p : 64 * (nOf (codeOf (b .code)) / 64) ≡ nOf (codeOf (b .code)) = v .packed in
-        let q : n / 64 ≡ nOf (codeOf (b .code)) / 64 = ap (λ (x : ℕ). x / 64) en in
-        (omega arith, omega (arith, v .few-rows))
-
-    pub work-room : (m * (n / 64 + 1) ≤ l) × (m * b .w ≤ d)
+    pub work-room : (m * (p + 1) ≤ l) × (m * b .w ≤ d)
     work-room = (
-      le-of-eq (ap (λ (x : ℕ). x * (n / 64 + 1)) to-m ∙ ap (λ (x : ℕ). checks b .m * (x + 1)) to-n ∙ sym (R .words-size)),
+      le-of-eq (ap (λ (x : ℕ). x * (p + 1)) to-m ∙ sym (R .words-size)),
       le-of-eq (ap (λ (x : ℕ). x * b .w) to-m ∙ sym (R .bytes-size)),
     )
 
-    pub block-room : (64 * (n / 64) * b .w ≤ s) × (64 * (n / 64) ≤ k)
-    block-room =
-        let e : 64 * (n / 64) ≡ checks b .n = ap (λ (x : ℕ). 64 * x) to-n ∙ sym (whole-words b (R .known)) in
-        (le-of-eq (ap (λ (x : ℕ). x * b .w) e ∙ sym (R .symbols-size)), le-of-eq (e ∙ sym (R .marks-size)))
+  -- ---- the part of the words that rows over the missing positions take
 
-  pub solved : (s k l₀ d₀ l d : List ℕ) → Built (checksOf (codeOf (b .code))) (b .w) (nOf (codeOf (b .code)) / 64) s k l₀ d₀
-      → Reduced l m (n / 64) m → Same l₀ d₀ l d m (n / 64) (b .w) → Solved (checks b) (b .w) (checks b .n / 64) s k l d
-  unfolding checks staircase
-  solved s k l₀ d₀ l d B R S = record {
-    rows = l₀;
-    sides = d₀;
-    built = B;
-    same = subst (λ (x : ℕ). Same l₀ d₀ l d (checks b .m) x (b .w)) to-n (subst (λ (x : ℕ). Same l₀ d₀ l d x (n / 64) (b .w)) to-m S);
-    reduced = subst (λ (x : ℕ). Reduced l (checks b .m) x (checks b .m)) to-n (subst (λ (x : ℕ). Reduced l x (n / 64) x) to-m R);
-  }
+  module _ (s l d : ℕ) (marks : List ℕ) (R : Ready b (checks b .n / 64) s (length marks) l d) (p : ℕ) (ep : p ≡ (rank marks (length marks) + 63) / 64) where
+    pub unknowns-room : rank marks (checks b .n) ≤ 64 * p
+    unknowns-room = let e : rank marks (length marks) ≡ rank marks (checks b .n) = ap (rank marks) (R .marks-size) in omega arith
 
-  module _ (s k l d : List ℕ) (S : Solved (checks b) (b .w) (checks b .n / 64) s k l d) where
-    pub reduced : Reduced l m (n / 64) m
-    reduced = subst (λ (x : ℕ). Reduced l x (n / 64) x) (sym to-m) (subst (λ (x : ℕ). Reduced l (checks b .m) x (checks b .m)) (sym to-n) (S .reduced))
+    fewer : p ≤ checks b .n / 64
+    fewer =
+        let h : rank marks (length marks) ≤ length marks = rank-most marks (length marks) in
+        let e : length marks ≡ checks b .n = R .marks-size in
+        let f : checks b .n ≡ 64 * (checks b .n / 64) = whole-words b (R .known) in
+        omega arith
 
-    module _ (R : Ready b (length s) (length k) (length l) (length d)) (bs : (t : ℕ) → getD s t 0 < 256) (bd : (t : ℕ) → getD d t 0 < 256)
-        (s₁ k₁ : List ℕ) (C : Cleared (b .w) s k s₁ k₁ (length k)) (ss : length s₁ ≡ length s) (sk : length k₁ ≡ length k)
-        (ok : Bool) (A : ConsistentIs l d m (n / 64) (b .w) ok) where
-      cleared : Cleared (b .w) s k s₁ k₁ (checks b .n)
-      cleared = subst (Cleared (b .w) s k s₁ k₁) (R .marks-size) C
+    pub part-room : (p ≤ 48) × (m * (p + 1) ≤ l)
+    part-room =
+        let h : p + 1 ≤ checks b .n / 64 + 1 = omega (arith, fewer) in (
+          omega (arith, fewer, R .few),
+          subst (λ (t : ℕ). m * (p + 1) ≤ t) (ap (λ (x : ℕ). x * (checks b .n / 64 + 1)) to-m ∙ sym (R .words-size)) (mul-le-mul-left m h),
+        )
 
-      pub not-settled : not ok ≡ true → Settled (checks b) (b .w) s k s₁ k₁ false
-      not-settled t =
-          settled-no (checks b) (b .w) (checks b .n / 64) s k l d (whole-words b (R .known)) S bd bs (R .some) s₁ k₁ cleared (ss ∙ R .symbols-size) (sk ∙ R .marks-size)
-          (subst (λ (x : ℕ). Fails l d (checks b .m) x (b .w)) to-n (subst (λ (x : ℕ). Fails l d x (n / 64) (b .w)) to-m (go ok t A)))
-        where
-          go : (r : Bool) → not r ≡ true → ConsistentIs l d m (n / 64) (b .w) r → Fails l d m (n / 64) (b .w)
-          go true e a = absurd (false≢true e)
-          go false e a = a
+    pub ready-part : (t : ℕ) → t ≡ m * (p + 1) → Ready b p s (length marks) t d
+    ready-part t e = record {
+      known = R .known;
+      some = R .some;
+      most = R .most;
+      symbols-size = R .symbols-size;
+      marks-size = R .marks-size;
+      words-size = e ∙ ap (λ (x : ℕ). x * (p + 1)) to-m;
+      bytes-size = R .bytes-size;
+      few = part-room .0;
+    }
 
-      pub filled : not ok ≡ false → (s₂ k₂ : List ℕ) → Filled l d s₁ k₁ s₂ k₂ (n / 64) (b .w) m → length s₂ ≡ length s₁ → length k₂ ≡ length k₁
-          → Settled (checks b) (b .w) s k s₂ k₂ true
-      filled t s₂ k₂ F es ek =
-          settled-yes (checks b) (b .w) (checks b .n / 64) s k l d (whole-words b (R .known)) S bd bs (R .some) s₁ k₁ cleared
-          (subst (λ (x : ℕ). Consistent l d (checks b .m) x (b .w)) to-n (subst (λ (x : ℕ). Consistent l d x (n / 64) (b .w)) to-m (go ok t A)))
-          s₂ k₂ (subst (λ (x : ℕ). Filled l d s₁ k₁ s₂ k₂ x (b .w) (checks b .m)) to-n (subst (Filled l d s₁ k₁ s₂ k₂ (n / 64) (b .w)) to-m F))
-          (es ∙ ss ∙ R .symbols-size) (ek ∙ sk ∙ R .marks-size)
-        where
-          go : (r : Bool) → not r ≡ false → ConsistentIs l d m (n / 64) (b .w) r → Consistent l d m (n / 64) (b .w)
-          go true e a = a
-          go false e a = absurd (false≢true (sym e))
+  -- ---- the steps
+
+  module _ (p : ℕ) (s k l d : List ℕ) where
+    pub solved : (l₀ d₀ : List ℕ) → rank k (checks b .n) ≤ 64 * p → Built (checksOf (codeOf (b .code))) (b .w) p s k l₀ d₀
+        → Reduced l m p m → Same l₀ d₀ l d m p (b .w) → Solved (checks b) (b .w) p s k l d
+    unfolding checks staircase
+    solved l₀ d₀ h B R S = record {
+      rows = l₀;
+      sides = d₀;
+      room = h;
+      built = B;
+      same = subst (λ (x : ℕ). Same l₀ d₀ l d x p (b .w)) to-m S;
+      reduced = subst (λ (x : ℕ). Reduced l x p x) to-m R;
+    }
+
+    module _ (S : Solved (checks b) (b .w) p s k l d) where
+      pub reduced : Reduced l m p m
+      reduced = subst (λ (x : ℕ). Reduced l x p x) (sym to-m) (S .reduced)
+
+      module _ (R : Ready b p (length s) (length k) (length l) (length d)) (bs : (t : ℕ) → getD s t 0 < 256) (bd : (t : ℕ) → getD d t 0 < 256)
+          (ps : List ℕ) (P : Places k ps) (s₁ k₁ : List ℕ) (C : Cleared (b .w) s k s₁ k₁ (length k)) (ss : length s₁ ≡ length s) (sk : length k₁ ≡ length k)
+          (ok : Bool) (A : ConsistentIs l d m p (b .w) ok) where
+        cleared : Cleared (b .w) s k s₁ k₁ (checks b .n)
+        cleared = subst (Cleared (b .w) s k s₁ k₁) (R .marks-size) C
+
+        pub not-settled : not ok ≡ true → Settled (checks b) (b .w) s k s₁ k₁ false
+        not-settled t =
+            settled-no (checks b) (b .w) p s k ps l d (R .marks-size) P S bd bs (R .some) s₁ k₁ cleared (ss ∙ R .symbols-size) (sk ∙ R .marks-size)
+            (subst (λ (x : ℕ). Fails l d x p (b .w)) to-m (go ok t A))
+          where
+            go : (r : Bool) → not r ≡ true → ConsistentIs l d m p (b .w) r → Fails l d m p (b .w)
+            go true e a = absurd (false≢true e)
+            go false e a = a
+
+        pub filled : not ok ≡ false → (s₂ k₂ : List ℕ) → Filled l d ps s₁ k₁ s₂ k₂ p (b .w) m → length s₂ ≡ length s₁ → length k₂ ≡ length k₁
+            → Settled (checks b) (b .w) s k s₂ k₂ true
+        filled t s₂ k₂ F es ek =
+            settled-yes (checks b) (b .w) p s k ps l d (R .marks-size) P S bd bs (R .some) s₁ k₁ cleared
+            (subst (λ (x : ℕ). Consistent l d x p (b .w)) to-m (go ok t A))
+            s₂ k₂ (subst (Filled l d ps s₁ k₁ s₂ k₂ p (b .w)) to-m F) (sk ∙ R .marks-size) (es ∙ ss ∙ R .symbols-size) (ek ∙ sk ∙ R .marks-size)
+          where
+            go : (r : Bool) → not r ≡ false → ConsistentIs l d m p (b .w) r → Consistent l d m p (b .w)
+            go true e a = a
+            go false e a = absurd (false≢true (sym e))
+
+-- a part at the front put back keeps the length
+pub part-back : (l l′ : List ℕ) (n : ℕ) → n ≤ length l → length l′ ≡ length (take n l) → length (l′ ++ drop n l) ≡ length l
+part-back l l′ n h e = rw (length-append, e, length-take-le n l h, length-drop) (omega arith)
 
 -- ---- the report
 

@@ -3,7 +3,7 @@
 use mathlib.Core.Path.{_≡_}
 use mathlib.Core.Bool.{Bool, true, false, not, _&&_, cond}
 use mathlib.Core.List.{List}
-use Prim.Native.Nat.{ℕ, zero, suc, _+_, _*_, _/_, _<_, _≤_}
+use Prim.Native.Nat.{ℕ, zero, suc, _+_, _*_, _<_, _≤_}
 use lib.Dec.{ltb}
 use lib.ListN.{getD}
 use Rattle.algebra.specs.Codeword.{Checks, byteAt}
@@ -12,23 +12,25 @@ use Rattle.ccsds.specs.Tables.{Known}
 use Rattle.rows.specs.System.{Same}
 use Rattle.rows.specs.Reduced.{Reduced}
 use Rattle.block.specs.Block.{checks}
-use Rattle.block.specs.System.{Built}
+use Rattle.block.specs.System.{rank, Built}
 use Rattle.block.specs.declared.Block.{Block}
 
--- a record and the lengths of its four buffers of which no number up to 4 applies
-pub record Ready (b : Block) (symbols marks words bytes : ℕ) : Type 0 where
+-- a record and the lengths of its four buffers of which no number up to 4 applies, where a packed row has so many words of unknowns
+pub record Ready (b : Block) (packed symbols marks words bytes : ℕ) : Type 0 where
   pub known : Known (b .code)
   pub some : 0 < b .w
   pub most : b .w ≤ 1024
   pub symbols-size : symbols ≡ checks b .n * b .w
   pub marks-size : marks ≡ checks b .n
-  pub words-size : words ≡ checks b .m * (checks b .n / 64 + 1)
+  pub words-size : words ≡ checks b .m * (packed + 1)
   pub bytes-size : bytes ≡ checks b .m * b .w
+  pub few : packed ≤ 48
 
 -- l and d are reduced equations with the solutions of those that were built
 pub record Solved (c : Checks) (w words : ℕ) (symbols marks l d : List ℕ) : Type 0 where
   pub rows : List ℕ
   pub sides : List ℕ
+  pub room : rank marks (c .n) ≤ 64 * words
   pub built : Built c w words symbols marks rows sides
   pub same : Same rows sides l d (c .m) words w
   pub reduced : Reduced l (c .m) words (c .m)

@@ -11,6 +11,7 @@ ghost use Rattle.algebra.specs.Closing.{heard, count};
 ghost use Rattle.block.specs.Block.{checks};
 ghost use Rattle.block.specs.Take.{stored};
 ghost use Rattle.block.specs.Close.{wrongMarks, reportOf, closeRefusal, closeOf, verdictAs, reportAs, closedAs};
+ghost use Rattle.block.specs.System.{rank};
 ghost use Rattle.block.specs.Solving.{Ready, Solved, Cleared, verdictBy, Settled};
 
 pub enum Verdict {
@@ -109,32 +110,71 @@ fn count_marks(marks: &[u8], v: u8) -> usize
     n
 }
 
+// How many words hold an unknown for each missing position.
+fn packed_words(marks: &[u8]) -> usize
+    ensures { λ r. ⌜ r ≡ (rank (now (marks .entry)) (length (now (marks .entry))) + 63) / 64 ⌝ }
+{
+    (system::missing(marks) + 63) / 64
+}
+
 // The equations of the missing symbols, reduced, into the work buffers.
-fn reduce(b: Block, symbols: &[u8], marks: &[u8], words: &mut [u64], bytes: &mut [u8])
-    requires { ⌜ Ready b (length (now symbols)) (length (now marks)) (length (now words)) (length (now bytes)) ⌝ }
-    ensures { λ _. ⌜ Solved (checks b) (b .w) (checks b .n / 64) (now (symbols .entry)) (now (marks .entry)) (now (words .exit)) (now (bytes .exit)) ⌝ }
+fn reduce(
+    b: Block,
+    packed: usize,
+    symbols: &[u8],
+    marks: &[u8],
+    words: &mut [u64],
+    bytes: &mut [u8],
+)
+    requires { ⌜ Ready b packed (length (now symbols)) (length (now marks)) (length (now words)) (length (now bytes)) ⌝ }
+    requires { ⌜ rank (now marks) (checks b .n) ≤ 64 * packed ⌝ }
+    ensures { λ _. ⌜ Solved (checks b) (b .w) packed (now (symbols .entry)) (now (marks .entry)) (now (words .exit)) (now (bytes .exit)) ⌝ }
 {
     let code = Code { number: b.code };
-    system::build(b.code, b.w, symbols, marks, words, bytes);
-    rows::eliminate(words, bytes, code.m(), code.n() / 64, b.w);
+    system::build(b.code, b.w, packed, symbols, marks, words, bytes);
+    rows::eliminate(words, bytes, code.m(), packed, b.w);
 }
 
 // What is read off them: whether there is a solution, and each symbol that all solutions have.
-fn settle(b: Block, symbols: &mut [u8], marks: &mut [u8], words: &[u64], bytes: &[u8]) -> bool
-    requires { ⌜ Ready b (length (now symbols)) (length (now marks)) (length (now words)) (length (now bytes)) ⌝ }
-    requires { ⌜ Solved (checks b) (b .w) (checks b .n / 64) (now symbols) (now marks) (now words) (now bytes) ⌝ }
+fn settle(
+    b: Block,
+    packed: usize,
+    symbols: &mut [u8],
+    marks: &mut [u8],
+    words: &[u64],
+    bytes: &[u8],
+) -> bool
+    requires { ⌜ Ready b packed (length (now symbols)) (length (now marks)) (length (now words)) (length (now bytes)) ⌝ }
+    requires { ⌜ Solved (checks b) (b .w) packed (now symbols) (now marks) (now words) (now bytes) ⌝ }
     ensures { λ r. ⌜ Settled (checks b) (b .w) (now (symbols .entry)) (now (marks .entry)) (now (symbols .exit)) (now (marks .exit)) r ⌝ }
 {
     let code = Code { number: b.code };
     let m = code.m();
-    let packed = code.n() / 64;
     let w = b.w;
+    let places = system::places(marks);
     clear_missing(w, symbols, marks);
     if !rows::solution::consistent(words, bytes, m, packed, w) {
         return false;
     }
-    rows::solution::fill(words, bytes, symbols, marks, m, packed, w);
+    rows::solution::fill(words, bytes, symbols, marks, &places, m, packed, w);
     true
+}
+
+// Both, with the rows in m × (packed + 1) words.
+fn solve(
+    b: Block,
+    packed: usize,
+    symbols: &mut [u8],
+    marks: &mut [u8],
+    words: &mut [u64],
+    bytes: &mut [u8],
+) -> bool
+    requires { ⌜ Ready b packed (length (now symbols)) (length (now marks)) (length (now words)) (length (now bytes)) ⌝ }
+    requires { ⌜ rank (now marks) (checks b .n) ≤ 64 * packed ⌝ }
+    ensures { λ r. ⌜ Settled (checks b) (b .w) (now (symbols .entry)) (now (marks .entry)) (now (symbols .exit)) (now (marks .exit)) r ⌝ }
+{
+    reduce(b, packed, symbols, marks, words, bytes);
+    settle(b, packed, symbols, marks, words, bytes)
 }
 
 // The verdict, by whether there is a solution and by how many positions are left.
@@ -184,8 +224,10 @@ pub fn close(
     if refusal != 0 {
         return Closed::Refused(refusal);
     }
-    reduce(b, symbols, marks, words, bytes);
-    let ok = settle(b, symbols, marks, words, bytes);
+    let packed = packed_words(marks);
+    let code = Code { number: b.code };
+    let used = code.m() * (packed + 1);
+    let ok = solve(b, packed, symbols, marks, &mut words[..used], bytes);
     buffers::clear_words(words);
     buffers::clear(bytes);
     Closed::Told(tell(ok, marks))

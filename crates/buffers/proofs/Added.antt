@@ -57,5 +57,10 @@ module _ (d : List ℕ) (at : ℕ) (s : List ℕ) (from : ℕ) where
   pub added-all : (n w : ℕ) (l : List ℕ) → l ≡ added d at s from n → n ≡ w → l ≡ added d at s from w
   added-all n w l e h = e ∙ ap (added d at s from) h
 
-  pub kept-below : (n : ℕ) (l : List ℕ) → l ≡ added d at s from n → (t : ℕ) → t < at → getD l t 0 ≡ getD d t 0
-  kept-below n l e t h = ap (λ (k : List ℕ). getD k t 0) e ∙ added-below n t h
+-- only the bytes that are added matter, not where they stand
+pub added-same : (d : List ℕ) (to : ℕ) (s : List ℕ) (from : ℕ) (t : List ℕ) (at n : ℕ) → ((b : ℕ) → b < n → getD s (from + b) 0 ≡ getD t (at + b) 0)
+    → added d to s from n ≡ added d to t at n
+unfolding added
+added-same d to s from t at zero e = refl
+added-same d to s from t at (suc n) e =
+    ap₂ (λ (l : List ℕ) (v : ℕ). set l (to + n) (getD d (to + n) 0 ⊕ v)) (added-same d to s from t at n (λ b h. e b (omega arith))) (e n (omega arith))

@@ -1,2 +1,4 @@
 pub mod Added
+pub mod Fronts
+pub mod Sums
 pub mod Zeros

@@ -2,7 +2,91 @@
 ghost use mathlib.Core.Path.{_≡_};
 ghost use Prim.Native.Nat.{_≤_, _+_};
 ghost use lib.ListN.{length, replicate};
-ghost use Rattle.buffers.specs.Parts.{added};
+ghost use Rattle.buffers.specs.Parts.{added, put, Sum, Apart};
+
+// The n bytes of dst from index `at` on, each with the byte of src added that stands as far from index `from`. For n = 16 and n = 64, since the compiler
+// needs the number to make vector instructions of the loop. An array of its own overlaps with nothing, so no test of that is made.
+fn sum_16(dst: &[u8], at: usize, src: &[u8], from: usize) -> [u8; 16]
+    requires { ⌜ (at + 16 ≤ length (now dst)) × (from + 16 ≤ length (now src)) ⌝ }
+    ensures { λ r. ⌜ Sum (now (dst .entry)) at (now (src .entry)) from 16 r ⌝ }
+{
+    let mut t = [0u8; 16];
+    let mut i = 0;
+    while i < 16 {
+        t[i] = dst[at + i] ^ src[from + i];
+        i += 1;
+    }
+    t
+}
+
+fn sum_64(dst: &[u8], at: usize, src: &[u8], from: usize) -> [u8; 64]
+    requires { ⌜ (at + 64 ≤ length (now dst)) × (from + 64 ≤ length (now src)) ⌝ }
+    ensures { λ r. ⌜ Sum (now (dst .entry)) at (now (src .entry)) from 64 r ⌝ }
+{
+    let mut t = [0u8; 64];
+    let mut i = 0;
+    while i < 64 {
+        t[i] = dst[at + i] ^ src[from + i];
+        i += 1;
+    }
+    t
+}
+
+// Puts the bytes of t over those of dst from index `at` on.
+fn put_16(dst: &mut [u8], at: usize, t: &[u8; 16])
+    requires { ⌜ (at + 16 ≤ length (now dst)) × (length (now t) ≡ 16) ⌝ }
+    ensures { λ _. ⌜ now (dst .exit) ≡ put (now (dst .entry)) at (now (t .entry)) 16 ⌝ }
+{
+    let mut i = 0;
+    while i < 16 {
+        dst[at + i] = t[i];
+        i += 1;
+    }
+}
+
+fn put_64(dst: &mut [u8], at: usize, t: &[u8; 64])
+    requires { ⌜ (at + 64 ≤ length (now dst)) × (length (now t) ≡ 64) ⌝ }
+    ensures { λ _. ⌜ now (dst .exit) ≡ put (now (dst .entry)) at (now (t .entry)) 64 ⌝ }
+{
+    let mut i = 0;
+    while i < 64 {
+        dst[at + i] = t[i];
+        i += 1;
+    }
+}
+
+// Adds 16 or 64 bytes of src, or of the same buffer. Each is a function of its own: inside the loops below the array would be kept in memory.
+fn add_16(dst: &mut [u8], at: usize, src: &[u8], from: usize)
+    requires { ⌜ (at + 16 ≤ length (now dst)) × (from + 16 ≤ length (now src)) ⌝ }
+    ensures { λ _. ⌜ now (dst .exit) ≡ added (now (dst .entry)) at (now (src .entry)) from 16 ⌝ }
+{
+    let t = sum_16(dst, at, src, from);
+    put_16(dst, at, &t);
+}
+
+fn add_64(dst: &mut [u8], at: usize, src: &[u8], from: usize)
+    requires { ⌜ (at + 64 ≤ length (now dst)) × (from + 64 ≤ length (now src)) ⌝ }
+    ensures { λ _. ⌜ now (dst .exit) ≡ added (now (dst .entry)) at (now (src .entry)) from 64 ⌝ }
+{
+    let t = sum_64(dst, at, src, from);
+    put_64(dst, at, &t);
+}
+
+fn add_within_16(buf: &mut [u8], at: usize, from: usize)
+    requires { ⌜ (at + 16 ≤ length (now buf)) × (from + 16 ≤ length (now buf)) ⌝ }
+    ensures { λ _. ⌜ now (buf .exit) ≡ added (now (buf .entry)) at (now (buf .entry)) from 16 ⌝ }
+{
+    let t = sum_16(buf, at, buf, from);
+    put_16(buf, at, &t);
+}
+
+fn add_within_64(buf: &mut [u8], at: usize, from: usize)
+    requires { ⌜ (at + 64 ≤ length (now buf)) × (from + 64 ≤ length (now buf)) ⌝ }
+    ensures { λ _. ⌜ now (buf .exit) ≡ added (now (buf .entry)) at (now (buf .entry)) from 64 ⌝ }
+{
+    let t = sum_64(buf, at, buf, from);
+    put_64(buf, at, &t);
+}
 
 // Adds len bytes of src, from index `from` on, to those of dst from index `at` on.
 pub fn add_from(dst: &mut [u8], at: usize, src: &[u8], from: usize, len: usize)
@@ -10,22 +94,47 @@ pub fn add_from(dst: &mut [u8], at: usize, src: &[u8], from: usize, len: usize)
     ensures { λ _. ⌜ now (dst .exit) ≡ added (now (dst .entry)) at (now (src .entry)) from len ⌝ }
 {
     let mut i = 0;
+    while len - i >= 64 {
+        add_64(dst, at + i, src, from + i);
+        i += 64;
+    }
+    while len - i >= 16 {
+        add_16(dst, at + i, src, from + i);
+        i += 16;
+    }
     while i < len {
         dst[at + i] = dst[at + i] ^ src[from + i];
         i += 1;
     }
 }
 
-// The same with len earlier bytes of the same buffer.
-pub fn add_earlier(buf: &mut [u8], at: usize, from: usize, len: usize)
-    requires { ⌜ (from + len ≤ at) × (at + len ≤ length (now buf)) ⌝ }
+// The same with len bytes of the same buffer, apart from those that they are added to.
+pub fn add_within(buf: &mut [u8], at: usize, from: usize, len: usize)
+    requires { ⌜ Apart at from len ⌝ }
+    requires { ⌜ (at + len ≤ length (now buf)) × (from + len ≤ length (now buf)) ⌝ }
     ensures { λ _. ⌜ now (buf .exit) ≡ added (now (buf .entry)) at (now (buf .entry)) from len ⌝ }
 {
     let mut i = 0;
+    while len - i >= 64 {
+        add_within_64(buf, at + i, from + i);
+        i += 64;
+    }
+    while len - i >= 16 {
+        add_within_16(buf, at + i, from + i);
+        i += 16;
+    }
     while i < len {
         buf[at + i] = buf[at + i] ^ buf[from + i];
         i += 1;
     }
+}
+
+// The same with earlier bytes.
+pub fn add_earlier(buf: &mut [u8], at: usize, from: usize, len: usize)
+    requires { ⌜ (from + len ≤ at) × (at + len ≤ length (now buf)) ⌝ }
+    ensures { λ _. ⌜ now (buf .exit) ≡ added (now (buf .entry)) at (now (buf .entry)) from len ⌝ }
+{
+    add_within(buf, at, from, len);
 }
 
 // Sets every byte to 0.

@@ -5,7 +5,6 @@ pub mod Refusals
 pub mod Address
 pub mod Columns
 pub mod Turns
-pub mod Fronts
 pub mod EncodeRefusal
 pub mod Claims
 pub mod Samples

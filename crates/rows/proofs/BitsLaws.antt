@@ -9,13 +9,14 @@ use native.Mathlib.Nat.{one-mul, mod-lt, zero-lt-suc}
 use native.Mathlib.Omega.{arith}
 use lib.Pow.{shl-exact, pow-lt}
 use lib.Count.{trailingZeros}
-use lib.ListN.{length, getD, set}
+use lib.ListN.{length, getD, set, length-set}
 use lib.Seq.{getD-set-same, getD-set-other}
 use lib.Bits.{bitOr}
 use lib.Dec.{eqb}
 use borrow.Author.Tests.{eq-eqb, ne-eqb}
 use Rattle.rows.proofs.Order.{lt-or-le, eq-or-ne}
 use Rattle.rows.proofs.Digits.{testBit-none, testBit-or, testBit-pow, testBit-differ, LowestSet, trailing-lowest}
+use Rattle.rows.proofs.SweepLaws.{rows-apart}
 use Rattle.rows.specs.declared.bits.Found.the-variants.{At}
 use Rattle.rows.specs.Bits.{testBit, rowBit, setRowBit, LowestIs, OnlyIs}
 
@@ -25,7 +26,7 @@ use Rattle.rows.specs.Bits.{testBit, rowBit, setRowBit, LowestIs, OnlyIs
 pub one-shifted : (q : ℕ) → q < 64 → (1 * 2 ^ q) % 2 ^ 64 ≡ 2 ^ q
 one-shifted q h = shl-exact {a = 1} 1 q 64 (omega arith) (omega arith) ∙ one-mul (2 ^ q)
 
--- the positions of word i, as digits
+-- the unknowns of word i, as digits
 in-word : (l : List ℕ) (base i q : ℕ) → 64 * i ≤ q → q < 64 * i + 64 → rowBit l base q ≡ testBit (getD l (base + i) 0) (q - 64 * i)
 unfolding rowBit
 in-word l base i q lo hi =
@@ -34,12 +35,12 @@ in-word l base i q lo hi =
     ap₂ (λ (x y : ℕ). testBit (getD l (base + x) 0) y) e d
 
 module _ (l : List ℕ) (base i : ℕ) (before : (q : ℕ) → q < 64 * i → rowBit l base q ≡ false) where
-  -- word i is 0: no position up to its end is set
+  -- word i is 0: the row has no unknown up to its end
   pub row-more : getD l (base + i) 0 ≡ 0 → (q : ℕ) → q < 64 * (i + 1) → rowBit l base q ≡ false
   row-more z q h =
       ⊎-elim (λ lo. before q lo) (λ hi. in-word l base i q hi (omega arith) ∙ ap (λ (x : ℕ). testBit x (q - 64 * i)) z ∙ testBit-none (q - 64 * i)) (lt-or-le q (64 * i))
 
-  -- word i is not 0: its lowest set digit is the row's lowest set position
+  -- word i is not 0: its lowest set digit is the row's lowest unknown
   pub row-found : (words : ℕ) → i < words → 0 < getD l (base + i) 0 → getD l (base + i) 0 < 2 ^ 64
       → LowestIs (rowBit l base) (64 * words) (At (i * 64 + trailingZeros 64 (getD l (base + i) 0)))
   row-found words hi pos fit =
@@ -98,15 +99,15 @@ module _ (l : List ℕ) (base p i : ℕ) where
       λ k. r .1 .1 (ap (testBit word) k ∙ here ∙ sym (testBit-pow (p % 64) j ∙ eq-eqb j (p % 64) k)) in
       other words j hi (r .1 .0) (λ k. apart (omega (arith, r .1 .0))) (not-false (testBit word j) (λ k. r .1 .1 (k ∙ sym (testBit-pow (p % 64) j ∙ ne-eqb j (p % 64) apart))))
 
--- ---- what a set position says of the others
+-- ---- an unknown is put into a row
 
 module _ (l : List ℕ) (base p : ℕ) where
-  -- a position in another word
+  -- an unknown in another word
   pub rowBit-set-else : (base′ q : ℕ) → (base′ + q / 64 ≡ base + p / 64 → ⊥) → rowBit (setRowBit l base p) base′ q ≡ rowBit l base′ q
   unfolding rowBit setRowBit
   rowBit-set-else base′ q ne = ap (λ (x : ℕ). testBit x (q % 64)) (getD-set-other l (base + p / 64) (base′ + q / 64) _ 0 ne)
 
-  -- a position in the same row
+  -- an unknown of the same row
   pub rowBit-set : base + p / 64 < length l → (q : ℕ) → rowBit (setRowBit l base p) base q ≡ (rowBit l base q || eqb q p)
   unfolding rowBit setRowBit
   rowBit-set fit q = ⊎-elim (λ e. here e ∙ ap (λ (b : Bool). rowBit l base q || b) (same e)) (λ ne. there ne) (eq-or-ne (q / 64) (p / 64))
@@ -127,3 +128,17 @@ module _ (l : List ℕ) (base p : ℕ) where
       there ne =
           rowBit-set-else base q (λ e. ne (omega arith)) ∙ sym (or-false (rowBit l base q))
           ∙ ap (λ (b : Bool). rowBit l base q || b) (sym (ne-eqb q p (λ s. ne (ap (λ (x : ℕ). x / 64) s))))
+
+pub length-setRowBit : (l : List ℕ) (base p : ℕ) → length (setRowBit l base p) ≡ length l
+unfolding setRowBit
+length-setRowBit l base p = simp length-set
+
+-- the same where unknown q is put into row j: what row j has then, and what the other rows have
+pub set-bit : (l : List ℕ) (words j q : ℕ) → j * (words + 1) + (words + 1) ≤ length l → q < 64 * words
+    → (p : ℕ) → rowBit (setRowBit l (j * (words + 1)) q) (j * (words + 1)) p ≡ (rowBit l (j * (words + 1)) p || eqb p q)
+set-bit l words j q fit within p = rowBit-set l (j * (words + 1)) q (omega arith) p
+
+pub set-bit-else : (l : List ℕ) (words j q : ℕ) → q < 64 * words
+    → (i p : ℕ) → i ≢ j → p < 64 * words → rowBit (setRowBit l (j * (words + 1)) q) (i * (words + 1)) p ≡ rowBit l (i * (words + 1)) p
+set-bit-else l words j q within i p ne h =
+    rowBit-set-else l (j * (words + 1)) q (i * (words + 1)) p (λ e. rows-apart i j (words + 1) ne (p / 64) (q / 64) (omega arith) (omega arith) e)

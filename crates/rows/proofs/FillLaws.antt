@@ -11,7 +11,7 @@ use lib.ListN.{length, getD}
 use lib.Seq.{getD-set-same, getD-set-other}
 use Rattle.rows.proofs.Order.{eq-or-ne}
 use Rattle.algebra.proofs.Codeword.{slot}
-use Rattle.rows.proofs.PartsLaws.{putFrom-in, putFrom-out}
+use Rattle.rows.proofs.PartsLaws.{copyFrom-in, copyFrom-out}
 use Rattle.rows.specs.Parts.{AllZeroIs}
 use Rattle.rows.specs.Bits.{rowBit, OnlyIs}
 use Rattle.rows.proofs.SweepLaws.{rows-apart}
@@ -31,59 +31,64 @@ word-pivot l m words s p (inr v) z =
 
 -- ---- one row more
 
-module _ (l d a b a′ b′ a″ b″ : List ℕ) (words width k : ℕ) (fa : 64 * words * width ≤ length a′) (fb : 64 * words ≤ length b′) where
+module _ (l d ps a b a′ b′ a″ b″ : List ℕ) (words width k : ℕ) (fb : length b′ ≡ length b) (fa : length b * width ≤ length a′) where
   abbrev Was : ℕ → Type 0
-  Was q = Settled l d a′ b′ words width k q ⊎ Left l a b a′ b′ words width k q
+  Was i = Settled l d ps a′ b′ words width k i ⊎ Left l ps a b a′ b′ words width k i
 
   abbrev Is : ℕ → Type 0
-  Is q = Settled l d a″ b″ words width (k + 1) q ⊎ Left l a b a″ b″ words width (k + 1) q
+  Is i = Settled l d ps a″ b″ words width (k + 1) i ⊎ Left l ps a b a″ b″ words width (k + 1) i
 
-  wrote-here : (p : ℕ) → Wrote l d a′ b′ a″ b″ words width k p → Settled l d a″ b″ words width (k + 1) p
-  wrote-here p w = record {
+  wrote-here : (p : ℕ) → getD ps p 0 < length b → Wrote l d ps a′ b′ a″ b″ words width k p → Settled l d ps a″ b″ words width (k + 1) (getD ps p 0)
+  wrote-here p h w = record {
     row = k;
+    unknown = p;
     below = omega arith;
     alone = w .alone;
-    marked = ap (λ (x : List ℕ). getD x p 0) (w .marks) ∙ getD-set-same b′ p 2 0 (omega (arith, w .alone .within));
-    bytes = λ i h. ap (λ (x : List ℕ). getD x (p * width + i) 0) (w .symbols)
-        ∙ putFrom-in (λ x y. y) a′ d (p * width) (k * width) width (omega (arith, slot p (64 * words) width (w .alone .within))) i h;
+    place = refl;
+    marked = ap (λ (x : List ℕ). getD x (getD ps p 0) 0) (w .marks) ∙ getD-set-same b′ (getD ps p 0) 2 0 (omega (arith, h, fb));
+    bytes = λ e he. ap (λ (x : List ℕ). getD x (getD ps p 0 * width + e) 0) (w .symbols)
+        ∙ copyFrom-in a′ d (getD ps p 0 * width) (k * width) width (omega (arith, fa, slot (getD ps p 0) (length b) width h)) e he;
   }
 
   -- a position that row k does not write
-  carry : (q : ℕ) → getD b″ q 0 ≡ getD b′ q 0 → ((i : ℕ) → i < width → getD a″ (q * width + i) 0 ≡ getD a′ (q * width + i) 0)
-      → NotAlone l words k q → Was q → Is q
-  carry q eb ea off (inl s) = inl (record {
+  carry : (i : ℕ) → getD b″ i 0 ≡ getD b′ i 0 → ((e : ℕ) → e < width → getD a″ (i * width + e) 0 ≡ getD a′ (i * width + e) 0)
+      → ((u : ℕ) → getD ps u 0 ≡ i → NotAlone l words k u) → Was i → Is i
+  carry i eb ea off (inl s) = inl (record {
     row = s .row;
+    unknown = s .unknown;
     below = omega (arith, s .below);
     alone = s .alone;
+    place = s .place;
     marked = eb ∙ s .marked;
-    bytes = λ i h. ea i h ∙ s .bytes i h;
+    bytes = λ e h. ea e h ∙ s .bytes e h;
   })
-  carry q eb ea off (inr t) = inr (record {
-    shared = λ s h e. ⊎-elim
-        (λ j. rw j (off (ap (pivotWord l words) (sym j) ∙ e)))
-        (λ lt. t .shared s lt e) (eq-or-lt-of-le (let g : s ≤ k = omega arith in g));
+  carry i eb ea off (inr t) = inr (record {
+    shared = λ s u h f e. ⊎-elim
+        (λ j. rw j (off u f (ap (pivotWord l words) (sym j) ∙ e)))
+        (λ lt. t .shared s u lt f e) (eq-or-lt-of-le (let g : s ≤ k = omega arith in g));
     marked = eb ∙ t .marked;
-    bytes = λ i h. ea i h ∙ t .bytes i h;
+    bytes = λ e h. ea e h ∙ t .bytes e h;
   })
 
-  wrote-else : (p q : ℕ) → q ≢ p → Wrote l d a′ b′ a″ b″ words width k p → Was q → Is q
-  wrote-else p q ne w =
-      carry q (ap (λ (x : List ℕ). getD x q 0) (w .marks) ∙ getD-set-other b′ p q 2 0 ne)
-      (λ i h. ap (λ (x : List ℕ). getD x (q * width + i) 0) (w .symbols)
-      ∙ putFrom-out (λ x y. y) a′ d (p * width) (k * width) width (q * width + i) (λ j hj e. rows-apart q p width ne i j h hj e))
-      (λ e. absurd (ne (omega (arith, w .alone .word))))
+  wrote-else : (p i : ℕ) → i ≢ getD ps p 0 → Wrote l d ps a′ b′ a″ b″ words width k p → Was i → Is i
+  wrote-else p i ne w =
+      carry i (ap (λ (x : List ℕ). getD x i 0) (w .marks) ∙ getD-set-other b′ (getD ps p 0) i 2 0 ne)
+      (λ e h. ap (λ (x : List ℕ). getD x (i * width + e) 0) (w .symbols)
+      ∙ copyFrom-out a′ d (getD ps p 0 * width) (k * width) width (i * width + e) (λ j hj f. rows-apart i (getD ps p 0) width ne e j h hj f))
+      (λ u f e. let same : u ≡ p = omega (arith, w .alone .word) in absurd (ne (sym f ∙ ap (λ (x : ℕ). getD ps x 0) same)))
 
-  kept : (q : ℕ) → Kept l a′ b′ a″ b″ words k → Was q → Is q
-  kept q w =
-      carry q (ap (λ (x : List ℕ). getD x q 0) (w .marks)) (λ i h. ap (λ (x : List ℕ). getD x (q * width + i) 0) (w .symbols)) (w .shared q)
+  kept : (i : ℕ) → Kept l a′ b′ a″ b″ words k → Was i → Is i
+  kept i w =
+      carry i (ap (λ (x : List ℕ). getD x i 0) (w .marks)) (λ e h. ap (λ (x : List ℕ). getD x (i * width + e) 0) (w .symbols)) (λ u f. w .shared u)
 
-  pub filled-more : Filled l d a b a′ b′ words width k → RowFilled l d a′ b′ a″ b″ words width k → Filled l d a b a″ b″ words width (k + 1)
-  filled-more f (inl w) q hq = ⊎-elim (λ e. inl (rw e (wrote-here (w .0) (w .1)))) (λ ne. wrote-else (w .0) q ne (w .1) (f q hq)) (eq-or-ne q (w .0))
-  filled-more f (inr w) q hq = kept q w (f q hq)
+  pub filled-more : Filled l d ps a b a′ b′ words width k → RowFilled l d ps a′ b′ a″ b″ words width k → Filled l d ps a b a″ b″ words width (k + 1)
+  filled-more f (inl w) i hi =
+      ⊎-elim (λ e. inl (rw e (wrote-here (w .0) (subst (λ (x : ℕ). x < length b) e hi) (w .1)))) (λ ne. wrote-else (w .0) i ne (w .1) (f i hi)) (eq-or-ne i (getD ps (w .0) 0))
+  filled-more f (inr w) i hi = kept i w (f i hi)
 
 -- no row yet
-pub filled-none : (l d a b : List ℕ) (words width : ℕ) → Filled l d a b a b words width 0
-filled-none l d a b words width q h = inr (record { shared = λ s k e. absurd (omega arith); marked = refl; bytes = λ i k. refl })
+pub filled-none : (l d ps a b : List ℕ) (words width : ℕ) → Filled l d ps a b a b words width 0
+filled-none l d ps a b words width i h = inr (record { shared = λ s u k f e. absurd (omega arith); marked = refl; bytes = λ e k. refl })
 
 -- the equations without unknowns among the first rows: one row more
 pub zeros-more : (l d : List ℕ) (words width s : ℕ)

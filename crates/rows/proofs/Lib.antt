@@ -8,4 +8,3 @@ pub mod ReducedLaws
 pub mod StepLaws
 pub mod SharedLaws
 pub mod FillLaws
-pub mod BuildLaws

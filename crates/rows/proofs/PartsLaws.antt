@@ -1,17 +1,22 @@
 -- Laws of specs/Parts.antt.
 -- Assumes nothing.
-use mathlib.Core.Path.{_≡_, refl, ap, ap₂, _∙_}
+use mathlib.Core.Path.{_≡_, refl, sym, ap, ap₂, _∙_, subst}
 use mathlib.Core.Logic.{⊎-elim}
+use mathlib.Core.Bool.{Bool, true, false}
 use mathlib.Core.List.{List}
 use Prim.Native.Nat.{ℕ, zero, suc, _+_, _≤_, _<_}
 use native.Mathlib.Nat.{eq-or-lt-of-le, le-of-suc-le-suc}
 use native.Mathlib.Omega.{arith}
 use lib.ListN.{length, getD, set, length-set}
 use lib.Seq.{getD-set-same, getD-set-other}
-use lib.Bits.{bitXor}
+use lib.Bits.{bitOr, bitXor, or-zero-l, or-add-and, and-le-r}
+use lib.Dec.{eqb}
+use borrow.Author.Count.{below-more}
+use borrow.Author.Tests.{eqb-true, eqb-false, eq-eqb, ne-eqb}
 use Rattle.algebra.specs.Sums.{_⊕_}
 use native.Mathlib.Numerals.{add-one}
-use Rattle.rows.specs.Parts.{xorAt, xorPart, putFrom}
+use Rattle.buffers.specs.Parts.{added}
+use Rattle.rows.specs.Parts.{xorAt, xorPart, copyFrom, AllZeroIs}
 
 pub length-xorAt : (l : List ℕ) (from to k : ℕ) → length (xorAt l from to k) ≡ length l
 unfolding xorAt
@@ -66,31 +71,65 @@ xorPart-in l from to (suc n) fit apart i h =
     ∙ xorPart-in l from to n (omega arith) (λ a b ha hb. apart a b (omega arith) (omega arith)) i lt)
     (eq-or-lt-of-le (le-of-suc-le-suc h))
 
+-- so it does not matter that the one part is read while the other is written
+pub xorPart-added : (l : List ℕ) (from to n : ℕ) → Apart from to n → added l to l from n ≡ xorPart l from to n
+unfolding xorPart xorAt added
+xorPart-added l from to zero apart = refl
+xorPart-added l from to (suc n) apart =
+    ap₂ (λ (x : List ℕ) (v : ℕ). set x (to + n) v) (xorPart-added l from to n (λ i j hi hj. apart i j (omega arith) (omega arith)))
+    (sym (ap₂ _⊕_ (xorPart-above l from to n (to + n) (omega arith)) (xorPart-out l from to n (from + n) (λ i hi. apart n i (omega arith) (omega arith)))))
+
 -- ---- from another list
 
-module _ (f : ℕ → ℕ → ℕ) (d s : List ℕ) (to from : ℕ) where
-  pub length-putFrom : (n : ℕ) → length (putFrom f d to s from n) ≡ length d
-  unfolding putFrom
-  length-putFrom zero = refl
-  length-putFrom (suc n) = simp length-set (length-putFrom n)
+module _ (d s : List ℕ) (to from : ℕ) where
+  pub length-copyFrom : (n : ℕ) → length (copyFrom d to s from n) ≡ length d
+  unfolding copyFrom
+  length-copyFrom zero = refl
+  length-copyFrom (suc n) = simp length-set (length-copyFrom n)
 
-  pub putFrom-none : d ≡ putFrom f d to s from 0
-  unfolding putFrom
-  putFrom-none = refl
+  pub copyFrom-none : d ≡ copyFrom d to s from 0
+  unfolding copyFrom
+  copyFrom-none = refl
 
-  pub putFrom-next : (x : List ℕ) (n : ℕ) → x ≡ putFrom f d to s from n → set x (to + n) (f (getD x (to + n) 0) (getD s (from + n) 0)) ≡ putFrom f d to s from (n + 1)
-  unfolding putFrom
-  putFrom-next x n e = rw (add-one, e)
+  pub copyFrom-next : (x : List ℕ) (n : ℕ) → x ≡ copyFrom d to s from n → set x (to + n) (getD s (from + n) 0) ≡ copyFrom d to s from (n + 1)
+  unfolding copyFrom
+  copyFrom-next x n e = rw (add-one, e)
 
-  pub putFrom-out : (n k : ℕ) → ((i : ℕ) → i < n → k ≡ to + i → ⊥) → getD (putFrom f d to s from n) k 0 ≡ getD d k 0
-  unfolding putFrom
-  putFrom-out zero k h = refl
-  putFrom-out (suc n) k h = getD-set-other (putFrom f d to s from n) (to + n) k _ 0 (h n (omega arith)) ∙ putFrom-out n k (λ i hi. h i (omega arith))
+  pub copyFrom-out : (n k : ℕ) → ((i : ℕ) → i < n → k ≡ to + i → ⊥) → getD (copyFrom d to s from n) k 0 ≡ getD d k 0
+  unfolding copyFrom
+  copyFrom-out zero k h = refl
+  copyFrom-out (suc n) k h = getD-set-other (copyFrom d to s from n) (to + n) k _ 0 (h n (omega arith)) ∙ copyFrom-out n k (λ i hi. h i (omega arith))
 
-  pub putFrom-in : (n : ℕ) → to + n ≤ length d → (i : ℕ) → i < n → getD (putFrom f d to s from n) (to + i) 0 ≡ f (getD d (to + i) 0) (getD s (from + i) 0)
-  unfolding putFrom
-  putFrom-in zero fit i h = absurd (omega arith)
-  putFrom-in (suc n) fit i h =
-      ⊎-elim (λ e. rw e (getD-set-same (putFrom f d to s from n) (to + n) _ 0 (omega (arith, length-putFrom n))
-      ∙ ap (λ (x : ℕ). f x (getD s (from + n) 0)) (putFrom-out n (to + n) (λ j hj e. omega arith))))
-      (λ lt. getD-set-other (putFrom f d to s from n) (to + n) (to + i) _ 0 (λ e. omega arith) ∙ putFrom-in n (omega arith) i lt) (eq-or-lt-of-le (le-of-suc-le-suc h))
+  pub copyFrom-in : (n : ℕ) → to + n ≤ length d → (i : ℕ) → i < n → getD (copyFrom d to s from n) (to + i) 0 ≡ getD s (from + i) 0
+  unfolding copyFrom
+  copyFrom-in zero fit i h = absurd (omega arith)
+  copyFrom-in (suc n) fit i h =
+      ⊎-elim (λ e. rw e (getD-set-same (copyFrom d to s from n) (to + n) _ 0 (omega (arith, length-copyFrom n))))
+      (λ lt. getD-set-other (copyFrom d to s from n) (to + n) (to + i) _ 0 (λ e. omega arith) ∙ copyFrom-in n (omega arith) i lt) (eq-or-lt-of-le (le-of-suc-le-suc h))
+
+-- ---- all zero
+
+-- a | b is 0 only where a is
+or-none : (a b : ℕ) → bitOr a b ≡ 0 → a ≡ 0
+or-none a b e = omega (arith, e, or-add-and a b, and-le-r a b)
+
+-- a is 0 as long as the elements are; one element more
+pub all-more : (s : List ℕ) (from i a : ℕ) → AllZeroIs s from i (eqb a 0) → AllZeroIs s from (i + 1) (eqb (bitOr a (getD s (from + i) 0)) 0)
+all-more s from i a = go (eqb a 0) refl
+  where
+    v : ℕ
+    v = getD s (from + i) 0
+
+    last : bitOr a v ≡ v → ((k : ℕ) → k < i → getD s (from + k) 0 ≡ 0) → (b : Bool) → eqb v 0 ≡ b → AllZeroIs s from (i + 1) (eqb (bitOr a v) 0)
+    last p each true f = subst (AllZeroIs s from (i + 1)) (sym (eq-eqb (bitOr a v) 0 (p ∙ eqb-true v 0 f))) (below-more _ _ each (eqb-true v 0 f))
+    last p each false f =
+        subst (AllZeroIs s from (i + 1)) (sym (ne-eqb (bitOr a v) 0 (λ q. eqb-false v 0 f (sym p ∙ q)))) (i, (omega arith, eqb-false v 0 f))
+
+    go : (b : Bool) → eqb a 0 ≡ b → AllZeroIs s from i b → AllZeroIs s from (i + 1) (eqb (bitOr a v) 0)
+    go true e each = last (ap (λ (x : ℕ). bitOr x v) (eqb-true a 0 e) ∙ or-zero-l v) each (eqb v 0) refl
+    go false e some =
+        subst (AllZeroIs s from (i + 1)) (sym (ne-eqb (bitOr a v) 0 (λ q. eqb-false a 0 e (or-none a v q))))
+        (some .0, (omega (arith, some .1 .0), some .1 .1))
+
+pub all-done : (s : List ℕ) (from i n : ℕ) (b : Bool) → AllZeroIs s from i b → i ≡ n → AllZeroIs s from n b
+all-done s from i n b h e = subst (λ (k : ℕ). AllZeroIs s from k b) e h

@@ -14,7 +14,7 @@ use Rattle.rows.proofs.SweepLaws.{hit-own, hit-other, rows-apart, sweep
 use Rattle.rows.proofs.SystemLaws.{words-noted, words-bit}
 use Rattle.rows.specs.Reduced.{pivotWord, pivotAt, Done}
 
--- ---- a pivot word changes no position, and no other pivot word
+-- ---- a pivot word changes no unknown, and no other pivot word
 
 module _ (l : List ℕ) (words r v : ℕ) where
   abbrev noted : List ℕ
@@ -36,7 +36,7 @@ module _ (l : List ℕ) (words r v : ℕ) where
     others = λ j hj hs. noted-bit j (p .at) (p .within) ∙ p .others j hj hs;
   })
 
--- ---- a sweep at a set position p of row r
+-- ---- a sweep at an unknown p of row r
 
 xor-off : (t a : Bool) → cond t (xor a false) a ≡ a
 unfolding xor
@@ -63,7 +63,7 @@ module _ (l : List ℕ) (m words r p : ℕ) (inside : r < m) (rows : m * (words 
   swept-bit : (j q : ℕ) → j < m → q < 64 * words → rowBit swept (j * w) q ≡ cond (hit l w r p j) (xor (rowBit l (j * w) q) (rowBit l (r * w) q)) (rowBit l (j * w) q)
   swept-bit j q hj hq = sweepTo-bit (hit l w r p) l r w words (omega arith) (hit-own l w r p r refl) m j q rows hj (omega arith)
 
-  -- a position that row r does not have
+  -- an unknown that row r does not have
   swept-off : (j q : ℕ) → j < m → q < 64 * words → rowBit l (r * w) q ≡ false → rowBit swept (j * w) q ≡ rowBit l (j * w) q
   swept-off j q hj hq e =
       swept-bit j q hj hq ∙ ap (λ (b : Bool). cond (hit l w r p j) (xor (rowBit l (j * w) q) b) (rowBit l (j * w) q)) e ∙ xor-off (hit l w r p j) (rowBit l (j * w) q)
@@ -72,7 +72,7 @@ module _ (l : List ℕ) (m words r p : ℕ) (inside : r < m) (rows : m * (words 
   swept-miss : (j q : ℕ) → j < m → q < 64 * words → hit l w r p j ≡ false → rowBit swept (j * w) q ≡ rowBit l (j * w) q
   swept-miss j q hj hq e = swept-bit j q hj hq ∙ ap (λ (b : Bool). cond b (xor (rowBit l (j * w) q) (rowBit l (r * w) q)) (rowBit l (j * w) q)) e
 
-  -- position p goes from every other row
+  -- unknown p goes from every other row
   swept-clear : (j : ℕ) → j < m → j ≢ r → rowBit swept (j * w) p ≡ false
   swept-clear j hj ne =
       swept-bit j p hj within

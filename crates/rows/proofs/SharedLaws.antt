@@ -93,7 +93,7 @@ pub words-shares : (f l l′ : List ℕ) (m words : ℕ) → SameWords l l′ wo
 words-shares f l l′ m words same s i h b p q hp hq ne off on =
     ap (λ (x : ℕ). testBit x b) (same q i h) ∙ s i h b p q hp hq ne off (ap (λ (x : ℕ). testBit x b) (sym (same p i h)) ∙ on)
 
--- ---- a set position that is in one row only: the sweep changes nothing
+-- ---- an unknown that is in one row only: the sweep changes nothing
 
 pub alone-step : (f l : List ℕ) (m words r p : ℕ) → r < m → p < 64 * words → Shares f l m words words → testBit (getD f (p / 64) 0) (p % 64) ≡ false
     → rowBit l (r * (words + 1)) p ≡ true → (d : List ℕ) (width : ℕ) → Stepped l d (set l (pivotAt words r) (p + 1)) d m words width r

@@ -75,7 +75,7 @@ one-more f g r h e = record {
       (λ ne. sym (ap (λ (x : List ℕ). getD x s 0) e ∙ getD-set-other f r s 1 0 ne) ∙ z) (eq-or-ne s r);
 }
 
--- the lowest position is one
+-- the lowest unknown is one
 pub chosen-lowest : (b : ℕ → Bool) (n : ℕ) (f : Found) → LowestIs b n f → ChosenIs b n f
 chosen-lowest b n (At p) h = (h .0, h .1 .0)
 chosen-lowest b n Nothing h = h

@@ -1,7 +1,7 @@
 -- Laws of specs/Sweep.antt.
 -- Assumes nothing.
 use mathlib.Core.Path.{_≡_, refl, sym, ap, ap₂, _∙_}
-use mathlib.Core.Logic.{_≢_, ⊎-elim}
+use mathlib.Core.Logic.{_≢_, inl, inr, ⊎-elim}
 use mathlib.Core.Bool.{Bool, true, false, true≢false, cond, not, xor, _&&_}
 use mathlib.Core.List.{List}
 use Prim.Native.Nat.{ℕ, zero, suc, _+_, _*_, _/_, _%_, _≤_, _<_}
@@ -14,8 +14,9 @@ use lib.ListN.{length, getD}
 use Rattle.algebra.specs.Sums.{_⊕_}
 use Rattle.rows.proofs.Order.{lt-or-le}
 use Rattle.algebra.proofs.Codeword.{slot}
+use Rattle.buffers.specs.Parts.{added, Apart}
 use Rattle.rows.specs.Parts.{xorPart}
-use Rattle.rows.proofs.PartsLaws.{length-xorPart, xorPart-out, xorPart-above, xorPart-in}
+use Rattle.rows.proofs.PartsLaws.{length-xorPart, xorPart-out, xorPart-above, xorPart-in, xorPart-added}
 use Rattle.rows.specs.Bits.{testBit}
 use Rattle.rows.proofs.Digits.{testBit-xor}
 use Rattle.rows.specs.Bits.{rowBit}
@@ -46,6 +47,14 @@ length-sweepTo h l r w len (suc j) =
 pub rows-apart : (a b w : ℕ) → a ≢ b → (i j : ℕ) → i < w → j < w → a * w + i ≡ b * w + j → ⊥
 rows-apart a b w ne i j hi hj e =
     ⊎-elim (λ lt. omega (arith, slot a b w lt)) (λ ge. ⊎-elim (λ q. ne (sym q)) (λ gt. omega (arith, slot b a w gt)) (eq-or-lt-of-le ge)) (lt-or-le a b)
+
+pub rows-beside : (a b w : ℕ) → a ≢ b → Apart (b * w) (a * w) w
+rows-beside a b w ne =
+    record { either = ⊎-elim (λ lt. inl (slot a b w lt)) (λ ge. ⊎-elim (λ q. absurd (ne (sym q))) (λ gt. inr (slot b a w gt)) (eq-or-lt-of-le ge)) (lt-or-le a b) }
+
+-- so one goes into the other by `add_within`
+pub row-added : (l x : List ℕ) (a b w : ℕ) → a ≢ b → x ≡ added l (b * w) l (a * w) w → x ≡ xorPart l (a * w) (b * w) w
+row-added l x a b w ne e = e ∙ xorPart-added l (a * w) (b * w) w (rows-apart a b w ne)
 
 module _ (h : ℕ → Bool) (l : List ℕ) (r w len : ℕ) (small : len ≤ w) (own : h r ≡ false) where
   not-own : (j : ℕ) → h j ≡ true → j ≡ r → ⊥
@@ -98,7 +107,7 @@ module _ (h : ℕ → Bool) (l : List ℕ) (r w len : ℕ) (small : len ≤ w) (
       (λ t. xorPart-out _ (r * w) (n * w) len (j * w + i) (λ k hk e. rows-apart j n w (λ q. omega arith) i k (omega arith) (omega arith) e)) (λ _. refl)
       ∙ sweepTo-row n j i (omega (arith, suc-mul n w)) lt hi) (eq-or-lt-of-le (le-of-suc-le-suc g))
 
-  -- the same of the bits of a row, where the list is words of 64 positions
+  -- the same of the bits of a row, where the list is words of 64 unknowns
   pub sweepTo-bit : (n j q : ℕ) → n * w ≤ length l → j < n → q / 64 < len
       → rowBit (sweepTo h l r w len n) (j * w) q ≡ cond (h j) (xor (rowBit l (j * w) q) (rowBit l (r * w) q)) (rowBit l (j * w) q)
   unfolding rowBit
@@ -115,6 +124,9 @@ hit-own l w r p j e = ap (λ (b : Bool). not b && rowBit l (j * w) p) (eq-eqb j 
 pub hit-other : (l : List ℕ) (w r p j : ℕ) → j ≢ r → hit l w r p j ≡ rowBit l (j * w) p
 unfolding hit
 hit-other l w r p j ne = ap (λ (b : Bool). not b && rowBit l (j * w) p) (ne-eqb j r ne)
+
+pub hit-ne : (l : List ℕ) (w r p j : ℕ) → hit l w r p j ≡ true → r ≢ j
+hit-ne l w r p j t e = true≢false (sym t ∙ hit-own l w r p j (sym e))
 
 -- it goes by the word of row j that holds p, and by no other
 pub hit-same : (l x : List ℕ) (w r p j : ℕ) → getD x (j * w + p / 64) 0 ≡ getD l (j * w + p / 64) 0 → hit x w r p j ≡ hit l w r p j

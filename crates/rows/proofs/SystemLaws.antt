@@ -59,10 +59,19 @@ module _ (h : ℕ → Bool) (l d : List ℕ) (m words width r n : ℕ) (x : ℕ 
       sym (off _ _) ∙ sym (swept-left r i inside) ∙ s r i inside hi ∙ swept-right r i inside hi ∙ off _ _ in
       cond-cancel (h j) _ _ _ _ pivot (sym (swept-left j i hj) ∙ s j i hj hi ∙ swept-right j i hj hi)
 
+-- where neither row has an unknown, their sum has not
+cond-off : (t : Bool) → cond t (xor false false) false ≡ false
+unfolding xor
+cond-off true = refl
+cond-off false = refl
+
 pub sweep-same : (h : ℕ → Bool) (l d : List ℕ) (m words width r : ℕ) → h r ≡ false → r < m → m * (words + 1) ≤ length l → m * width ≤ length d
     → Same l d (sweepTo h l r (words + 1) words m) (sweepTo h d r width width m) m words width
 sweep-same h l d m words width r own inside rows bytes = record {
   solves = λ n x covers. (sweep-solves h l d m words width r n x own inside rows bytes covers, sweep-solved h l d m words width r n x own inside rows bytes covers);
+  absent = λ q hq none j hj.
+      sweepTo-bit h l r (words + 1) words (omega arith) own m j q rows hj (omega arith)
+      ∙ ap₂ (λ (a b : Bool). cond (h j) (xor a b) a) (none j hj) (none r inside) ∙ cond-off (h j);
 }
 
 -- ---- one row added to another
@@ -74,10 +83,13 @@ add-same l d l′ d′ m words width r j inside hj ne rows bytes el ed =
     (sweep-same (λ i. eqb i j) l d m words width r (ne-eqb r j (λ e. ne (sym e))) inside rows bytes)
 
 pub same-refl : {l d : List ℕ} {m words width : ℕ} → Same l d l d m words width
-same-refl = record { solves = λ n x h. (λ s. s, λ s. s) }
+same-refl = record { solves = λ n x h. (λ s. s, λ s. s); absent = λ q h none. none }
 
 pub same-trans : {l d l′ d′ l″ d″ : List ℕ} {m words width : ℕ} → Same l d l′ d′ m words width → Same l′ d′ l″ d″ m words width → Same l d l″ d″ m words width
-same-trans f g = record { solves = λ n x h. (λ s. g .solves n x h .0 (f .solves n x h .0 s), λ s. f .solves n x h .1 (g .solves n x h .1 s)) }
+same-trans f g = record {
+  solves = λ n x h. (λ s. g .solves n x h .0 (f .solves n x h .0 s), λ s. f .solves n x h .1 (g .solves n x h .1 s));
+  absent = λ q h none. g .absent q h (f .absent q h none);
+}
 
 -- ---- the pivot words take no part
 
@@ -101,4 +113,5 @@ words-same l l′ d m words width same = record {
   solves = λ n x covers.
       let left : (j i : ℕ) → leftSide l′ words n x j i ≡ leftSide l words n x j i = λ j i. sum-tests _ _ (λ q. x q i) n (λ q h. words-bit l l′ words same j q (omega arith)) in
       (λ s j i hj hi. left j i ∙ s j i hj hi, λ s j i hj hi. sym (left j i) ∙ s j i hj hi);
+  absent = λ q h none j hj. words-bit l l′ words same j q h ∙ none j hj;
 }

@@ -1,4 +1,4 @@
--- A row of positions, 64 to a word: position p of the row that starts at word `base` is digit p % 64 of word base + p / 64.
+-- A row of unknowns, 64 to a word: the row that starts at word `base` has unknown p where digit p % 64 of word base + p / 64 is set.
 -- Assumes nothing.
 use mathlib.Core.Path.{_≡_}
 use mathlib.Core.Logic.{_≢_}
@@ -15,20 +15,20 @@ use Rattle.rows.specs.declared.bits.Found.the-variants.{At, Nothing}
 unfoldable pub testBit : ℕ → ℕ → Bool
 testBit a i = eqb (a / 2 ^ i % 2) 1
 
--- position p of the row at `base` is set
+-- the row at `base` has unknown p
 unfoldable pub rowBit : List ℕ → ℕ → ℕ → Bool
 rowBit l base p = testBit (getD l (base + p / 64) 0) (p % 64)
 
--- l with position p of the row at `base` set
+-- l with unknown p put into the row at `base`
 unfoldable pub setRowBit : List ℕ → ℕ → ℕ → List ℕ
 setRowBit l base p = set l (base + p / 64) (bitOr (getD l (base + p / 64) 0) (2 ^ (p % 64)))
 
--- f is the answer to: which is the lowest of the positions below n at which b is true?
+-- f is the answer to: which is the lowest of the numbers below n at which b is true?
 abbrev pub LowestIs : (ℕ → Bool) → ℕ → Found → Type 0
 LowestIs b n (At p) = (p < n) × ((b p ≡ true) × ((q : ℕ) → q < p → b q ≡ false))
 LowestIs b n Nothing = (q : ℕ) → q < n → b q ≡ false
 
--- r is the answer to: is b false at each position below n but p?
+-- r is the answer to: is b false at each number below n but p?
 abbrev pub OnlyIs : (ℕ → Bool) → ℕ → ℕ → Bool → Type 0
 OnlyIs b n p true = (q : ℕ) → q < n → q ≢ p → b q ≡ false
 OnlyIs b n p false = (q : ℕ) × ((q < n) × ((q ≢ p) × (b q ≡ true)))

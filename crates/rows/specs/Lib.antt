@@ -6,4 +6,3 @@ pub mod Reduced
 pub mod Step
 pub mod Shared
 pub mod Fill
-pub mod Build

@@ -17,17 +17,10 @@ unfoldable pub xorPart : List ℕ → ℕ → ℕ → ℕ → List ℕ
 xorPart l from to zero = l
 xorPart l from to (suc n) = xorAt (xorPart l from to n) from to n
 
--- d with the n elements of s from index `from` put into the n from index `to`: each becomes f of itself and of what is put
-unfoldable pub putFrom : (ℕ → ℕ → ℕ) → List ℕ → ℕ → List ℕ → ℕ → ℕ → List ℕ
-putFrom f d to s from zero = d
-putFrom f d to s from (suc n) = set (putFrom f d to s from n) (to + n) (f (getD (putFrom f d to s from n) (to + n) 0) (getD s (from + n) 0))
-
--- the same where they are added, and where they are copied
-abbrev pub xorFrom : List ℕ → ℕ → List ℕ → ℕ → ℕ → List ℕ
-xorFrom = putFrom _⊕_
-
-abbrev pub copyFrom : List ℕ → ℕ → List ℕ → ℕ → ℕ → List ℕ
-copyFrom = putFrom (λ a b. b)
+-- d with the n elements of s from index `from` copied over the n from index `to`, lowest first
+unfoldable pub copyFrom : List ℕ → ℕ → List ℕ → ℕ → ℕ → List ℕ
+copyFrom d to s from zero = d
+copyFrom d to s from (suc n) = set (copyFrom d to s from n) (to + n) (getD s (from + n) 0)
 
 -- r is the answer to: are the n elements of l from index `from` all 0?
 abbrev pub AllZeroIs : List ℕ → ℕ → ℕ → Bool → Type 0

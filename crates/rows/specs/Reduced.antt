@@ -1,4 +1,4 @@
--- Rows in reduced form. The last word of a row, its pivot word, says where its pivot is: position + 1, or 0.
+-- Rows in reduced form. The last word of a row, its pivot word, says which unknown is its pivot: its number + 1, or 0.
 -- Assumes nothing.
 use mathlib.Core.Path.{_≡_}
 use mathlib.Core.Logic.{_⊎_, _≢_}
@@ -16,12 +16,12 @@ pivotAt words s = s * (words + 1) + words
 abbrev pub pivotWord : List ℕ → ℕ → ℕ → ℕ
 pivotWord l words s = getD l (pivotAt words s) 0
 
--- row s has no position set
+-- row s has no unknown
 pub record Empty (l : List ℕ) (words s : ℕ) : Type 0 where
   pub word : pivotWord l words s ≡ 0
   pub clear : (q : ℕ) → q < 64 * words → rowBit l (s * (words + 1)) q ≡ false
 
--- row s has a pivot: a position of it that is set in no other of the m rows
+-- row s has a pivot: an unknown of it that is in no other of the m rows
 pub record Pivot (l : List ℕ) (m words s : ℕ) : Type 0 where
   pub at : ℕ
   pub word : pivotWord l words s ≡ at + 1

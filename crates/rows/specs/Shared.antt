@@ -1,4 +1,4 @@
--- Positions that stand in more than one row.
+-- Unknowns that stand in more than one row.
 -- Assumes nothing.
 use mathlib.Core.Path.{_≡_}
 use mathlib.Core.Logic.{_≢_}

@@ -1,4 +1,4 @@
--- One step of elimination: row r gets its pivot word and, where it has a pivot, is added to the other rows that have that position. The rows
+-- One step of elimination: row r gets its pivot word and, where it has a pivot, is added to the other rows that have that unknown. The rows
 -- are done in any order; a list with 1 for each row that is done keeps account.
 -- Assumes nothing.
 use mathlib.Core.Path.{_≡_}
@@ -13,7 +13,7 @@ use Rattle.rows.specs.Bits.{rowBit}
 use Rattle.rows.specs.Sweep.{sweepTo, hit}
 use Rattle.rows.specs.Reduced.{pivotAt, Done}
 
--- f is the answer to: which is a position below n at which b is true?
+-- f is the answer to: which is a number below n at which b is true?
 abbrev pub ChosenIs : (ℕ → Bool) → ℕ → Found → Type 0
 ChosenIs b n (At p) = (p < n) × (b p ≡ true)
 ChosenIs b n Nothing = (q : ℕ) → q < n → b q ≡ false

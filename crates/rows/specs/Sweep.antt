@@ -17,7 +17,7 @@ unfoldable pub sweepTo : (ℕ → Bool) → List ℕ → ℕ → ℕ → ℕ →
 sweepTo h l r w len zero = l
 sweepTo h l r w len (suc j) = addRow (h j) (sweepTo h l r w len j) r w len j
 
--- the rows that a sweep at row r and position p changes: those other than r in which p is set
+-- the rows that a sweep at row r and unknown p changes: those other than r that have p
 unfoldable pub hit : List ℕ → ℕ → ℕ → ℕ → ℕ → Bool
 hit l w r p j = not (eqb j r) && rowBit l (j * w) p
 

@@ -36,7 +36,7 @@ fn share(rows: &[u64], masks: &mut [u64; 48], m: usize, words: usize)
     }
 }
 
-// Row and position as `prepare` has them in v: the position becomes the row's pivot where the row has it and no other row has.
+// Row and unknown as `prepare` has them in v: the unknown becomes the row's pivot where the row has it and no other row has.
 fn finish_alone(
     rows: &mut [u64],
     done: &mut [u8; 1024],

@@ -1,4 +1,4 @@
-// The positions of a row, 64 to a word.
+// The unknowns of a row, 64 to a word.
 ghost use mathlib.Core.Path.{_≡_};
 ghost use mathlib.Core.Bool.{true};
 ghost use Prim.Native.Nat.{_+_, _*_, _/_, _≤_, _<_};
@@ -10,7 +10,7 @@ pub enum Found {
     Nothing,
 }
 
-// Position p of the row at `base` is set.
+// The row at `base` has unknown p.
 pub fn bit_at(rows: &[u64], base: usize, p: usize) -> bool
     requires { ⌜ base + p / 64 < length (now rows) ⌝ }
     ensures { λ r. ⌜ r ≡ rowBit (now (rows .entry)) base p ⌝ }
@@ -19,7 +19,7 @@ pub fn bit_at(rows: &[u64], base: usize, p: usize) -> bool
     (rows[k] >> (p % 64)) % 2 == 1
 }
 
-// Sets position p of the row at `base`.
+// Puts unknown p into the row at `base`.
 pub fn set_bit(rows: &mut [u64], base: usize, p: usize)
     requires { ⌜ base + p / 64 < length (now rows) ⌝ }
     ensures { λ _. ⌜ now (rows .exit) ≡ setRowBit (now (rows .entry)) base p ⌝ }
@@ -28,7 +28,7 @@ pub fn set_bit(rows: &mut [u64], base: usize, p: usize)
     rows[k] = rows[k] | 1 << (p % 64);
 }
 
-// The lowest set position of the row of `words` words at `base`.
+// The lowest unknown of the row of `words` words at `base`.
 pub fn lowest(rows: &[u64], base: usize, words: usize) -> Found
     requires { ⌜ (words ≤ 48) × (base + words ≤ length (now rows)) ⌝ }
     ensures { λ r. ⌜ LowestIs (rowBit (now (rows .entry)) base) (64 * words) r ⌝ }
@@ -46,7 +46,7 @@ pub fn lowest(rows: &[u64], base: usize, words: usize) -> Found
     Found::Nothing
 }
 
-// No position of the row of `words` words at `base` but p is set. Position p is.
+// The row of `words` words at `base` has no unknown but p. It has p.
 pub fn only(rows: &[u64], base: usize, words: usize, p: usize) -> bool
     requires { ⌜ (p / 64 < words) × (base + words ≤ length (now rows)) ⌝ }
     requires { ⌜ rowBit (now rows) base p ≡ true ⌝ }

@@ -8,7 +8,7 @@ ghost use Rattle.rows.specs.Bits.{rowBit};
 ghost use Rattle.rows.specs.System.{Same};
 ghost use Rattle.rows.specs.Step.{Stepped, ChosenIs, DoneWhere, OneMore};
 
-// A set position of the row of `words` words at `base`: `guess`, if that is one.
+// An unknown of the row of `words` words at `base`: `guess`, if that is one.
 fn choose(rows: &[u64], base: usize, words: usize, guess: usize) -> Found
     requires { ⌜ (words ≤ 48) × (base + words ≤ length (now rows)) ⌝ }
     ensures { λ r. ⌜ ChosenIs (rowBit (now (rows .entry)) base) (64 * words) r ⌝ }
@@ -21,7 +21,7 @@ fn choose(rows: &[u64], base: usize, words: usize, guess: usize) -> Found
     bits::lowest(rows, base, words)
 }
 
-// Gives row r a pivot, which is a position that it has, and takes that position out of every other row. A row without positions gets pivot word 0.
+// Gives row r a pivot, which is an unknown that it has, and takes that unknown out of every other row. A row without unknowns gets pivot word 0.
 fn step_row(
     rows: &mut [u64],
     rhs: &mut [u8],

@@ -1,6 +1,7 @@
 // Linear equations over packed rows, and Gauss-Jordan elimination on them, in place. There are m equations. Equation j is a row of words + 1
-// words and `width` bytes of a right-hand side: the row's first words hold 64 positions each, and its last word, the pivot word, holds the
-// position of the row's pivot + 1, or 0. The words and the bytes are lent by the caller.
+// words and `width` bytes of a right-hand side: the row's first words hold 64 unknowns each, and its last word, the pivot word, holds the
+// number of the unknown that is the row's pivot + 1, or 0. The words and the bytes are lent by the caller. What an unknown stands for is the
+// caller's matter: `solution::fill` is told in `places` which position of the caller's symbols each unknown is.
 use alone::finish_all_alone;
 use finish::finish_next;
 use finish::finish_row;
@@ -11,8 +12,7 @@ ghost use Rattle.rows.specs.System.{Same};
 ghost use Rattle.rows.specs.Reduced.{Reduced};
 
 pub mod parts; // parts of a buffer: exclusive or, copy, all zero
-pub mod bits; // positions of a row
-pub mod build; // how the equations are built
+pub mod bits; // unknowns of a row
 pub mod solution; // what is read off the reduced form
 mod sweep; // one row added to others
 mod prepare; // elimination, first part: fewer additions
@@ -20,7 +20,7 @@ mod alone; // second part: pivots that stand in no other row
 mod finish; // second part: every other row
 
 // Brings all m rows into reduced form; the equations keep their solutions. `prepare` chooses an order and a pivot for each row, and this goes
-// over its order backwards, so that each row is added to others when it has hardly a position left. The last loop leaves no row out, whatever
+// over its order backwards, so that each row is added to others when it has hardly an unknown left. The last loop leaves no row out, whatever
 // the order was.
 pub fn eliminate(rows: &mut [u64], rhs: &mut [u8], m: usize, words: usize, width: usize)
     requires { ⌜ (words ≤ 48) × (m ≤ 1024) ⌝ }

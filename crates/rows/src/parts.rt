@@ -2,7 +2,7 @@
 ghost use mathlib.Core.Path.{_≡_};
 ghost use Prim.Native.Nat.{_+_, _≤_};
 ghost use lib.ListN.{length};
-ghost use Rattle.rows.specs.Parts.{xorPart, xorFrom, copyFrom, AllZeroIs};
+ghost use Rattle.rows.specs.Parts.{xorPart, copyFrom, AllZeroIs};
 
 // Exclusive or of the len words from index `from` into the len words from index `to`.
 pub fn xor_words(rows: &mut [u64], from: usize, to: usize, len: usize)
@@ -14,34 +14,6 @@ pub fn xor_words(rows: &mut [u64], from: usize, to: usize, len: usize)
         let s = from + i;
         let d = to + i;
         rows[d] = rows[d] ^ rows[s];
-        i += 1;
-    }
-}
-
-// The same on bytes.
-pub fn xor_bytes(rows: &mut [u8], from: usize, to: usize, len: usize)
-    requires { ⌜ (from + len ≤ length (now rows)) × (to + len ≤ length (now rows)) ⌝ }
-    ensures { λ _. ⌜ now (rows .exit) ≡ xorPart (now (rows .entry)) from to len ⌝ }
-{
-    let mut i = 0;
-    while i < len {
-        let s = from + i;
-        let d = to + i;
-        rows[d] = rows[d] ^ rows[s];
-        i += 1;
-    }
-}
-
-// Exclusive or of the len bytes of src from index `from` into the len bytes of dst from index `to`.
-pub fn xor_from(dst: &mut [u8], to: usize, src: &[u8], from: usize, len: usize)
-    requires { ⌜ (to + len ≤ length (now dst)) × (from + len ≤ length (now src)) ⌝ }
-    ensures { λ _. ⌜ now (dst .exit) ≡ xorFrom (now (dst .entry)) to (now (src .entry)) from len ⌝ }
-{
-    let mut i = 0;
-    while i < len {
-        let s = from + i;
-        let d = to + i;
-        dst[d] = dst[d] ^ src[s];
         i += 1;
     }
 }
@@ -60,18 +32,17 @@ pub fn copy_from(dst: &mut [u8], to: usize, src: &[u8], from: usize, len: usize)
     }
 }
 
-// The len bytes from index `from` are all 0.
+// The len bytes from index `from` are all 0. All of them are read: a loop that may end early is not compiled to vector instructions.
 pub fn all_zero(s: &[u8], from: usize, len: usize) -> bool
     requires { ⌜ from + len ≤ length (now s) ⌝ }
     ensures { λ r. ⌜ AllZeroIs (now (s .entry)) from len r ⌝ }
 {
+    let mut all: u8 = 0;
     let mut i = 0;
     while i < len {
         let k = from + i;
-        if s[k] != 0 {
-            return false;
-        }
+        all = all | s[k];
         i += 1;
     }
-    true
+    all == 0
 }

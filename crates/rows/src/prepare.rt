@@ -1,5 +1,5 @@
 // The first part of elimination: rows are added to each other so that few additions are needed in all. Nothing is proved of how well that goes:
-// each addition keeps the solutions, and the hints only choose which are made. A hint is about the number of set positions of a row, or CLOSED.
+// each addition keeps the solutions, and the hints only choose which are made. A hint is about the number of unknowns of a row, or CLOSED.
 use crate::bits;
 use crate::sweep;
 ghost use mathlib.Core.Path.{_≡_};
@@ -9,7 +9,7 @@ ghost use Rattle.rows.specs.System.{Same};
 
 const CLOSED: u16 = 65535;
 
-// The number of set positions of the row of `words` words at `base`.
+// The number of unknowns of the row of `words` words at `base`.
 fn weight(rows: &[u64], base: usize, words: usize) -> usize
     requires { ⌜ (words ≤ 48) × (base + words ≤ length (now rows)) ⌝ }
     ensures { λ r. ⌜ r ≤ 64 * words ⌝ }
@@ -53,11 +53,7 @@ fn pick(hints: &[u16; 1024], m: usize, from: usize, enough: u16) -> usize
     let mut best = m;
     let mut least = CLOSED;
     let mut j = from;
-    let mut i = 0;
-    while i < m {
-        if j == m {
-            j = 0;
-        }
+    while j < m {
         let v = hints[j];
         if v < least {
             if v <= enough {
@@ -67,12 +63,23 @@ fn pick(hints: &[u16; 1024], m: usize, from: usize, enough: u16) -> usize
             least = v;
         }
         j += 1;
-        i += 1;
+    }
+    let mut k = 0;
+    while k < from {
+        let v = hints[k];
+        if v < least {
+            if v <= enough {
+                return k;
+            }
+            best = k;
+            least = v;
+        }
+        k += 1;
     }
     best
 }
 
-// The hint for a row of hint a after a row of hint b went into it: one position goes from both, and no other is taken to be in both.
+// The hint for a row of hint a after a row of hint b went into it: one unknown goes from both, and no other is taken to be in both.
 fn joined(a: u16, b: u16) -> u16 {
     let s = a as u64 + b as u64;
     if s < 3 {
@@ -84,7 +91,7 @@ fn joined(a: u16, b: u16) -> u16 {
     (s - 2) as u16
 }
 
-// The first row from j on, other than r, that is not CLOSED and has position p; m where there is none. The position is asked first: it is seldom set,
+// The first row from j on, other than r, that is not CLOSED and has unknown p; m where there is none. The unknown is asked first: it is seldom there,
 // so that branch is foreseen, and the other is not.
 fn next_open(
     rows: &[u64],
@@ -113,7 +120,7 @@ fn next_open(
     m
 }
 
-// Row r goes into each other row that is not CLOSED and has position p.
+// Row r goes into each other row that is not CLOSED and has unknown p.
 fn push(
     rows: &mut [u64],
     rhs: &mut [u8],
@@ -138,7 +145,7 @@ fn push(
     hints[r] = CLOSED;
 }
 
-// A position of the row of `words` words at `base`: the lowest of its last word that is not 0; 64 * words where there is none. The parity symbols come
+// An unknown of the row of `words` words at `base`: the lowest of its last word that is not 0; 64 * words where there is none. The parity symbols come
 // last, and the fewest rows have them.
 fn latest(rows: &[u64], base: usize, words: usize) -> usize
     requires { ⌜ (words ≤ 48) × (base + words ≤ length (now rows)) ⌝ }
@@ -157,7 +164,7 @@ fn latest(rows: &[u64], base: usize, words: usize) -> usize
     64 * words
 }
 
-// Pushes row r at a position that it has. Returns the two as position * 1024 + row.
+// Pushes row r at an unknown that it has. Returns the two as unknown * 1024 + row.
 fn push_row(
     rows: &mut [u64],
     rhs: &mut [u8],

@@ -4,7 +4,7 @@ use crate::parts;
 ghost use Prim.Native.Nat.{_+_, _*_, _≤_, _<_};
 ghost use lib.ListN.{length};
 ghost use Rattle.rows.specs.Reduced.{Reduced};
-ghost use Rattle.rows.specs.Fill.{ConsistentIs, RowFilled, Filled};
+ghost use Rattle.rows.specs.Fill.{ConsistentIs, Stands, RowFilled, Filled};
 
 // There is a solution: no equation without unknowns fails.
 pub fn consistent(rows: &[u64], rhs: &[u8], m: usize, words: usize, width: usize) -> bool
@@ -25,21 +25,23 @@ pub fn consistent(rows: &[u64], rhs: &[u8], m: usize, words: usize, width: usize
     true
 }
 
-// Where row s has its pivot alone, the symbol at that position is the row's right-hand side, and the position gets mark 2.
+// Where row s has its pivot alone, the symbol at the position that the pivot stands for is the row's right-hand side, and the position gets mark 2.
+// Unknown p stands for position places[p].
 fn fill_row(
     rows: &[u64],
     rhs: &[u8],
     symbols: &mut [u8],
     marks: &mut [u8],
+    places: &[usize],
     m: usize,
     words: usize,
     width: usize,
     s: usize,
 )
     requires { ⌜ (m * (words + 1) ≤ length (now rows)) × (m * width ≤ length (now rhs)) ⌝ }
-    requires { ⌜ (64 * words * width ≤ length (now symbols)) × (64 * words ≤ length (now marks)) ⌝ }
+    requires { ⌜ Stands (now places) words (length (now marks)) × (length (now marks) * width ≤ length (now symbols)) ⌝ }
     requires { ⌜ (s < m) × Reduced (now rows) m words m ⌝ }
-    ensures { λ _. ⌜ RowFilled (now (rows .entry)) (now (rhs .entry)) (now (symbols .entry)) (now (marks .entry)) (now (symbols .exit)) (now (marks .exit)) words width s ⌝ }
+    ensures { λ _. ⌜ RowFilled (now (rows .entry)) (now (rhs .entry)) (now (places .entry)) (now (symbols .entry)) (now (marks .entry)) (now (symbols .exit)) (now (marks .exit)) words width s ⌝ }
 {
     let base = s * (words + 1);
     let k = base + words;
@@ -49,29 +51,31 @@ fn fill_row(
     }
     let p = (v - 1) as usize;
     if bits::only(rows, base, words, p) {
-        parts::copy_from(symbols, p * width, rhs, s * width, width);
-        marks[p] = 2;
+        let i = places[p];
+        parts::copy_from(symbols, i * width, rhs, s * width, width);
+        marks[i] = 2;
     }
 }
 
-// Fills each position that stands alone in a row.
+// Fills each position whose unknown stands alone in a row.
 pub fn fill(
     rows: &[u64],
     rhs: &[u8],
     symbols: &mut [u8],
     marks: &mut [u8],
+    places: &[usize],
     m: usize,
     words: usize,
     width: usize,
 )
     requires { ⌜ (m * (words + 1) ≤ length (now rows)) × (m * width ≤ length (now rhs)) ⌝ }
-    requires { ⌜ (64 * words * width ≤ length (now symbols)) × (64 * words ≤ length (now marks)) ⌝ }
+    requires { ⌜ Stands (now places) words (length (now marks)) × (length (now marks) * width ≤ length (now symbols)) ⌝ }
     requires { ⌜ Reduced (now rows) m words m ⌝ }
-    ensures { λ _. ⌜ Filled (now (rows .entry)) (now (rhs .entry)) (now (symbols .entry)) (now (marks .entry)) (now (symbols .exit)) (now (marks .exit)) words width m ⌝ }
+    ensures { λ _. ⌜ Filled (now (rows .entry)) (now (rhs .entry)) (now (places .entry)) (now (symbols .entry)) (now (marks .entry)) (now (symbols .exit)) (now (marks .exit)) words width m ⌝ }
 {
     let mut s = 0;
     while s < m {
-        fill_row(rows, rhs, symbols, marks, m, words, width, s);
+        fill_row(rows, rhs, symbols, marks, places, m, words, width, s);
         s += 1;
     }
 }

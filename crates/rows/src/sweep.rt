@@ -2,12 +2,13 @@
 use crate::bits;
 use crate::parts;
 ghost use mathlib.Core.Path.{_≡_};
+ghost use mathlib.Core.Logic.{_≢_};
 ghost use Prim.Native.Nat.{_+_, _*_, _/_, _≤_, _<_};
 ghost use lib.ListN.{length};
 ghost use Rattle.rows.specs.Parts.{xorPart};
 ghost use Rattle.rows.specs.Sweep.{sweepTo, hit, HasRow, NextHit};
 
-// The first row from j on, other than r, in which position p is set; m where there is none.
+// The first row from j on, other than r, that has unknown p; m where there is none.
 pub fn next_hit(rows: &[u64], m: usize, words: usize, r: usize, p: usize, j: usize) -> usize
     requires { ⌜ (p / 64 < words) × (j ≤ m) ⌝ }
     requires { ⌜ m * (words + 1) ≤ length (now rows) ⌝ }
@@ -25,20 +26,20 @@ pub fn next_hit(rows: &[u64], m: usize, words: usize, r: usize, p: usize, j: usi
     m
 }
 
-// Adds row r to row j, on both sides. The pivot word takes no part.
+// Adds row r to another row j, on both sides. The pivot word takes no part.
 pub fn add_row(rows: &mut [u64], rhs: &mut [u8], words: usize, width: usize, r: usize, j: usize)
     requires { ⌜ HasRow (length (now rows)) (length (now rhs)) words width r ⌝ }
     requires { ⌜ HasRow (length (now rows)) (length (now rhs)) words width j ⌝ }
+    requires { ⌜ r ≢ j ⌝ }
     ensures { λ _. ⌜ now (rows .exit) ≡ xorPart (now (rows .entry)) (r * (words + 1)) (j * (words + 1)) words ⌝ }
     ensures { λ _. ⌜ now (rhs .exit) ≡ xorPart (now (rhs .entry)) (r * width) (j * width) width ⌝ }
 {
     let stride = words + 1;
     parts::xor_words(rows, r * stride, j * stride, words);
-    parts::xor_bytes(rhs, r * width, j * width, width);
+    buffers::add_within(rhs, j * width, r * width, width);
 }
 
-// Adds row r to each other row of the m in which position p is set. The loop goes from one such row to the next: where it tests each row itself,
-// LLVM moves the test that the two rows do not overlap out of the loop, where it always fails, and the byte loop runs one byte at a time.
+// Adds row r to each other row of the m that has unknown p. The loop goes from one such row to the next.
 pub fn sweep(
     rows: &mut [u64],
     rhs: &mut [u8],

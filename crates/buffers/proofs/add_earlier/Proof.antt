@@ -1,63 +1,19 @@
--- `buffers::add_earlier` meets its contract: after i turns, i bytes are added.
+-- `buffers::add_earlier` meets its contract: earlier bytes are apart.
 -- Assumes nothing.
-use mathlib.Core.Path.{_≡_, refl}
-use Prim.Native.Nat.{_≤_, _-_}
+use borrow.Author.Needs.{needs}
+use mathlib.Core.Logic.{inl}
 use native.Mathlib.Omega.{arith}
-use lib.ListN.{length, length-set}
-use Rattle.buffers.specs.Parts.{added}
-use Rattle.buffers.proofs.Added.{added-more, added-all, kept-below}
 use Rattle.buffers.proofs.add_earlier.Statement.{statement}
 use Rattle.buffers.proofs.add_earlier.Tie as tie
 
-abbrev Inv-loop : tie.InvT-loop
-Inv-loop buf₀ at from len i₀ buf i = (i ≤ len) × (length buf ≡ length buf₀) × (buf ≡ added buf₀ at buf₀ from i)
+add-within-requires : tie.Need-add-within-requires
+add-within-requires c κs = (record { either = inl (omega arith) }, (omega arith, omega arith))
 
-abbrev μ-loop : tie.MeasureT-loop
-μ-loop buf₀ at from len i₀ buf i = len - i
+same-length : tie.Need-same-length
+same-length c = search needs
 
-loop-holds : tie.Need-loop-holds Inv-loop μ-loop
-unfolding added
-loop-holds c = (omega arith, refl, refl)
-
-add-buf : tie.Need-add-buf Inv-loop μ-loop
-add-buf c = omega arith
-
-slice-read-buf : tie.Need-slice-read-buf Inv-loop μ-loop
-slice-read-buf c = omega arith
-
-add-buf-2 : tie.Need-add-buf-2 Inv-loop μ-loop
-add-buf-2 c = omega arith
-
-slice-read-buf-2 : tie.Need-slice-read-buf-2 Inv-loop μ-loop
-slice-read-buf-2 c = omega arith
-
-add-buf-3 : tie.Need-add-buf-3 Inv-loop μ-loop
-add-buf-3 c = omega arith
-
-slice-write-buf : tie.Need-slice-write-buf Inv-loop μ-loop
-slice-write-buf c = omega arith
-
-add-i : tie.Need-add-i Inv-loop μ-loop
-add-i c = omega arith
-
-loop-less : tie.Need-loop-less Inv-loop μ-loop
-loop-less c = omega arith
-
-loop-again : tie.Need-loop-again Inv-loop μ-loop
-loop-again c = (
-  omega arith,
-  simp length-set (omega arith),
-  added-more _ _ _ _ _ _ (c .before .before .before .loop .inv .2) _
-      (kept-below _ _ _ _ _ _ (c .before .before .before .loop .inv .2) _ (omega arith)),
-)
-
-same-length : tie.Need-same-length Inv-loop μ-loop
-same-length c = c .before .loop .inv .1
-
-returns : tie.Need-returns Inv-loop μ-loop
-returns c = added-all _ _ _ _ _ _ _ (c .before .loop .inv .2) (omega arith)
+returns : tie.Need-returns
+returns c = search needs
 
 pub add-earlier-spec : {M : Type 1} → statement M
-add-earlier-spec =
-    tie.close
-    (tie.spec Inv-loop μ-loop loop-holds add-buf slice-read-buf add-buf-2 slice-read-buf-2 add-buf-3 slice-write-buf add-i loop-less loop-again same-length returns)
+add-earlier-spec = tie.close (tie.spec add-within-requires same-length returns)

@@ -5,57 +5,42 @@ use Rattle.block.proofs.CloseRefusal.{block-refused, words-refused, byt
 use borrow.Author.Needs.{needs}
 use Rattle.block.proofs.close.check_close.Statement.{statement}
 use Rattle.block.proofs.close.check_close.Tie as tie
-use Rattle.block.proofs.close.check_close.Reads as reads
-use Rattle.block.proofs.close.check_close.Lts as lts
-use Rattle.block.proofs.checks.check_block.Reads as check-block-reads
-use Rattle.block.proofs.close.wrong_marks.Reads as wrong-marks-reads
-use Rattle.ccsds.proofs.code.Code.parity_bytes.Reads as parity-bytes-reads
-use Rattle.ccsds.proofs.code.Code.work_words.Reads as work-words-reads
 
--- src/close.rt:55:9
 check-block-requires : tie.Need-check-block-requires
 check-block-requires c κs = search needs
 
--- src/close.rt:57:9
 returns : tie.Need-returns
 returns c =
     let a = c .before .before .before .before .before .before .args in
     block-refused (a .b) (a .symbols .now) (a .marks .now) (a .words .now) (a .bytes .now) _ (c .before .check-block .ensures) (c .if1 .taken)
 
--- src/close.rt:59:23
 work-words-requires : tie.Need-work-words-requires
 work-words-requires c κs = search needs
 
--- src/close.rt:60:9
 returns-2 : tie.Need-returns-2
 returns-2 c =
     let a = c .before .before .before .before .before .before .before .before .args in
     words-refused (a .b) (a .symbols .now) (a .marks .now) (a .words .now) (a .bytes .now) (sym (c .before .before .before .check-block .ensures) ∙ c .before .before .if1 .left)
     (λ h. c .if2 .taken (h ∙ sym (c .before .work-words .ensures)))
 
--- src/close.rt:62:23
 parity-bytes-requires : tie.Need-parity-bytes-requires
 parity-bytes-requires c κs = search needs
 
--- src/close.rt:63:9
 returns-3 : tie.Need-returns-3
 returns-3 c =
     let a = c .before .before .before .before .before .before .before .before .before .before .args in
     bytes-refused (a .b) (a .symbols .now) (a .marks .now) (a .words .now) (a .bytes .now) (sym (c .before .before .before .before .before .check-block .ensures) ∙ c .before .before .before .before .if1 .left)
     (c .before .before .if2 .left ∙ c .before .before .before .work-words .ensures) (λ h. c .if3 .taken (h ∙ sym (c .before .parity-bytes .ensures)))
 
--- src/close.rt:65:8
 wrong-marks-requires : tie.Need-wrong-marks-requires
 wrong-marks-requires c κs = search needs
 
--- src/close.rt:66:9
 returns-4 : tie.Need-returns-4
 returns-4 c =
     let a = c .before .before .before .before .before .before .before .before .before .before .before .before .args in
     marks-refused (a .b) (a .symbols .now) (a .marks .now) (a .words .now) (a .bytes .now) (sym (c .before .before .before .before .before .before .before .check-block .ensures) ∙ c .before .before .before .before .before .before .if1 .left)
     (c .before .before .before .before .if2 .left ∙ c .before .before .before .before .before .work-words .ensures) (c .before .before .if3 .left ∙ c .before .before .before .parity-bytes .ensures) (sym (c .before .wrong-marks .ensures) ∙ c .if4 .taken)
 
--- src/close.rt:51:1
 returns-5 : tie.Need-returns-5
 returns-5 c =
     let a = c .before .before .before .before .before .before .before .before .before .before .before .before .args in

@@ -1,6 +1,6 @@
 -- `block::close::clear_at` meets its contract, by the mark at the position.
 -- Assumes nothing.
-use mathlib.Core.Path.{_≡_, refl, _∙_}
+use mathlib.Core.Path.{_∙_}
 use borrow.Author.Needs.{needs}
 use Rattle.block.proofs.Clearing.{heard-one, heard-not, stays, goes, zeroed}
 use Rattle.block.proofs.close.clear_at.Statement.{statement}

@@ -1,7 +1,7 @@
 -- `block::close::clear_missing` meets its contract.
 -- Assumes nothing.
-use mathlib.Core.Path.{_≡_, refl, sym, ap, _∙_, subst}
-use Prim.Native.Nat.{ℕ, _+_, _-_, _*_, _≤_, _<_}
+use mathlib.Core.Path.{_≡_, refl, _∙_, subst}
+use Prim.Native.Nat.{_-_, _≤_, _<_}
 use native.Mathlib.Omega.{arith}
 use lib.ListN.{length}
 use Rattle.algebra.proofs.Codeword.{slot}
@@ -9,9 +9,6 @@ use Rattle.block.specs.Solving.{Cleared}
 use Rattle.block.proofs.Clearing.{cleared-none, cleared-more}
 use Rattle.block.proofs.close.clear_missing.Statement.{statement}
 use Rattle.block.proofs.close.clear_missing.Tie as tie
-use Rattle.block.proofs.close.clear_missing.Reads as reads
-use Rattle.block.proofs.close.clear_missing.Lts as lts
-use Rattle.block.proofs.close.clear_at.Reads as clear-at-reads
 
 abbrev Inv-loop : tie.InvT-loop
 Inv-loop w symbols₀ marks₀ i₀ symbols marks i =

@@ -5,28 +5,19 @@ use Rattle.block.proofs.Closing.{told}
 use borrow.Author.Needs.{needs}
 use Rattle.block.proofs.close.tell.Statement.{statement}
 use Rattle.block.proofs.close.tell.Tie as tie
-use Rattle.block.proofs.close.tell.Reads as reads
-use Rattle.block.proofs.close.tell.Lts as lts
-use Rattle.block.proofs.close.count_marks.Reads as count-marks-reads
-use Rattle.block.proofs.close.verdict_by.Reads as verdict-by-reads
 
--- src/close.rt:157:9
 count-marks-requires : tie.Need-count-marks-requires
 count-marks-requires c κs = search needs
 
--- src/close.rt:158:9
 count-marks-requires-2 : tie.Need-count-marks-requires-2
 count-marks-requires-2 c κs = search needs
 
--- src/close.rt:159:9
 count-marks-requires-3 : tie.Need-count-marks-requires-3
 count-marks-requires-3 c κs = search needs
 
--- src/close.rt:160:9
 verdict-by-requires : tie.Need-verdict-by-requires
 verdict-by-requires c κs = search needs
 
--- src/close.rt:154:1
 returns : tie.Need-returns
 returns c =
     told (verdictAs (c .verdict-by .result)) (c .before .before .before .before .before .args .ok) (c .before .before .before .count-marks .result) (c .before .before .count-marks2 .result) (c .before .count-marks3 .result) (c .before .before .before .before .before .args .marks .now)

@@ -1,9 +1,9 @@
 -- `block::close::wrong_marks` meets its contract: what is still to test decides.
 -- Assumes nothing.
 use mathlib.Core.Path.{_≡_, refl}
-use Prim.Native.Nat.{ℕ, _+_, _-_, _≤_, _<_}
+use Prim.Native.Nat.{_-_, _≤_, _<_}
 use native.Mathlib.Omega.{arith}
-use lib.ListN.{length, getD, drop}
+use lib.ListN.{length, drop}
 use Rattle.block.specs.Close.{wrongMarks}
 use Rattle.block.proofs.Marks.{wrong-end, wrong-one, wrong-other}
 use Rattle.block.proofs.close.wrong_marks.Statement.{statement}

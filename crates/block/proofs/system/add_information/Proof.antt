@@ -13,14 +13,14 @@ use Rattle.block.proofs.system.add_information.Statement.{statement}
 use Rattle.block.proofs.system.add_information.Tie as tie
 
 abbrev Inv-loop : tie.InvT-loop
-Inv-loop number l w words symbols marks rows₀ rhs₀ table-rows row₀ rows rhs row =
-    (row ≤ table-rows) × Partly (codeOf number) w words symbols marks (row * codeOf number .q) nowhere rows rhs
+Inv-loop number l w words symbols marks rows₀ rhs₀ table-rows u₀ row₀ rows rhs u row =
+    (row ≤ table-rows) × Partly (codeOf number) w words symbols marks (row * codeOf number .q) nowhere u rows rhs
 
 abbrev μ-loop : tie.MeasureT-loop
-μ-loop number l w words symbols marks rows₀ rhs₀ table-rows row₀ rows rhs row = table-rows - row
+μ-loop number l w words symbols marks rows₀ rhs₀ table-rows u₀ row₀ rows rhs u row = table-rows - row
 
 loop-holds : tie.Need-loop-holds Inv-loop μ-loop
-loop-holds c = let s = c .before .before .before .before in (omega arith, at-same _ (s .pre .1) (sym (zero-mul _)))
+loop-holds c = let s = c .before .before .before .before in (omega arith, at-same (s .pre .1) (sym (zero-mul _)))
 
 add-row-requires : tie.Need-add-row-requires Inv-loop μ-loop
 add-row-requires c κs = let s = c .before .before .before .before .before .before .before .before in (s .pre .0, (omega (arith, s .pre .0 .1 .rows), c .before .before .before .loop .inv .1))
@@ -44,7 +44,7 @@ returns : tie.Need-returns Inv-loop μ-loop
 returns c =
     let s = c .before .before .before .before .before .before in
     let h : c .before .loop .row ≡ length (codeOf (s .args .number) .rows) = omega (arith, s .pre .0 .1 .rows) in
-    at-same _ (c .before .loop .inv .1) (ap (λ (n : ℕ). n * codeOf (s .args .number) .q) h ∙ valid-of _ (s .pre .0 .0) .whole)
+    at-same (c .before .loop .inv .1) (ap (λ (n : ℕ). n * codeOf (s .args .number) .q) h ∙ valid-of _ (s .pre .0 .0) .whole)
 
 pub add-information-spec : {M : Type 1} → statement M
 add-information-spec =

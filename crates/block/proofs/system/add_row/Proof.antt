@@ -12,11 +12,11 @@ use Rattle.block.proofs.system.add_row.Statement.{statement}
 use Rattle.block.proofs.system.add_row.Tie as tie
 
 abbrev Inv-loop : tie.InvT-loop
-Inv-loop number l w words row symbols marks rows₀ rhs₀ ys q step₀ rows rhs step =
-    (step ≤ q) × Partly (codeOf number) w words symbols marks (row * codeOf number .q + step) nowhere rows rhs
+Inv-loop number l w words row u symbols marks rows₀ rhs₀ ys q v₀ step₀ rows rhs v step =
+    (step ≤ q) × Partly (codeOf number) w words symbols marks (row * codeOf number .q + step) nowhere v rows rhs
 
 abbrev μ-loop : tie.MeasureT-loop
-μ-loop number l w words row symbols marks rows₀ rhs₀ ys q step₀ rows rhs step = q - step
+μ-loop number l w words row u symbols marks rows₀ rhs₀ ys q v₀ step₀ rows rhs v step = q - step
 
 addresses-requires : tie.Need-addresses-requires Inv-loop μ-loop
 addresses-requires c κs = (c .before .before .before .before .pre .0 .1, c .before .before .before .before .pre .1 .0)
@@ -24,7 +24,7 @@ addresses-requires c κs = (c .before .before .before .before .pre .0 .1, c .bef
 loop-holds : tie.Need-loop-holds Inv-loop μ-loop
 loop-holds c =
     let s = c .before .before .before .before .before in
-    (omega arith, at-same _ (s .pre .1 .1) (omega arith))
+    (omega arith, at-same (s .pre .1 .1) (omega arith))
 
 add-symbol-requires : tie.Need-add-symbol-requires Inv-loop μ-loop
 add-symbol-requires c κs =
@@ -40,7 +40,7 @@ loop-less : tie.Need-loop-less Inv-loop μ-loop
 loop-less c = omega arith
 
 loop-again : tie.Need-loop-again Inv-loop μ-loop
-loop-again c = (omega arith, at-same _ (c .before .before .before .before .add-symbol .ensures) (omega arith))
+loop-again c = (omega arith, at-same (c .before .before .before .before .add-symbol .ensures) (omega arith))
 
 same-length : tie.Need-same-length Inv-loop μ-loop
 same-length c = c .before .loop .inv .1 .row-words ∙ sym (c .before .before .before .before .before .before .before .pre .1 .1 .row-words)
@@ -54,7 +54,7 @@ returns c =
     let q = codeOf (s .args .number) .q in
     let e : s .args .row * q + c .before .loop .step ≡ (s .args .row + 1) * q =
     omega (arith, s .pre .0 .1 .q, ap (λ (n : ℕ). n * q) (add-one (s .args .row)), suc-mul (s .args .row) q) in
-    at-same _ (c .before .loop .inv .1) e
+    at-same (c .before .loop .inv .1) e
 
 pub add-row-spec : {M : Type 1} → statement M
 add-row-spec =

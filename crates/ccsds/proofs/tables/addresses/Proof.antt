@@ -9,7 +9,7 @@ use native.Mathlib.Omega.{arith}
 use lib.Dec.{ltb}
 use lib.ListN.{length, getD, length-set}
 use Rattle.ccsds.specs.Tables.{codeOf}
-use Rattle.ccsds.proofs.Fronts.{front-more}
+use Rattle.buffers.proofs.Fronts.{front-more}
 use Rattle.ccsds.proofs.tables.addresses.Statement.{statement}
 use Rattle.ccsds.proofs.tables.addresses.Tie as tie
 

@@ -5,7 +5,7 @@ use Prim.Native.Nat.{_-_, _≤_}
 use native.Mathlib.Omega.{arith}
 use lib.ListN.{length, length-set}
 use Rattle.rows.specs.Parts.{copyFrom}
-use Rattle.rows.proofs.PartsLaws.{putFrom-none, putFrom-next}
+use Rattle.rows.proofs.PartsLaws.{copyFrom-none, copyFrom-next}
 use Rattle.rows.proofs.parts.copy_from.Statement.{statement}
 use Rattle.rows.proofs.parts.copy_from.Tie as tie
 
@@ -16,7 +16,7 @@ abbrev μ-loop : tie.MeasureT-loop
 μ-loop dst₀ to src from len i₀ dst i = len - i
 
 loop-holds : tie.Need-loop-holds Inv-loop μ-loop
-loop-holds c = (omega arith, (refl, putFrom-none _ _ _ _ _))
+loop-holds c = (omega arith, (refl, copyFrom-none _ _ _ _))
 
 add-s : tie.Need-add-s Inv-loop μ-loop
 add-s c = omega arith
@@ -38,7 +38,7 @@ loop-less c = omega arith
 
 loop-again : tie.Need-loop-again Inv-loop μ-loop
 loop-again c =
-    let h = c .before .before .loop .inv in (omega arith, (simp length-set (h .1 .0), putFrom-next (λ a b. b) _ _ _ _ _ _ (h .1 .1)))
+    let h = c .before .before .loop .inv in (omega arith, (simp length-set (h .1 .0), copyFrom-next _ _ _ _ _ _ (h .1 .1)))
 
 same-length : tie.Need-same-length Inv-loop μ-loop
 same-length c = c .before .loop .inv .1 .0

@@ -3,7 +3,7 @@
 use native.Mathlib.Omega.{arith}
 use Prim.Native.Nat.{ℕ, _+_, _-_, _*_, _≤_, _<_}
 use lib.ListN.{length}
-use mathlib.Core.Path.{_≡_, refl, _∙_}
+use mathlib.Core.Path.{_≡_, refl, sym, _∙_}
 use Rattle.rows.specs.System.{Same}
 use Rattle.rows.proofs.SweepLaws.{has-row}
 use Rattle.rows.proofs.SystemLaws.{add-same, same-refl, same-trans}
@@ -32,7 +32,9 @@ loop-holds c = let t = c .next-open .ensures in (t .1 .0, (refl, (refl, (t .1 .1
 add-row-requires : tie.Need-add-row-requires Inv-loop μ-loop
 add-row-requires c κs =
     let m : ℕ = c .before .before .before .before .before .before .before .before .before .before .args .m in
-    (has-row m (omega arith) (omega arith) (omega arith), has-row m (omega arith) (omega arith) (omega arith))
+    let turn = c .before .before in
+    let other = turn .before .loop .inv .1 .1 .1 .0 (turn .loop-test .taken) in
+    (has-row m (omega arith) (omega arith) (omega arith), (has-row m (omega arith) (omega arith) (omega arith), λ e. other (sym e)))
 
 mul-joined : tie.Need-mul-joined Inv-loop μ-loop
 mul-joined c = omega arith

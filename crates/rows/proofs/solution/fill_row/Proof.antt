@@ -6,7 +6,7 @@ use mathlib.Core.Bool.{true}
 use Prim.Native.Nat.{ℕ, _+_, _-_, _*_, _≤_, _<_}
 use native.Mathlib.Nat.{le-trans}
 use native.Mathlib.Omega.{arith}
-use lib.ListN.{length}
+use lib.ListN.{length, getD}
 use Rattle.algebra.proofs.Codeword.{slot}
 use Rattle.rows.specs.Bits.{rowBit, OnlyIs}
 use Rattle.rows.specs.Reduced.{pivotWord}
@@ -23,34 +23,43 @@ ends c = (
   le-trans (slot (c .args .s) (c .args .m) (c .args .width) (c .pre .1 .1 .0)) (c .pre .0 .1),
 )
 
--- the position that the pivot word gives
+-- the unknown that the pivot word gives
+abbrev pivotOf : tie.Start → ℕ
+pivotOf c = pivotWord (c .args .rows .now) (c .args .words) (c .args .s) - 1
+
+abbrev start : tie.Else1 → tie.Start
+start c = c .before .before .before .before .before .before .before
+
+is-pivot : (c : tie.Else1) → pivotWord (start c .args .rows .now) (start c .args .words) (start c .args .s) ≡ pivotOf (start c) + 1
+is-pivot c = omega arith
+
+pivot : (c : tie.Else1) → (pivotOf (start c) < 64 * start c .args .words) × (rowBit (start c .args .rows .now) (start c .args .s * (start c .args .words + 1)) (pivotOf (start c)) ≡ true)
+pivot c = word-pivot _ (start c .args .m) _ _ _ (start c .pre .1 .1 .1 _ (start c .pre .1 .1 .0)) (is-pivot c)
+
+-- the position that it stands for, and that its symbol ends within the symbols
 abbrev place : tie.Start → ℕ
-place c = pivotWord (c .args .rows .now) (c .args .words) (c .args .s) - 1
+place c = getD (c .args .places .now) (pivotOf c) 0
 
-is-place : (c : tie.Else1) → pivotWord (c .before .before .before .before .before .before .args .rows .now) (c .before .before .before .before .before .before .args .words) (c .before .before .before .before .before .before .args .s) ≡ place (c .before .before .before .before .before .before) + 1
-is-place c = omega arith
+position : (c : tie.Else1) → place (start c) < length (start c .args .marks .now)
+position c = start c .pre .1 .0 .0 .each (pivotOf (start c)) (pivot c .0)
 
-pivot : (c : tie.Else1) → (place (c .before .before .before .before .before .before) < 64 * c .before .before .before .before .before .before .args .words) × (rowBit (c .before .before .before .before .before .before .args .rows .now) (c .before .before .before .before .before .before .args .s * (c .before .before .before .before .before .before .args .words + 1)) (place (c .before .before .before .before .before .before)) ≡ true)
-pivot c = word-pivot _ (c .before .before .before .before .before .before .args .m) _ _ _ (c .before .before .before .before .before .before .pre .1 .1 .1 _ (c .before .before .before .before .before .before .pre .1 .1 .0)) (is-place c)
-
--- its symbol ends within the symbols
-symbol : (c : tie.Else1) → place (c .before .before .before .before .before .before) * c .before .before .before .before .before .before .args .width + c .before .before .before .before .before .before .args .width ≤ length (c .before .before .before .before .before .before .args .symbols .now)
-symbol c = le-trans (slot (place (c .before .before .before .before .before .before)) (64 * c .before .before .before .before .before .before .args .words) (c .before .before .before .before .before .before .args .width) (pivot c .0)) (c .before .before .before .before .before .before .pre .1 .0 .0)
+symbol : (c : tie.Else1) → place (start c) * start c .args .width + start c .args .width ≤ length (start c .args .symbols .now)
+symbol c = le-trans (slot (place (start c)) (length (start c .args .marks .now)) (start c .args .width) (position c)) (start c .pre .1 .0 .1)
 
 add-base : tie.Need-add-base
 add-base c = search needs
 
 mul-base : tie.Need-mul-base
-mul-base c = omega (arith, ends (c .before .before .before .before) .0)
+mul-base c = omega (arith, ends (c .before .before .before .before .before) .0)
 
 add-k : tie.Need-add-k
-add-k c = omega (arith, ends (c .before .before .before .before) .0)
+add-k c = omega (arith, ends (c .before .before .before .before .before) .0)
 
 mul-v : tie.Need-mul-v
-mul-v c = omega (arith, ends (c .before .before .before .before) .0)
+mul-v c = omega (arith, ends (c .before .before .before .before .before) .0)
 
 shared-slice-read-v : tie.Need-shared-slice-read-v
-shared-slice-read-v c = omega (arith, ends (c .before .before .before .before .before) .0)
+shared-slice-read-v c = omega (arith, ends (c .before .before .before .before .before .before) .0)
 
 returns : tie.Need-returns
 returns c = inr (record { shared = λ p e. absurd (omega (arith, c .if1 .taken)); symbols = refl; marks = refl })
@@ -59,19 +68,25 @@ sub-p : tie.Need-sub-p
 sub-p c = search needs
 
 only-requires : tie.Need-only-requires
-only-requires c κs = let h = pivot c in ((omega arith, omega (arith, ends (c .before .before .before .before .before .before) .0)), h .1)
+only-requires c κs = let h = pivot c in ((omega arith, omega (arith, ends (start c) .0)), h .1)
+
+mul-i : tie.Need-mul-i
+mul-i c = let h = pivot (c .before .before) .0 in omega (arith, c .before .before .before .before .before .before .before .before .before .pre .1 .0 .0 .enough)
+
+shared-slice-read-i : tie.Need-shared-slice-read-i
+shared-slice-read-i c = let h = pivot (c .before .before .before) .0 in omega (arith, c .before .before .before .before .before .before .before .before .before .before .pre .1 .0 .0 .enough)
 
 mul-copy-from : tie.Need-mul-copy-from
-mul-copy-from c = omega (arith, symbol (c .before .before .before))
+mul-copy-from c = omega (arith, symbol (c .before .before .before .before))
 
 mul-copy-from-2 : tie.Need-mul-copy-from-2
-mul-copy-from-2 c = omega (arith, ends (c .before .before .before .before .before .before .before .before .before) .1)
+mul-copy-from-2 c = omega (arith, ends (c .before .before .before .before .before .before .before .before .before .before .before) .1)
 
 copy-from-requires : tie.Need-copy-from-requires
-copy-from-requires c κs = (symbol (c .before .before .before), ends (c .before .before .before .before .before .before .before .before .before) .1)
+copy-from-requires c κs = (symbol (c .before .before .before .before), ends (c .before .before .before .before .before .before .before .before .before .before .before) .1)
 
 slice-write-marks : tie.Need-slice-write-marks
-slice-write-marks c = let h = pivot (c .before .before .before .before .before .before) .0 in omega arith
+slice-write-marks c = position (c .before .before .before .before .before .before .before)
 
 same-length : tie.Need-same-length
 same-length c = search needs
@@ -82,12 +97,12 @@ same-length-2 c = search needs
 returns-2 : tie.Need-returns-2
 returns-2 c =
     inl (
-      place (c .before .before .before .before .before .before .before .before .before .before .before .before),
+      pivotOf (c .before .before .before .before .before .before .before .before .before .before .before .before .before .before),
       record {
         alone = record {
-          word = is-place (c .before .before .before .before .before .before);
-          within = pivot (c .before .before .before .before .before .before) .0;
-          only = subst (OnlyIs _ _ _) (c .before .before .before .before .if2 .taken) (c .before .before .before .before .before .only .ensures);
+          word = is-pivot (c .before .before .before .before .before .before .before);
+          within = pivot (c .before .before .before .before .before .before .before) .0;
+          only = subst (OnlyIs _ _ _) (c .before .before .before .before .before .if2 .taken) (c .before .before .before .before .before .before .only .ensures);
         };
         symbols = c .before .before .copy-from .ensures;
         marks = refl;
@@ -96,10 +111,10 @@ returns-2 c =
 
 returns-3 : tie.Need-returns-3
 returns-3 c =
-    let at-start = c .before .before .before .before .before .before .before .before in
+    let at-start = c .before .before .before .before .before .before .before .before .before in
     inr (record {
-      shared = λ p h. shared-at (rowBit (at-start .args .rows .now) (at-start .args .s * (at-start .args .words + 1))) _ (place at-start) p _ (c .before .only .ensures) (c .if2 .left)
-          (let j : place at-start ≡ p = omega arith in j);
+      shared = λ p h. shared-at (rowBit (at-start .args .rows .now) (at-start .args .s * (at-start .args .words + 1))) _ (pivotOf at-start) p _ (c .before .only .ensures) (c .if2 .left)
+          (let j : pivotOf at-start ≡ p = omega arith in j);
       symbols = refl;
       marks = refl;
     })
@@ -116,6 +131,8 @@ fill-row-spec =
     returns
     sub-p
     only-requires
+    mul-i
+    shared-slice-read-i
     mul-copy-from
     mul-copy-from-2
     copy-from-requires

@@ -6,7 +6,7 @@ use Prim.Native.Nat.{ℕ, _+_, _-_, _≤_, _<_}
 use native.Mathlib.Omega.{arith}
 use lib.ListN.{length}
 use Rattle.rows.specs.Sweep.{hit, sweepTo}
-use Rattle.rows.proofs.SweepLaws.{has-row, sweep-first, sweep-one, sweep-on, sweep-hit}
+use Rattle.rows.proofs.SweepLaws.{has-row, hit-ne, sweep-first, sweep-one, sweep-on, sweep-hit}
 use Rattle.rows.proofs.sweep.sweep.Statement.{statement}
 use Rattle.rows.proofs.sweep.sweep.Tie as tie
 
@@ -27,7 +27,10 @@ loop-holds c =
 
 add-row-requires : tie.Need-add-row-requires Inv-loop μ-loop
 add-row-requires c κs =
-    let m : ℕ = c .before .before .before .before .before .before .before .before .args .m in (has-row m (omega arith) (omega arith) (omega arith), has-row m (omega arith) (omega arith) (omega arith))
+    let m : ℕ = c .before .before .before .before .before .before .before .before .args .m in
+    let turn = c .before .before in
+    let here = turn .before .loop .inv .1 .1 .1 .0 (turn .loop-test .taken) in
+    (has-row m (omega arith) (omega arith) (omega arith), (has-row m (omega arith) (omega arith) (omega arith), hit-ne _ _ _ _ _ here))
 
 add-next-hit : tie.Need-add-next-hit Inv-loop μ-loop
 add-next-hit c = omega arith

@@ -1,0 +1,100 @@
+-- Sums by way of an array of their own: the laws of `Sum`, `put` and `Apart`, for any number of bytes.
+-- Assumes nothing.
+use mathlib.Core.Path.{_≡_, refl, sym, ap, ap₂, _∙_}
+use mathlib.Core.Logic.{⊎-elim}
+use mathlib.Core.List.{List}
+use Prim.Native.Nat.{ℕ, zero, suc, _+_, _<_, _≤_}
+use native.Mathlib.Nat.{not-suc-le-zero}
+use native.Mathlib.Numerals.{add-one}
+use native.Mathlib.Omega.{arith}
+use lib.Bits.{bitXor}
+use lib.ListN.{length, getD, set, length-set}
+use Rattle.algebra.specs.Sums.{_⊕_}
+use Rattle.buffers.specs.Parts.{added, put, Sum, Apart}
+use Rattle.buffers.proofs.Added.{added-above, added-below, added-more, added-same}
+use Rattle.buffers.proofs.Fronts.{front-more}
+
+-- ---- what the loop that makes the sums needs: t has i of them, and room for n
+
+pub record Some (d : List ℕ) (at : ℕ) (s : List ℕ) (from n i : ℕ) (t : List ℕ) : Type 0 where
+  pub upTo : i ≤ n
+  pub size : length t ≡ n
+  pub each : (b : ℕ) → b < i → getD t b 0 ≡ getD d (at + b) 0 ⊕ getD s (from + b) 0
+
+module _ {d : List ℕ} {at : ℕ} {s : List ℕ} {from n : ℕ} {t : List ℕ} where
+  pub some-none : length t ≡ n → Some d at s from n 0 t
+  some-none h = record { upTo = omega arith; size = h; each = λ b g. absurd (not-suc-le-zero g) }
+
+  pub some-more : {i : ℕ} → Some d at s from n i t → i < n → Some d at s from n (i + 1) (set t i (bitXor (getD d (at + i) 0) (getD s (from + i) 0)))
+  unfolding _⊕_
+  some-more {i} h g = record {
+    upTo = omega arith;
+    size = length-set t i _ ∙ h .size;
+    each = front-more (λ (b : ℕ). getD d (at + b) 0 ⊕ getD s (from + b) 0) t i _ (omega (arith, h .size)) (h .each) refl;
+  }
+
+  pub some-all : {i : ℕ} → Some d at s from n i t → n ≤ i → Sum d at s from n t
+  some-all h g = record { size = h .size; each = λ b k. h .each b (omega arith) }
+
+-- ---- what the loop that puts them needs: before the first turn, and one turn more
+
+pub put-none : (d : List ℕ) (at : ℕ) (t : List ℕ) → d ≡ put d at t 0
+unfolding put
+put-none d at t = refl
+
+pub put-more : (d : List ℕ) (at : ℕ) (t : List ℕ) (i : ℕ) (l : List ℕ) → l ≡ put d at t i → set l (at + i) (getD t i 0) ≡ put d at t (i + 1)
+unfolding put
+put-more d at t i l e = rw (add-one, e)
+
+-- ---- the two together
+
+put-each : (d : List ℕ) (at : ℕ) (s : List ℕ) (from : ℕ) (t : List ℕ) (n : ℕ) → ((b : ℕ) → b < n → getD t b 0 ≡ getD d (at + b) 0 ⊕ getD s (from + b) 0)
+    → put d at t n ≡ added d at s from n
+unfolding put added
+put-each d at s from t zero e = refl
+put-each d at s from t (suc n) e = ap₂ (λ (l : List ℕ) (v : ℕ). set l (at + n) v) (put-each d at s from t n (λ b h. e b (omega arith))) (e n (omega arith))
+
+pub put-sums : {d : List ℕ} {at : ℕ} {s : List ℕ} {from n : ℕ} {t k : List ℕ} → Sum d at s from n t → k ≡ put d at t n → k ≡ added d at s from n
+put-sums {d} {at} {s} {from} {n} {t} h e = e ∙ put-each d at s from t n (h .each)
+
+-- n bytes were added, and then m more
+pub added-join : (d : List ℕ) (at : ℕ) (s : List ℕ) (from n m : ℕ) → added (added d at s from n) (at + n) s (from + n) m ≡ added d at s from (n + m)
+unfolding added
+added-join d at s from n zero = let z : n ≡ n + 0 = omega arith in ap (added d at s from) z
+added-join d at s from n (suc m) =
+    let a : at + n + m ≡ at + (n + m) = omega arith in
+    let f : from + n + m ≡ from + (n + m) = omega arith in
+    let z : suc (n + m) ≡ n + suc m = omega arith in
+    ap₂ (λ (l : List ℕ) (k : ℕ). set l k (getD (added d at s from n) k 0 ⊕ getD s (from + n + m) 0)) (added-join d at s from n m) a
+    ∙ ap₂ (λ (x y : ℕ). set (added d at s from (n + m)) (at + (n + m)) (x ⊕ y)) (added-above d at s from n (at + (n + m)) (omega arith)) (ap (λ (k : ℕ). getD s k 0) f)
+    ∙ ap (added d at s from) z
+
+-- one chunk more: n bytes were added, and then the next m
+pub chunk : (d : List ℕ) (at : ℕ) (s : List ℕ) (from n m : ℕ) (l k : List ℕ) → l ≡ added d at s from n → k ≡ added l (at + n) s (from + n) m
+    → k ≡ added d at s from (n + m)
+chunk d at s from n m l k e p = p ∙ ap (λ (x : List ℕ). added x (at + n) s (from + n) m) e ∙ added-join d at s from n m
+
+-- ---- where the bytes that are added stand in the same buffer
+
+module _ (d : List ℕ) (at from : ℕ) where
+  -- those that are added are still as they were
+  pub kept-apart : (n i : ℕ) → Apart at from n → i ≤ n → (b : ℕ) → b < n → getD (added d at d from i) (from + b) 0 ≡ getD d (from + b) 0
+  kept-apart n i h g b k =
+      ⊎-elim (λ a. added-below d at d from i (from + b) (omega arith)) (λ a. added-above d at d from i (from + b) (omega arith)) (h .either)
+
+  -- one byte more
+  pub within-more : (len n : ℕ) (l : List ℕ) → Apart at from len → n < len → l ≡ added d at d from n
+      → set l (at + n) (bitXor (getD l (at + n) 0) (getD l (from + n) 0)) ≡ added d at d from (n + 1)
+  within-more len n l h g e =
+      added-more d at d from n l e (getD l (from + n) 0) (ap (λ (x : List ℕ). getD x (from + n) 0) e ∙ kept-apart len n h (omega arith) n g)
+
+  -- one chunk more
+  pub within-chunk : (len n m : ℕ) (l k : List ℕ) → Apart at from len → n + m ≤ len → l ≡ added d at d from n → k ≡ added l (at + n) l (from + n) m
+      → k ≡ added d at d from (n + m)
+  within-chunk len n m l k h g e p =
+      chunk d at d from n m l k e
+      (p ∙ added-same l (at + n) l (from + n) d (from + n) m
+      (λ b q.
+      let c : from + n + b ≡ from + (n + b) = omega arith in
+      ap (λ (x : List ℕ). getD x (from + n + b) 0) e ∙ ap (λ (j : ℕ). getD (added d at d from n) j 0) c
+      ∙ kept-apart len n h (omega arith) (n + b) (omega arith) ∙ ap (λ (j : ℕ). getD d j 0) (sym c)))
