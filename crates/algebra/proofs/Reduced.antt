@@ -4,12 +4,10 @@
 use mathlib.Core.Path.{_≡_, refl, sym, ap, ap₂, _∙_, subst}
 use mathlib.Core.Logic.{_≢_, _⊎_, inl, inr}
 use mathlib.Core.Bool.{Bool, true, false, Bool-discrete, false≢true}
-use Prim.Native.Nat.{ℕ, zero, suc, _+_, _-_, _≤_, _<_}
+use Prim.Native.Nat.{ℕ, zero, suc, _≤_, _<_}
 use native.Mathlib.Nat.{le-suc, le-refl, le-trans, not-suc-le-zero}
 use native.Mathlib.Decide.{ℕ-discrete}
 use native.Mathlib.Omega.{arith}
-use lib.Dec.{ltb}
-use borrow.Author.Tests.{ltb-true, ltb-false}
 use Rattle.algebra.specs.Sums.{_⊕_, pick, sum}
 use Rattle.algebra.proofs.Sums.{comm, unit, cancel, cancel-l, sum-none, sum-only, sum-ok}
 use Rattle.algebra.proofs.Systems.{System, Solves, bump, bump-at, bump-other, sum-bump, bump-ok}
@@ -36,30 +34,6 @@ Pinned m n coef has piv i = (v : Pivot m has piv i) × ((p : ℕ) → p < n → 
 -- i hangs on a position q that is no pivot: it is q, or its row has q too
 abbrev pub Loose : ℕ → ℕ → (ℕ → ℕ → Bool) → (ℕ → Bool) → (ℕ → ℕ) → ℕ → Type 0
 Loose m n coef has piv i = (q : ℕ) × (q < n) × (¬ Pivot m has piv q) × ((i ≡ q) ⊎ ((v : Pivot m has piv i) × (coef (v .0) q ≡ true)))
-
--- pivots kept as one number a row: the pivot plus 1, or 0 where there is none
-abbrev pub marked : (ℕ → ℕ) → ℕ → Bool
-marked mark j = ltb 0 (mark j)
-
-abbrev pub pivotOf : (ℕ → ℕ) → ℕ → ℕ
-pivotOf mark j = mark j - 1
-
-pub reduced-marks : (m n : ℕ) (a : ℕ → ℕ → Bool) (mark : ℕ → ℕ)
-    → ((j : ℕ) → j < m → mark j ≡ 0 → (p : ℕ) → p < n → a j p ≡ false)
-    → ((j p : ℕ) → j < m → mark j ≡ p + 1 → (p < n) × (a j p ≡ true) × ((i : ℕ) → i < m → i ≢ j → a i p ≡ false))
-    → Reduced m n a (marked mark) (pivotOf mark)
-reduced-marks m n a mark none some = record {
-  empty = λ j h e. none j h (zero-of j e);
-  inside = λ j h e. some j (mark j - 1) h (one-of j e) .0;
-  set = λ j h e. some j (mark j - 1) h (one-of j e) .1;
-  alone = λ j h e. some j (mark j - 1) h (one-of j e) .2;
-}
-  where
-    zero-of : (j : ℕ) → ltb 0 (mark j) ≡ false → mark j ≡ 0
-    zero-of j e = let h : mark j ≤ 0 = ltb-false 0 (mark j) e in omega arith
-
-    one-of : (j : ℕ) → ltb 0 (mark j) ≡ true → mark j ≡ (mark j - 1) + 1
-    one-of j e = let h : 0 < mark j = ltb-true 0 (mark j) e in omega arith
 
 -- ---- a bounded search: some number below k has the property, or none has
 

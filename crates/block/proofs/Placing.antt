@@ -22,10 +22,10 @@ pub record Placed (marks ps : List ℕ) (x u : ℕ) : Type 0 where
   pub position : (p : ℕ) → p < x → heard marks p ≡ false → getD ps (rank marks p) 0 ≡ p
   pub missing : (v : ℕ) → v < u → (heard marks (getD ps v 0) ≡ false) × (rank marks (getD ps v 0) ≡ v)
 
-module _ (marks : List ℕ) where
-  pub placed-none : (ps : List ℕ) → 0 < length marks → ps ≡ replicate 3072 0 → Placed marks ps 0 0
+module _ {marks : List ℕ} where
+  pub placed-none : {ps : List ℕ} → 0 < length marks → ps ≡ replicate 3072 0 → Placed marks ps 0 0
   unfolding rank
-  placed-none ps h e = record {
+  placed-none h e = record {
     size = ap length e ∙ length-replicate {A = ℕ} 3072 0;
     counted = refl;
     within = λ v. subst (λ (n : ℕ). n < length marks) (sym (ap (λ (l : List ℕ). getD l v 0) e ∙ zeros 3072 v)) h;
@@ -33,15 +33,15 @@ module _ (marks : List ℕ) where
     missing = λ v l. absurd (not-suc-le-zero l);
   }
 
-  pub placed-all : (ps : List ℕ) (x u : ℕ) → Placed marks ps x u → x ≡ length marks → Places marks ps
-  placed-all ps x u b e = record {
+  pub placed-all : {ps : List ℕ} {x u : ℕ} → Placed marks ps x u → x ≡ length marks → Places marks ps
+  placed-all b e = record {
     size = b .size;
     within = b .within;
     position = λ p h. b .position p (omega arith);
     missing = λ v h. b .missing v (omega (arith, b .counted, ap (rank marks) e));
   }
 
-  module _ (ps : List ℕ) (x u : ℕ) (b : Placed marks ps x u) where
+  module _ {ps : List ℕ} {x u : ℕ} (b : Placed marks ps x u) where
     pub placed-as : {ps′ : List ℕ} {u′ : ℕ} → ps′ ≡ ps → u′ ≡ u → Placed marks ps′ x u′
     placed-as {ps′} {u′} e f = subst (λ (l : List ℕ). Placed marks l x u′) (sym e) (subst (λ (n : ℕ). Placed marks ps x n) (sym f) b)
 

@@ -16,15 +16,15 @@ use Rattle.algebra.specs.Sums.{_⊕_, pick, sum}
 use Rattle.algebra.specs.Codeword.{Checks, byteAt}
 use Rattle.algebra.specs.Staircase.{staircase, stair}
 use Rattle.algebra.specs.Closing.{heard}
-use Rattle.algebra.proofs.Sums.{unit, sum-tests, sum-terms, sum-none, sum-only, sum-xor}
+use Rattle.algebra.proofs.Sums.{sum-tests, sum-terms, sum-none, sum-only, sum-xor}
 use Rattle.algebra.proofs.Codeword.{slot}
 use Rattle.buffers.specs.Parts.{added}
 use Rattle.buffers.proofs.Zeros.{zeros}
-use Rattle.buffers.proofs.Added.{added-length, added-below, added-above, added-in}
+use Rattle.buffers.proofs.Added.{added-length}
 use Rattle.ccsds.specs.Codes.{Params, nOf, checksOf, rowOf, place, hits, touches}
 use Rattle.ccsds.specs.Steps.{addedAt}
 use Rattle.ccsds.proofs.Valid.{Valid, place-lt, row-apart}
-use Rattle.ccsds.proofs.Columns.{addedAt-column}
+use Rattle.ccsds.proofs.Columns.{added-column, addedAt-column}
 use Rattle.rows.specs.Bits.{rowBit, testBit, setRowBit}
 use Rattle.rows.proofs.Digits.{testBit-none}
 use Rattle.rows.proofs.BitsLaws.{set-bit, set-bit-else, length-setRowBit}
@@ -167,27 +167,6 @@ next-test c x j p u e = go (decLt p x) (decLt x p)
         simp (eq-eqb p x (omega arith), ne-eqb p (x + 1) (λ k. omega arith), lt-ltb p (x + 1) (omega arith))
         (e ∙ ap (c .has j) (omega arith))
 
--- a symbol is added at row j: there the sum, elsewhere what was there
-added-at : (w : ℕ) (d s : List ℕ) (j x k i : ℕ) → k < w → j * w + w ≤ length d
-    → getD (added d (j * w) s (x * w) w) (i * w + k) 0 ≡ getD d (i * w + k) 0 ⊕ pick (eqb j i) (byteAt w s k x)
-added-at w d s j x k i hk fit = go (decLt i j) (decLt j i)
-  where
-    New : ℕ → ℕ
-    New r = getD (added d (j * w) s (x * w) w) (r * w + k) 0
-
-    Old : ℕ → Bool → ℕ
-    Old r e = getD d (r * w + k) 0 ⊕ pick e (byteAt w s k x)
-
-    other : (i ≡ j → ⊥) → New i ≡ getD d (i * w + k) 0 → New i ≡ Old i (eqb j i)
-    other ne g = g ∙ sym (ap (Old i) (ne-eqb j i (λ e. ne (sym e))) ∙ unit (getD d (i * w + k) 0))
-
-    go : Dec (i < j) → Dec (j < i) → New i ≡ Old i (eqb j i)
-    go (yes h) g = other (λ e. omega arith) (added-below d (j * w) s (x * w) w (i * w + k) (omega (arith, slot i j w h)))
-    go (no h) (yes g) = other (λ e. omega arith) (added-above d (j * w) s (x * w) w (i * w + k) (omega (arith, slot j i w g)))
-    go (no h) (no g) =
-        let e : j ≡ i = omega arith in
-        subst (λ (r : ℕ). New r ≡ Old r (eqb j r)) e (added-in d (j * w) s (x * w) w k hk fit ∙ sym (ap (Old j) (eq-eqb j j refl)))
-
 -- the rows that information symbol x touches by its addresses from i on
 abbrev pub rowsFrom : Params → ℕ → ℕ → ℕ → Bool
 rowsFrom c x i = hits (place c x) (drop i (rowOf c x))
@@ -322,7 +301,7 @@ module _ {c : Params} {w words : ℕ} {s mk : List ℕ} where
             → Partly c w words s mk x (λ i. eqb j i || t i) u l d′
         heard-row on new {d′} {from} ef e =
             heard-rows on (eqb j) (λ i k. ap t (sym (eqb-true j i k)) ∙ new) (ap length e ∙ added-length d (j * w) s from w)
-            (λ k i hk hi. ap (λ (y : List ℕ). getD y (i * w + k) 0) (e ∙ ap (λ (n : ℕ). added d (j * w) s n w) ef) ∙ added-at w d s j x k i hk rhs-fits)
+            (λ k i hk hi. ap (λ (y : List ℕ). getD y (i * w + k) 0) (e ∙ ap (λ (n : ℕ). added d (j * w) s n w) ef) ∙ added-column w k hk d s j x i rhs-fits)
 
         -- a missing x is put into row j
         pub missing-row : heard mk x ≡ false → {l′ : List ℕ} → l′ ≡ setRowBit l (j * (words + 1)) u → Partly c w words s mk x (λ i. eqb j i || t i) u l′ d

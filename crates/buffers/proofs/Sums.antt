@@ -1,7 +1,7 @@
 -- Sums by way of an array of their own: the laws of `Sum`, `put` and `Apart`, for any number of bytes.
 -- Assumes nothing.
 use mathlib.Core.Path.{_≡_, refl, sym, ap, ap₂, _∙_}
-use mathlib.Core.Logic.{⊎-elim}
+use mathlib.Core.Logic.{inl, inr, ⊎-elim}
 use mathlib.Core.List.{List}
 use Prim.Native.Nat.{ℕ, zero, suc, _+_, _<_, _≤_}
 use native.Mathlib.Nat.{not-suc-le-zero}
@@ -75,6 +75,10 @@ pub chunk : (d : List ℕ) (at : ℕ) (s : List ℕ) (from n m : ℕ) (l k : Lis
 chunk d at s from n m l k e p = p ∙ ap (λ (x : List ℕ). added x (at + n) s (from + n) m) e ∙ added-join d at s from n m
 
 -- ---- where the bytes that are added stand in the same buffer
+
+-- parts of such parts are apart too
+pub apart-part : (at from len i n : ℕ) → i + n ≤ len → Apart at from len → Apart (at + i) (from + i) n
+apart-part at from len i n g h = record { either = ⊎-elim (λ a. inl (omega arith)) (λ a. inr (omega arith)) (h .either) }
 
 module _ (d : List ℕ) (at from : ℕ) where
   -- those that are added are still as they were

@@ -4,8 +4,8 @@ ghost use Prim.Native.Nat.{_≤_, _+_};
 ghost use lib.ListN.{length, replicate};
 ghost use Rattle.buffers.specs.Parts.{added, put, Sum, Apart};
 
-// The n bytes of dst from index `at` on, each with the byte of src added that stands as far from index `from`. For n = 16 and n = 64, since the compiler
-// needs the number to make vector instructions of the loop. An array of its own overlaps with nothing, so no test of that is made.
+// The 16 bytes of dst from index `at` on, each with the byte of src added that stands as far from index `from`. An array of its own overlaps with
+// nothing, and so short a loop is compiled to one vector instruction, without a test of whether dst and src overlap.
 fn sum_16(dst: &[u8], at: usize, src: &[u8], from: usize) -> [u8; 16]
     requires { ⌜ (at + 16 ≤ length (now dst)) × (from + 16 ≤ length (now src)) ⌝ }
     ensures { λ r. ⌜ Sum (now (dst .entry)) at (now (src .entry)) from 16 r ⌝ }
@@ -13,19 +13,6 @@ fn sum_16(dst: &[u8], at: usize, src: &[u8], from: usize) -> [u8; 16]
     let mut t = [0u8; 16];
     let mut i = 0;
     while i < 16 {
-        t[i] = dst[at + i] ^ src[from + i];
-        i += 1;
-    }
-    t
-}
-
-fn sum_64(dst: &[u8], at: usize, src: &[u8], from: usize) -> [u8; 64]
-    requires { ⌜ (at + 64 ≤ length (now dst)) × (from + 64 ≤ length (now src)) ⌝ }
-    ensures { λ r. ⌜ Sum (now (dst .entry)) at (now (src .entry)) from 64 r ⌝ }
-{
-    let mut t = [0u8; 64];
-    let mut i = 0;
-    while i < 64 {
         t[i] = dst[at + i] ^ src[from + i];
         i += 1;
     }
@@ -44,18 +31,7 @@ fn put_16(dst: &mut [u8], at: usize, t: &[u8; 16])
     }
 }
 
-fn put_64(dst: &mut [u8], at: usize, t: &[u8; 64])
-    requires { ⌜ (at + 64 ≤ length (now dst)) × (length (now t) ≡ 64) ⌝ }
-    ensures { λ _. ⌜ now (dst .exit) ≡ put (now (dst .entry)) at (now (t .entry)) 64 ⌝ }
-{
-    let mut i = 0;
-    while i < 64 {
-        dst[at + i] = t[i];
-        i += 1;
-    }
-}
-
-// Adds 16 or 64 bytes of src, or of the same buffer. Each is a function of its own: inside the loops below the array would be kept in memory.
+// Adds 16 bytes of src.
 fn add_16(dst: &mut [u8], at: usize, src: &[u8], from: usize)
     requires { ⌜ (at + 16 ≤ length (now dst)) × (from + 16 ≤ length (now src)) ⌝ }
     ensures { λ _. ⌜ now (dst .exit) ≡ added (now (dst .entry)) at (now (src .entry)) from 16 ⌝ }
@@ -64,14 +40,18 @@ fn add_16(dst: &mut [u8], at: usize, src: &[u8], from: usize)
     put_16(dst, at, &t);
 }
 
+// The same with 64 bytes.
 fn add_64(dst: &mut [u8], at: usize, src: &[u8], from: usize)
     requires { ⌜ (at + 64 ≤ length (now dst)) × (from + 64 ≤ length (now src)) ⌝ }
     ensures { λ _. ⌜ now (dst .exit) ≡ added (now (dst .entry)) at (now (src .entry)) from 64 ⌝ }
 {
-    let t = sum_64(dst, at, src, from);
-    put_64(dst, at, &t);
+    add_16(dst, at, src, from);
+    add_16(dst, at + 16, src, from + 16);
+    add_16(dst, at + 32, src, from + 32);
+    add_16(dst, at + 48, src, from + 48);
 }
 
+// Adds 16 bytes of the same buffer.
 fn add_within_16(buf: &mut [u8], at: usize, from: usize)
     requires { ⌜ (at + 16 ≤ length (now buf)) × (from + 16 ≤ length (now buf)) ⌝ }
     ensures { λ _. ⌜ now (buf .exit) ≡ added (now (buf .entry)) at (now (buf .entry)) from 16 ⌝ }
@@ -80,12 +60,16 @@ fn add_within_16(buf: &mut [u8], at: usize, from: usize)
     put_16(buf, at, &t);
 }
 
+// The same with 64 bytes, apart from those that they are added to.
 fn add_within_64(buf: &mut [u8], at: usize, from: usize)
+    requires { ⌜ Apart at from 64 ⌝ }
     requires { ⌜ (at + 64 ≤ length (now buf)) × (from + 64 ≤ length (now buf)) ⌝ }
     ensures { λ _. ⌜ now (buf .exit) ≡ added (now (buf .entry)) at (now (buf .entry)) from 64 ⌝ }
 {
-    let t = sum_64(buf, at, buf, from);
-    put_64(buf, at, &t);
+    add_within_16(buf, at, from);
+    add_within_16(buf, at + 16, from + 16);
+    add_within_16(buf, at + 32, from + 32);
+    add_within_16(buf, at + 48, from + 48);
 }
 
 // Adds len bytes of src, from index `from` on, to those of dst from index `at` on.

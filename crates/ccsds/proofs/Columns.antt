@@ -29,7 +29,7 @@ use Rattle.ccsds.proofs.Valid.{Valid, Apart, place-lt, row-apart, hit-o
 
 module _ (w b : ℕ) (hb : b < w) where
   -- a symbol is added at symbol r: there the sum, elsewhere what was there
-  added-column : (d s : List ℕ) (r x j : ℕ) → r * w + w ≤ length d
+  pub added-column : (d s : List ℕ) (r x j : ℕ) → r * w + w ≤ length d
       → byteAt w (added d (r * w) s (x * w) w) b j ≡ byteAt w d b j ⊕ pick (eqb r j) (byteAt w s b x)
   added-column d s r x j l = go (decLt j r) (decLt r j)
     where

@@ -7,7 +7,7 @@ use native.Mathlib.Omega.{arith}
 use lib.ListN.{length, length-set}
 use Rattle.buffers.specs.Parts.{added}
 use Rattle.buffers.proofs.Added.{added-all}
-use Rattle.buffers.proofs.Sums.{within-more, within-chunk}
+use Rattle.buffers.proofs.Sums.{apart-part, within-more, within-chunk}
 use Rattle.buffers.proofs.add_within.Statement.{statement}
 use Rattle.buffers.proofs.add_within.Tie as tie
 
@@ -45,7 +45,10 @@ add-add-within-64-2 : tie.Need-add-add-within-64-2 Inv-loop μ-loop Inv-loop2 μ
 add-add-within-64-2 c = omega arith
 
 add-within-64-requires : tie.Need-add-within-64-requires Inv-loop μ-loop Inv-loop2 μ-loop2 Inv-loop3 μ-loop3
-add-within-64-requires c κs = omega arith
+add-within-64-requires c κs =
+    let s = c .before .before .before .before in
+    let l = c .before .before .loop in
+    (apart-part (s .args .at) (s .args .from) (s .args .len) (l .i) 64 (omega arith) (s .pre .0), (omega arith, omega arith))
 
 add-i : tie.Need-add-i Inv-loop μ-loop Inv-loop2 μ-loop2 Inv-loop3 μ-loop3
 add-i c = omega arith

@@ -21,7 +21,7 @@ blank-requires : tie.Need-blank-requires Inv-loop μ-loop
 blank-requires c κs = tt
 
 loop-holds : tie.Need-loop-holds Inv-loop μ-loop
-loop-holds c = (omega arith, placed-none _ _ (c .before .before .pre .0) (c .blank .ensures))
+loop-holds c = (omega arith, placed-none (c .before .before .pre .0) (c .blank .ensures))
 
 shared-slice-read-if1 : tie.Need-shared-slice-read-if1 Inv-loop μ-loop
 shared-slice-read-if1 c = omega arith
@@ -54,13 +54,16 @@ loop-again c =
     let h : l .x < length (s .args .marks .now) = omega arith in (
       omega arith,
       ⊎-elim
-          (λ w. placed-as _ _ _ _ (placed-missing _ _ _ _ (l .inv .1) (heard-not _ _ (w .0 .taken)) h (omega (arith, s .pre .1))) (w .1) (w .2))
-          (λ w. placed-as _ _ _ _ (placed-heard _ _ _ _ (l .inv .1) (heard-one _ _ (w .0 .left))) (w .1) (w .2))
+          (λ w. placed-as (placed-missing (l .inv .1) (heard-not _ _ (w .0 .taken)) h (omega (arith, s .pre .1))) (w .1) (w .2))
+          (λ w. placed-as (placed-heard (l .inv .1) (heard-one _ _ (w .0 .left))) (w .1) (w .2))
           (c .if1 .came),
     )
 
 returns : tie.Need-returns Inv-loop μ-loop
-returns c = let l = c .before .loop in placed-all _ _ _ _ (l .inv .1) (let h : l .x ≡ length (c .before .before .before .before .args .marks .now) = omega arith in h)
+returns c =
+    let l = c .before .loop in
+    let h : l .x ≡ length (c .before .before .before .before .args .marks .now) = omega arith in
+    placed-all (l .inv .1) h
 
 pub places-spec : {M : Type 1} → statement M
 places-spec =
