@@ -45,6 +45,23 @@ fn weigh(rows: &[u64], hints: &mut [u16; 1024], m: usize, words: usize)
     }
 }
 
+// Lists the rows whose hint is not CLOSED; returns how many these are.
+fn list_open(hints: &[u16; 1024], list: &mut [u16; 1024], m: usize) -> usize
+    requires { ⌜ m ≤ 1024 ⌝ }
+    ensures { λ r. ⌜ r ≤ m ⌝ }
+{
+    let mut count = 0;
+    let mut j = 0;
+    while j < m {
+        if hints[j] != CLOSED {
+            list[count] = j as u16;
+            count += 1;
+        }
+        j += 1;
+    }
+    count
+}
+
 // A row with the least hint, or the first from row `from` on, round the end, whose hint is at most `enough`; m where all are CLOSED.
 fn pick(hints: &[u16; 1024], m: usize, from: usize, enough: u16) -> usize
     requires { ⌜ (m ≤ 1024) × (from ≤ m) ⌝ }
@@ -91,37 +108,43 @@ fn joined(a: u16, b: u16) -> u16 {
     (s - 2) as u16
 }
 
-// The first row from j on, other than r, that is not CLOSED and has unknown p; m where there is none. The unknown is asked first: it is seldom there,
-// so that branch is foreseen, and the other is not.
+// Row j is one of the m and has unknown p.
+fn has(rows: &[u64], m: usize, words: usize, j: u16, p: usize) -> bool
+    requires { ⌜ (p / 64 < words) × (m * (words + 1) ≤ length (now rows)) ⌝ }
+{
+    let k = j as usize;
+    if k < m {
+        return bits::bit_at(rows, k * (words + 1), p);
+    }
+    false
+}
+
+// The first place from i on in the list whose row has unknown p; count where there is none.
 fn next_open(
     rows: &[u64],
-    hints: &[u16; 1024],
+    list: &[u16; 1024],
+    count: usize,
     m: usize,
     words: usize,
-    r: usize,
     p: usize,
-    j: usize,
+    i: usize,
 ) -> usize
-    requires { ⌜ (p / 64 < words) × ((j ≤ m) × (m ≤ 1024)) ⌝ }
+    requires { ⌜ (p / 64 < words) × ((i ≤ count) × (count ≤ 1024)) ⌝ }
     requires { ⌜ m * (words + 1) ≤ length (now rows) ⌝ }
-    ensures { λ k. ⌜ (j ≤ k) × ((k ≤ m) × (k < m → k ≡ r → ⊥)) ⌝ }
+    ensures { λ k. ⌜ (i ≤ k) × (k ≤ count) ⌝ }
 {
-    let mut k = j;
-    while k < m {
-        if bits::bit_at(rows, k * (words + 1), p) {
-            if hints[k] != CLOSED {
-                if k != r {
-                    return k;
-                }
-            }
+    let mut k = i;
+    while k < count {
+        if has(rows, m, words, list[k], p) {
+            return k;
         }
         k += 1;
     }
-    m
+    count
 }
 
-// Row r goes into each other row that is not CLOSED and has unknown p.
-fn push(
+// Row r goes into row v, which stands at place i of the list. Returns the place of row r, as far as it is known: i where v is r, else `mine`.
+fn join_row(
     rows: &mut [u64],
     rhs: &mut [u8],
     hints: &mut [u16; 1024],
@@ -129,20 +152,64 @@ fn push(
     words: usize,
     width: usize,
     r: usize,
-    p: usize,
-)
-    requires { ⌜ (p / 64 < words) × ((r < m) × (m ≤ 1024)) ⌝ }
+    v: u16,
+    i: usize,
+    mine: usize,
+) -> usize
+    requires { ⌜ (r < m) × (m ≤ 1024) ⌝ }
     requires { ⌜ (m * (words + 1) ≤ length (now rows)) × (m * width ≤ length (now rhs)) ⌝ }
     ensures { λ _. ⌜ Same (now (rows .entry)) (now (rhs .entry)) (now (rows .exit)) (now (rhs .exit)) m words width ⌝ }
 {
-    let own = hints[r];
-    let mut j = next_open(rows, hints, m, words, r, p, 0);
-    while j < m {
-        sweep::add_row(rows, rhs, words, width, r, j);
-        hints[j] = joined(hints[j], own);
-        j = next_open(rows, hints, m, words, r, p, j + 1);
+    let j = v as usize;
+    if j == r {
+        return i;
+    }
+    if j >= m {
+        return mine;
+    }
+    sweep::add_row(rows, rhs, words, width, r, j);
+    hints[j] = joined(hints[j], hints[r]);
+    mine
+}
+
+// Takes the row at place `mine` out of the list; returns how many are left.
+fn take_out(list: &mut [u16; 1024], count: usize, mine: usize) -> usize
+    requires { ⌜ count ≤ 1024 ⌝ }
+    ensures { λ r. ⌜ r ≤ count ⌝ }
+{
+    if mine < count {
+        list[mine] = list[count - 1];
+        return count - 1;
+    }
+    count
+}
+
+// Row r goes into each other row of the list that has unknown p, and is CLOSED then. Returns how many rows are left in the list.
+fn push(
+    rows: &mut [u64],
+    rhs: &mut [u8],
+    hints: &mut [u16; 1024],
+    list: &mut [u16; 1024],
+    count: usize,
+    m: usize,
+    words: usize,
+    width: usize,
+    r: usize,
+    p: usize,
+) -> usize
+    requires { ⌜ (p / 64 < words) × ((r < m) × ((m ≤ 1024) × (count ≤ 1024))) ⌝ }
+    requires { ⌜ (m * (words + 1) ≤ length (now rows)) × (m * width ≤ length (now rhs)) ⌝ }
+    ensures { λ left. ⌜ left ≤ count ⌝ }
+    ensures { λ _. ⌜ Same (now (rows .entry)) (now (rhs .entry)) (now (rows .exit)) (now (rhs .exit)) m words width ⌝ }
+{
+    let mut mine = count;
+    let mut i = next_open(rows, list, count, m, words, p, 0);
+    while i < count {
+        mine = join_row(rows, rhs, hints, m, words, width, r, list[i], i, mine);
+        i = next_open(rows, list, count, m, words, p, i + 1);
     }
     hints[r] = CLOSED;
+    take_out(list, count, mine)
 }
 
 // An unknown of the row of `words` words at `base`: the lowest of its last word that is not 0; 64 * words where there is none. The parity symbols come
@@ -164,31 +231,33 @@ fn latest(rows: &[u64], base: usize, words: usize) -> usize
     64 * words
 }
 
-// Pushes row r at an unknown that it has. Returns the two as unknown * 1024 + row.
+// Pushes row r at unknown p, or closes it where p is none.
 fn push_row(
     rows: &mut [u64],
     rhs: &mut [u8],
     hints: &mut [u16; 1024],
+    list: &mut [u16; 1024],
+    count: usize,
     m: usize,
     words: usize,
     width: usize,
     r: usize,
+    p: usize,
 ) -> usize
-    requires { ⌜ (words ≤ 48) × ((r < m) × (m ≤ 1024)) ⌝ }
+    requires { ⌜ (r < m) × ((m ≤ 1024) × (count ≤ 1024)) ⌝ }
     requires { ⌜ (m * (words + 1) ≤ length (now rows)) × (m * width ≤ length (now rhs)) ⌝ }
-    ensures { λ v. ⌜ v < 4194304 ⌝ }
+    ensures { λ left. ⌜ left ≤ count ⌝ }
     ensures { λ _. ⌜ Same (now (rows .entry)) (now (rhs .entry)) (now (rows .exit)) (now (rhs .exit)) m words width ⌝ }
 {
-    let p = latest(rows, r * (words + 1), words);
     if p / 64 < words {
-        push(rows, rhs, hints, m, words, width, r, p);
-        return p * 1024 + r;
+        return push(rows, rhs, hints, list, count, m, words, width, r, p);
     }
     hints[r] = CLOSED;
-    r
+    count
 }
 
-// At most m turns, in each of which the row with the least hint is pushed. Returns the number of turns, and in `order` what each of them pushed.
+// At most m turns, in each of which the row with the least hint is pushed at an unknown that it has. Returns the number of turns, and in `order` what each
+// of them pushed, as unknown * 1024 + row.
 pub fn prepare(
     rows: &mut [u64],
     rhs: &mut [u8],
@@ -204,6 +273,8 @@ pub fn prepare(
 {
     let mut hints = [0u16; 1024];
     weigh(rows, &mut hints, m, words);
+    let mut list = [0u16; 1024];
+    let mut count = list_open(&hints, &mut list, m);
     let mut from = 0;
     let mut enough = 1;
     let mut t = 0;
@@ -214,8 +285,9 @@ pub fn prepare(
         }
         from = r;
         enough = hints[r];
-        let v = push_row(rows, rhs, &mut hints, m, words, width, r);
-        order[t] = v as u32;
+        let p = latest(rows, r * (words + 1), words);
+        count = push_row(rows, rhs, &mut hints, &mut list, count, m, words, width, r, p);
+        order[t] = (p * 1024 + r) as u32;
         t += 1;
     }
     m
