@@ -1,10 +1,12 @@
 // The first part of elimination: rows are added to each other so that few additions are needed in all. Nothing is proved of how well that goes:
 // each addition keeps the solutions, and the hints only choose which are made. A hint is about the number of unknowns of a row, or CLOSED.
+// The list has, in any order, the rows that are not CLOSED, so that no other row is looked at for an unknown. A row that loses its last unknown stays in it.
 use crate::bits;
 use crate::sweep;
 ghost use mathlib.Core.Path.{_≡_};
+ghost use mathlib.Core.Bool.{true};
 ghost use Prim.Native.Nat.{_+_, _*_, _/_, _≤_, _<_};
-ghost use lib.ListN.{length};
+ghost use lib.ListN.{length, getD};
 ghost use Rattle.rows.specs.System.{Same};
 
 const CLOSED: u16 = 65535;
@@ -111,6 +113,7 @@ fn joined(a: u16, b: u16) -> u16 {
 // Row j is one of the m and has unknown p.
 fn has(rows: &[u64], m: usize, words: usize, j: u16, p: usize) -> bool
     requires { ⌜ (p / 64 < words) × (m * (words + 1) ≤ length (now rows)) ⌝ }
+    ensures { λ r. ⌜ (r ≡ true → j < m) ⌝ }
 {
     let k = j as usize;
     if k < m {
@@ -131,7 +134,7 @@ fn next_open(
 ) -> usize
     requires { ⌜ (p / 64 < words) × ((i ≤ count) × (count ≤ 1024)) ⌝ }
     requires { ⌜ m * (words + 1) ≤ length (now rows) ⌝ }
-    ensures { λ k. ⌜ (i ≤ k) × (k ≤ count) ⌝ }
+    ensures { λ k. ⌜ (i ≤ k) × ((k ≤ count) × (k < count → getD (now (list .entry)) k 0 < m)) ⌝ }
 {
     let mut k = i;
     while k < count {
@@ -156,16 +159,13 @@ fn join_row(
     i: usize,
     mine: usize,
 ) -> usize
-    requires { ⌜ (r < m) × (m ≤ 1024) ⌝ }
+    requires { ⌜ (r < m) × ((m ≤ 1024) × (v < m)) ⌝ }
     requires { ⌜ (m * (words + 1) ≤ length (now rows)) × (m * width ≤ length (now rhs)) ⌝ }
     ensures { λ _. ⌜ Same (now (rows .entry)) (now (rhs .entry)) (now (rows .exit)) (now (rhs .exit)) m words width ⌝ }
 {
     let j = v as usize;
     if j == r {
         return i;
-    }
-    if j >= m {
-        return mine;
     }
     sweep::add_row(rows, rhs, words, width, r, j);
     hints[j] = joined(hints[j], hints[r]);
@@ -286,7 +286,18 @@ pub fn prepare(
         from = r;
         enough = hints[r];
         let p = latest(rows, r * (words + 1), words);
-        count = push_row(rows, rhs, &mut hints, &mut list, count, m, words, width, r, p);
+        count = push_row(
+            rows,
+            rhs,
+            &mut hints,
+            &mut list,
+            count,
+            m,
+            words,
+            width,
+            r,
+            p,
+        );
         order[t] = (p * 1024 + r) as u32;
         t += 1;
     }

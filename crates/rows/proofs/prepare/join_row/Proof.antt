@@ -1,7 +1,7 @@
 -- `rows::prepare::join_row` meets its contract: one row goes into another, or nothing changes.
 -- Assumes nothing.
 use native.Mathlib.Omega.{arith}
-use Prim.Native.Nat.{ℕ, _<_}
+use Prim.Native.Nat.{ℕ}
 use mathlib.Core.Path.{sym}
 use Rattle.rows.proofs.SweepLaws.{has-row}
 use Rattle.rows.proofs.SystemLaws.{add-same, same-refl}
@@ -12,13 +12,10 @@ use Rattle.rows.proofs.prepare.join_row.Tie as tie
 returns : tie.Need-returns
 returns c = same-refl
 
-returns-2 : tie.Need-returns-2
-returns-2 c = same-refl
-
 add-row-requires : tie.Need-add-row-requires
 add-row-requires c κs =
-    let m : ℕ = c .before .before .before .before .before .before .args .m in
-    (has-row m (omega arith) (omega arith) (omega arith), (has-row m (omega arith) (omega arith) (omega arith), λ e. c .before .before .before .if1 .left (sym e)))
+    let m : ℕ = c .before .before .before .before .before .args .m in
+    (has-row m (omega arith) (omega arith) (omega arith), (has-row m (omega arith) (omega arith) (omega arith), λ e. c .before .before .if1 .left (sym e)))
 
 mul-joined : tie.Need-mul-joined
 mul-joined c = search needs
@@ -47,19 +44,17 @@ same-length c = search needs
 same-length-2 : tie.Need-same-length-2
 same-length-2 c = search needs
 
-returns-3 : tie.Need-returns-3
-returns-3 c =
+returns-2 : tie.Need-returns-2
+returns-2 c =
     let at-add = c .before .before .before .before .before .before .before in
-    let start = at-add .before .before .before .before .before .before .before in
-    let inside : c .before .before .before .before .before .before .before .before .before .before .before .before .before .before .args .v < c .before .before .before .before .before .before .before .before .before .before .before .before .before .before .args .m = omega arith in
-    add-same _ _ _ _ _ _ _ _ _ (start .pre .0 .0) inside (at-add .before .before .before .before .if1 .left) (start .pre .1 .0) (start .pre .1 .1) (at-add .add-row .ensures .0) (at-add .add-row .ensures .1)
+    let start = at-add .before .before .before .before .before .before in
+    add-same _ _ _ _ _ _ _ _ _ (start .pre .0 .0) (start .pre .0 .1 .1) (at-add .before .before .before .if1 .left) (start .pre .1 .0) (start .pre .1 .1) (at-add .add-row .ensures .0) (at-add .add-row .ensures .1)
 
 pub join-row-spec : {M : Type 1} → statement M
 join-row-spec =
     tie.close
     (tie.spec
     returns
-    returns-2
     add-row-requires
     mul-joined
     element-copy-out-joined
@@ -70,4 +65,4 @@ join-row-spec =
     element-write-hints
     same-length
     same-length-2
-    returns-3)
+    returns-2)

@@ -1,8 +1,8 @@
 -- `rows::prepare::push` meets its contract. The invariant: the solutions are those of the start.
 -- Assumes nothing.
 use native.Mathlib.Omega.{arith}
-use Prim.Native.Nat.{_-_, _≤_}
-use lib.ListN.{length}
+use Prim.Native.Nat.{_-_, _≤_, _<_}
+use lib.ListN.{length, getD}
 use mathlib.Core.Path.{_≡_, refl, _∙_}
 use Rattle.rows.specs.System.{Same}
 use Rattle.rows.proofs.SystemLaws.{same-refl, same-trans}
@@ -11,7 +11,7 @@ use Rattle.rows.proofs.prepare.push.Tie as tie
 
 abbrev Inv-loop : tie.InvT-loop
 Inv-loop rows₀ rhs₀ hints₀ list count m words width r p mine₀ i₀ rows rhs hints mine i =
-    (i ≤ count) × ((length rows ≡ length rows₀) × ((length rhs ≡ length rhs₀) × Same rows₀ rhs₀ rows rhs m words width))
+    (i ≤ count) × ((i < count → getD list i 0 < m) × ((length rows ≡ length rows₀) × ((length rhs ≡ length rhs₀) × Same rows₀ rhs₀ rows rhs m words width)))
 
 abbrev μ-loop : tie.MeasureT-loop
 μ-loop rows₀ rhs₀ hints₀ list count m words width r p mine₀ i₀ rows rhs hints mine i = count - i
@@ -20,7 +20,7 @@ next-open-requires : tie.Need-next-open-requires Inv-loop μ-loop
 next-open-requires c κs = omega arith
 
 loop-holds : tie.Need-loop-holds Inv-loop μ-loop
-loop-holds c = let t = c .next-open .ensures in (t .1, (refl, (refl, same-refl)))
+loop-holds c = let t = c .next-open .ensures in (t .1 .0, (t .1 .1, (refl, (refl, same-refl))))
 
 mul-join-row : tie.Need-mul-join-row Inv-loop μ-loop
 mul-join-row c = omega arith
@@ -29,7 +29,9 @@ element-copy-out-join-row : tie.Need-element-copy-out-join-row Inv-loop μ-loop
 element-copy-out-join-row c = omega arith
 
 join-row-requires : tie.Need-join-row-requires Inv-loop μ-loop
-join-row-requires c κs = omega arith
+join-row-requires c κs =
+    let inside = c .before .before .before .before .before .loop .inv .1 .0 (c .before .before .before .before .loop-test .taken) in
+    ((omega arith, (omega arith, inside)), (omega arith, omega arith))
 
 add-next-open : tie.Need-add-next-open Inv-loop μ-loop
 add-next-open c = omega arith
@@ -44,7 +46,8 @@ loop-again : tie.Need-loop-again Inv-loop μ-loop
 loop-again c =
     let at-join = c .before .before .before .before .before .before .before in
     let inv = at-join .before .before .before .before .before .before .loop .inv in
-    (c .next-open2 .ensures .1, (at-join .join-row .kept .0 ∙ inv .1 .0, (at-join .join-row .kept .1 .0 ∙ inv .1 .1 .0, same-trans (inv .1 .1 .1) (at-join .join-row .ensures))))
+    let next = c .next-open2 .ensures in
+    (next .1 .0, (next .1 .1, (at-join .join-row .kept .0 ∙ inv .1 .1 .0, (at-join .join-row .kept .1 .0 ∙ inv .1 .1 .1 .0, same-trans (inv .1 .1 .1 .1) (at-join .join-row .ensures)))))
 
 mul-hints : tie.Need-mul-hints Inv-loop μ-loop
 mul-hints c = omega arith
@@ -62,7 +65,7 @@ same-length-2 : tie.Need-same-length-2 Inv-loop μ-loop
 same-length-2 c = omega arith
 
 returns : tie.Need-returns Inv-loop μ-loop
-returns c = (c .take-out .ensures, c .before .before .before .loop .inv .1 .1 .1)
+returns c = (c .take-out .ensures, c .before .before .before .loop .inv .1 .1 .1 .1)
 
 pub push-spec : {M : Type 1} → statement M
 push-spec =
