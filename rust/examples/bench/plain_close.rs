@@ -31,12 +31,34 @@ fn two<T>(all: &mut [T], from: usize, to: usize, len: usize) -> (&[T], &mut [T])
     }
 }
 
+/// Which digit of a row stands for a missing position.
+#[derive(Clone, Copy, PartialEq)]
+pub enum Digits {
+    /// One for each missing position, by its rank among them.
+    Missing,
+    /// One for each position.
+    All,
+}
+
 /// The packed equations: rows of `words` words and a pivot word, right-hand sides of `w` bytes.
 pub struct System<'a> {
     pub rows: &'a mut [u64],
     pub rhs: &'a mut [u8],
     pub words: usize,
     pub w: usize,
+    digits: Digits,
+}
+
+impl<'a> System<'a> {
+    /// As much of the work buffers as the equations need.
+    pub fn new(layout: &Layout, digits: Digits, w: usize, marks: &[u8], words: &'a mut [u64], bytes: &'a mut [u8]) -> System<'a> {
+        let unknowns = match digits {
+            Digits::Missing => marks.iter().filter(|&&mark| mark != 1).count(),
+            Digits::All => layout.n(),
+        };
+        let packed = unknowns.div_ceil(64);
+        System { rows: &mut words[..layout.m * (packed + 1)], rhs: bytes, words: packed, w, digits }
+    }
 }
 
 impl System<'_> {
@@ -44,7 +66,7 @@ impl System<'_> {
         self.words + 1
     }
 
-    /// The positions of row r, without the pivot word.
+    /// The digits of row r, without the pivot word.
     pub fn row(&self, r: usize) -> &[u64] {
         &self.rows[r * self.stride()..][..self.words]
     }
@@ -75,33 +97,50 @@ impl System<'_> {
         add(other, rhs);
     }
 
-    /// Position x comes into row j.
-    fn touch(&mut self, symbols: &[u8], marks: &[u8], j: usize, x: usize) {
-        let w = self.w;
-        if marks[x] == 1 {
-            add(&mut self.rhs[j * w..(j + 1) * w], &symbols[x * w..(x + 1) * w]);
-        } else {
-            let at = j * self.stride() + x / 64;
-            self.rows[at] |= 1 << (x % 64);
-        }
+    fn set(&mut self, j: usize, p: usize) {
+        let at = j * self.stride() + p / 64;
+        self.rows[at] |= 1 << (p % 64);
+    }
+
+    fn add_symbol(&mut self, j: usize, symbol: &[u8]) {
+        add(&mut self.rhs[j * self.w..][..self.w], symbol);
     }
 
     /// The equations of a block.
     pub fn build(&mut self, layout: &Layout, symbols: &[u8], marks: &[u8]) {
+        let w = self.w;
         self.rows.fill(0);
         self.rhs.fill(0);
+        let mut rank = 0;
         for (row, addresses) in layout.table.iter().enumerate() {
             for step in 0..layout.q {
                 let x = row * layout.q + step;
-                for &address in addresses.iter().rev() {
-                    self.touch(symbols, marks, layout.check_row(address, step), x);
+                if marks[x] == 1 {
+                    for &address in addresses.iter() {
+                        self.add_symbol(layout.check_row(address, step), &symbols[x * w..(x + 1) * w]);
+                    }
+                } else {
+                    let p = if self.digits == Digits::All { x } else { rank };
+                    for &address in addresses.iter().rev() {
+                        self.set(layout.check_row(address, step), p);
+                    }
+                    rank += 1;
                 }
             }
         }
         for t in 0..layout.m {
-            self.touch(symbols, marks, t, layout.k + t);
-            if t + 1 < layout.m {
-                self.touch(symbols, marks, t + 1, layout.k + t);
+            let x = layout.k + t;
+            let last = (t + 1).min(layout.m - 1);
+            if marks[x] == 1 {
+                for j in t..=last {
+                    self.add_symbol(j, &symbols[x * w..(x + 1) * w]);
+                }
+            } else {
+                let p = if self.digits == Digits::All { x } else { rank };
+                for j in t..=last {
+                    self.set(j, p);
+                }
+                rank += 1;
             }
         }
     }
@@ -109,11 +148,11 @@ impl System<'_> {
     /// No equation without unknowns fails.
     pub fn consistent(&self) -> bool {
         let mut equations = self.rows.chunks_exact(self.stride()).zip(self.rhs.chunks_exact(self.w));
-        equations.all(|(row, rhs)| row[self.words] != 0 || rhs.iter().all(|&b| b == 0))
+        equations.all(|(row, rhs)| row[self.words] != 0 || rhs.iter().fold(0, |all, b| all | b) == 0)
     }
 
-    /// Fills each position that stands alone in a row.
-    pub fn fill(&self, symbols: &mut [u8], marks: &mut [u8]) {
+    /// Fills each position that stands alone in a row; `places` has the position of each digit.
+    pub fn fill(&self, symbols: &mut [u8], marks: &mut [u8], places: &[usize]) {
         for (row, rhs) in self.rows.chunks_exact(self.stride()).zip(self.rhs.chunks_exact(self.w)) {
             let (row, pivot) = row.split_at(self.words);
             if pivot[0] == 0 {
@@ -122,8 +161,9 @@ impl System<'_> {
             let p = (pivot[0] - 1) as usize;
             let only = |(i, &word): (usize, &u64)| word == if i == p / 64 { 1 << (p % 64) } else { 0 };
             if row.iter().enumerate().all(only) {
-                symbols[p * self.w..(p + 1) * self.w].copy_from_slice(rhs);
-                marks[p] = 2;
+                let i = places[p];
+                symbols[i * self.w..(i + 1) * self.w].copy_from_slice(rhs);
+                marks[i] = 2;
             }
         }
     }
@@ -175,17 +215,47 @@ fn joined(a: u16, b: u16) -> u16 {
     }
 }
 
-/// Row r goes into each other row that is not CLOSED and has position p.
-fn push<T: Tally>(system: &mut System, hints: &mut [u16], r: usize, p: usize, tally: &mut T) {
-    let own = hints[r];
-    let mut from = 0;
-    while let Some(j) = system.next(p, from, |j| hints[j] != CLOSED && j != r) {
+/// The rows that are not CLOSED, in no order.
+struct Open {
+    list: [u16; 1024],
+    count: usize,
+}
+
+impl Open {
+    fn new(hints: &[u16]) -> Open {
+        let mut open = Open { list: [0; 1024], count: 0 };
+        for (j, &hint) in hints.iter().enumerate() {
+            if hint != CLOSED {
+                open.list[open.count] = j as u16;
+                open.count += 1;
+            }
+        }
+        open
+    }
+}
+
+/// Row r goes into each other row of the list that has position p, and leaves the list.
+fn push<T: Tally>(system: &mut System, hints: &mut [u16], open: &mut Open, r: usize, p: usize, tally: &mut T) {
+    let mut mine = None;
+    let (word, bit, stride) = (p / 64, 1 << (p % 64), system.stride());
+    for i in 0..open.count {
+        let j = open.list[i] as usize;
+        if system.rows[j * stride + word] & bit == 0 {
+            continue;
+        }
+        if j == r {
+            mine = Some(i);
+            continue;
+        }
         system.add_row(r, j);
-        hints[j] = joined(hints[j], own);
+        hints[j] = joined(hints[j], hints[r]);
         tally.addition();
-        from = j + 1;
     }
     hints[r] = CLOSED;
+    if let Some(i) = mine {
+        open.count -= 1;
+        open.list[i] = open.list[open.count];
+    }
 }
 
 /// The lowest position of the row's last word that is not 0.
@@ -199,6 +269,7 @@ fn prepare<T: Tally>(system: &mut System, order: &mut [(u16, u16)], m: usize, ta
     let mut hints = [0; 1024];
     let hints = &mut hints[..m];
     weigh(system, hints);
+    let mut open = Open::new(hints);
     let mut from = 0;
     let mut enough = 1;
     for (t, place) in order[..m].iter_mut().enumerate() {
@@ -209,7 +280,7 @@ fn prepare<T: Tally>(system: &mut System, order: &mut [(u16, u16)], m: usize, ta
         enough = hints[r];
         *place = match latest(system.row(r)) {
             Some(p) => {
-                push(system, hints, r, p, tally);
+                push(system, hints, &mut open, r, p, tally);
                 (r as u16, p as u16)
             }
             None => {
@@ -240,7 +311,7 @@ fn finish_all_alone(system: &mut System, done: &mut [bool], order: &[(u16, u16)]
     }
     for &(r, p) in order {
         let (r, p) = (r as usize, p as usize);
-        if masks[p / 64] >> (p % 64) & 1 == 0 && system.has(r, p) {
+        if p / 64 < system.words && masks[p / 64] >> (p % 64) & 1 == 0 && system.has(r, p) {
             system.set_pivot(r, p as u64 + 1);
             done[r] = true;
         }
@@ -267,7 +338,8 @@ fn finish_row<T: Tally>(system: &mut System, done: &mut [bool], r: usize, guess:
     if done[r] {
         return;
     }
-    let pivot = if system.has(r, guess) { Some(guess) } else { lowest(system.row(r)) };
+    let guessed = guess / 64 < system.words && system.has(r, guess);
+    let pivot = if guessed { Some(guess) } else { lowest(system.row(r)) };
     match pivot {
         Some(p) => {
             system.set_pivot(r, p as u64 + 1);
@@ -313,8 +385,22 @@ pub fn check_close(
     Ok(layout)
 }
 
-/// What is read off a reduced system; clears the work buffers.
-pub fn settle(system: System, symbols: &mut [u8], marks: &mut [u8]) -> Closed {
+/// The position of each digit of a row.
+fn places(digits: Digits, marks: &[u8]) -> [usize; 3072] {
+    let mut places = [0; 3072];
+    let mut u = 0;
+    for (x, &mark) in marks.iter().enumerate() {
+        if digits == Digits::All || mark != 1 {
+            places[u] = x;
+            u += 1;
+        }
+    }
+    places
+}
+
+/// What is read off a reduced system.
+pub fn settle(system: &System, symbols: &mut [u8], marks: &mut [u8]) -> bool {
+    let places = places(system.digits, marks);
     for (symbol, mark) in symbols.chunks_exact_mut(system.w).zip(marks.iter_mut()) {
         if *mark != 1 {
             *mark = 0;
@@ -323,10 +409,13 @@ pub fn settle(system: System, symbols: &mut [u8], marks: &mut [u8]) -> Closed {
     }
     let ok = system.consistent();
     if ok {
-        system.fill(symbols, marks);
+        system.fill(symbols, marks, &places);
     }
-    system.rows.fill(0);
-    system.rhs.fill(0);
+    ok
+}
+
+/// The verdict, from the marks afterwards.
+pub fn tell(ok: bool, marks: &[u8]) -> Closed {
     let count = |v| marks.iter().filter(|&&mark| mark == v).count();
     let (heard, filled, left) = (count(1), count(2), count(0));
     let verdict = match (ok, left) {
@@ -335,6 +424,32 @@ pub fn settle(system: System, symbols: &mut [u8], marks: &mut [u8]) -> Closed {
         (true, _) => Verdict::Ambiguous,
     };
     Closed { verdict, heard, filled, left }
+}
+
+/// The steps of a close, with either elimination.
+#[inline(always)]
+#[allow(clippy::too_many_arguments)]
+pub fn close_by<T>(
+    digits: Digits,
+    eliminate: impl Fn(&mut System, usize, &mut T),
+    code: usize,
+    w: usize,
+    protocol: usize,
+    lsc: usize,
+    symbols: &mut [u8],
+    marks: &mut [u8],
+    words: &mut [u64],
+    bytes: &mut [u8],
+    tally: &mut T,
+) -> Result<Closed, Refusal> {
+    let layout = check_close(code, w, protocol, lsc, symbols, marks, words, bytes)?;
+    let mut system = System::new(layout, digits, w, marks, words, bytes);
+    system.build(layout, symbols, marks);
+    eliminate(&mut system, layout.m, tally);
+    let ok = settle(&system, symbols, marks);
+    words.fill(0);
+    bytes.fill(0);
+    Ok(tell(ok, marks))
 }
 
 #[inline(never)]
@@ -350,9 +465,5 @@ pub fn close<T: Tally>(
     bytes: &mut [u8],
     tally: &mut T,
 ) -> Result<Closed, Refusal> {
-    let layout = check_close(code, w, protocol, lsc, symbols, marks, words, bytes)?;
-    let mut system = System { rows: words, rhs: bytes, words: layout.n() / 64, w };
-    system.build(layout, symbols, marks);
-    eliminate(&mut system, layout.m, tally);
-    Ok(settle(system, symbols, marks))
+    close_by(Digits::Missing, eliminate, code, w, protocol, lsc, symbols, marks, words, bytes, tally)
 }

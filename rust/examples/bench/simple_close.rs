@@ -1,6 +1,6 @@
-//! Close by plain least-weight Gauss-Jordan elimination on the same packed rows: in each turn the row of least weight among those without a
-//! pivot gets its lowest position as pivot, and is added to all other rows that have it.
-use crate::plain_close::{check_close, lowest, settle, weight, System, Tally};
+//! Close by plain least-weight Gauss-Jordan elimination on packed rows with a digit for each position: in each turn the row of least weight among
+//! those without a pivot gets its lowest position as pivot, and is added to all other rows that have it.
+use crate::plain_close::{close_by, lowest, weight, Digits, System, Tally};
 use lipvezor::{Closed, Refusal};
 
 /// The weight that stands for a row that has its pivot.
@@ -51,9 +51,5 @@ pub fn close<T: Tally>(
     bytes: &mut [u8],
     tally: &mut T,
 ) -> Result<Closed, Refusal> {
-    let layout = check_close(code, w, protocol, lsc, symbols, marks, words, bytes)?;
-    let mut system = System { rows: words, rhs: bytes, words: layout.n() / 64, w };
-    system.build(layout, symbols, marks);
-    eliminate(&mut system, layout.m, tally);
-    Ok(settle(system, symbols, marks))
+    close_by(Digits::All, eliminate, code, w, protocol, lsc, symbols, marks, words, bytes, tally)
 }
