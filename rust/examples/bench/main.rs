@@ -8,6 +8,8 @@ mod plain_units;
 #[path = "../../support/random.rs"]
 mod random;
 mod simple_close;
+#[path = "../../support/tables.rs"]
+mod tables;
 
 use lipvezor::{calls, Code, Taken};
 use random::Random;

@@ -10,6 +10,7 @@ pub mod fault;
 pub mod gather;
 pub mod refusals;
 pub mod solver;
+#[path = "../../support/tables.rs"]
 pub mod tables;
 pub mod units;
 
