@@ -2,8 +2,9 @@
 mod compare;
 mod model;
 
-use compare::{suite, Difference, Stats};
+use compare::{cases, suite, Difference, Stats};
 use lipvezor::{calls, Closed, Code, Taken, Verdict};
+use model::refusals::Record;
 use model::{codes, encoder, Fault};
 use std::thread;
 use std::time::{Duration, Instant};
@@ -88,4 +89,29 @@ fn c2_with_nothing_heard_and_with_a_wrong_last_symbol() {
     assert_eq!(marks[3071], 2);
     let expected = Closed { verdict: Verdict::Inconsistent, heard: 1, filled: 0, left: 3071 };
     sample(Code::C2, 1, &[1; 3072], |position| position == 3071, expected);
+}
+
+/// The codeword of each single information symbol, lost whole: what was sent there can't be told from that plus the codeword.
+#[test]
+fn each_single_information_symbols_codeword_lost() {
+    for code in codes::BOTH {
+        let record = Record { code: code.number, w: 1, protocol: 2, lsc: 9 };
+        let word = encoder::codeword(code, 1, &cases::information(code, 1, &mut compare::seeded()));
+        for x in 0..code.k {
+            let (mut symbols, mut marks) = (word.clone(), vec![1; code.n]);
+            for position in encoder::support(code, &[x]) {
+                symbols[position] = 0;
+                marks[position] = 0;
+            }
+            let (mut words, mut bytes) = (vec![x as u64; code.m * (code.n / 64 + 1)], vec![x as u8; code.m]);
+            let (mut model_symbols, mut model_marks) = (symbols.clone(), marks.clone());
+            let (mut model_words, mut model_bytes) = (words.clone(), bytes.clone());
+            let model = model::calls::close(record, &mut model_symbols, &mut model_marks, &mut model_words, &mut model_bytes, Fault::None);
+            let ours = calls::close(Code(code.number), 1, 2, 9, &mut symbols, &mut marks, &mut words, &mut bytes);
+            assert_eq!(ours.map_err(|refusal| refusal.number()), model, "C{}, u_{x}", code.number);
+            assert!(matches!(ours, Ok(Closed { verdict: Verdict::Ambiguous, .. })), "C{}, u_{x}", code.number);
+            assert!(symbols == model_symbols && marks == model_marks, "C{}, u_{x}", code.number);
+            assert!(words == model_words && bytes == model_bytes, "C{}, u_{x}", code.number);
+        }
+    }
 }

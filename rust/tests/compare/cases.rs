@@ -115,7 +115,8 @@ fn errors(code: &Code, random: &mut Random) -> Vec<Loss> {
     losses
 }
 
-/// The supports of codewords of one and two information symbols: C1 all of one, of others a selection. Some once more, a little changed.
+/// The supports of codewords of one and two information symbols: C1 all of one, of others a selection (`blocks.rs` has all of one for C2 too). Some
+/// once more, a little changed.
 fn low_weight(code: &Code, random: &mut Random) -> Vec<Loss> {
     let (single, double) = if code.number == 1 { (code.k, 96) } else { (40, 16) };
     let mut sets: Vec<Vec<usize>> = random.shuffled(code.k).into_iter().take(single).map(|x| vec![x]).collect();
