@@ -27,14 +27,14 @@ pub fn missing(marks: &[u8]) -> usize
     u
 }
 
-fn blank() -> [usize; 3072]
+fn blank() -> [u16; 3072]
     ensures { λ r. ⌜ r ≡ replicate 3072 0 ⌝ }
 {
-    [0usize; 3072]
+    [0u16; 3072]
 }
 
 // The missing positions in rising order: the position of each unknown.
-pub fn places(marks: &[u8]) -> [usize; 3072]
+pub fn places(marks: &[u8]) -> [u16; 3072]
     requires { ⌜ (0 < length (now marks)) × (length (now marks) ≤ 3072) ⌝ }
     ensures { λ r. ⌜ Places (now (marks .entry)) r ⌝ }
 {
@@ -43,7 +43,7 @@ pub fn places(marks: &[u8]) -> [usize; 3072]
     let mut x = 0;
     while x < marks.len() {
         if marks[x] != 1 {
-            ps[u] = x;
+            ps[u] = x as u16;
             u += 1;
         }
         x += 1;

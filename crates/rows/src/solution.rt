@@ -1,6 +1,7 @@
 // What is read off the reduced form: whether there is a solution, and the symbols that all solutions agree on.
 use crate::bits;
 use crate::parts;
+ghost use mathlib.Core.Path.{_≡_};
 ghost use Prim.Native.Nat.{_+_, _*_, _≤_, _<_};
 ghost use lib.ListN.{length};
 ghost use Rattle.rows.specs.Reduced.{Reduced};
@@ -25,6 +26,12 @@ pub fn consistent(rows: &[u64], rhs: &[u8], m: usize, words: usize, width: usize
     true
 }
 
+fn wide(x: u16) -> usize
+    ensures { λ r. ⌜ r ≡ x ⌝ }
+{
+    x as usize
+}
+
 // Where row s has its pivot alone, the symbol at the position that the pivot stands for is the row's right-hand side, and the position gets mark 2.
 // Unknown p stands for position places[p].
 fn fill_row(
@@ -32,7 +39,7 @@ fn fill_row(
     rhs: &[u8],
     symbols: &mut [u8],
     marks: &mut [u8],
-    places: &[usize],
+    places: &[u16],
     m: usize,
     words: usize,
     width: usize,
@@ -51,7 +58,7 @@ fn fill_row(
     }
     let p = (v - 1) as usize;
     if bits::only(rows, base, words, p) {
-        let i = places[p];
+        let i = wide(places[p]);
         parts::copy_from(symbols, i * width, rhs, s * width, width);
         marks[i] = 2;
     }
@@ -63,7 +70,7 @@ pub fn fill(
     rhs: &[u8],
     symbols: &mut [u8],
     marks: &mut [u8],
-    places: &[usize],
+    places: &[u16],
     m: usize,
     words: usize,
     width: usize,

@@ -152,7 +152,7 @@ impl System<'_> {
     }
 
     /// Fills each position that stands alone in a row; `places` has the position of each digit.
-    pub fn fill(&self, symbols: &mut [u8], marks: &mut [u8], places: &[usize]) {
+    pub fn fill(&self, symbols: &mut [u8], marks: &mut [u8], places: &[u16]) {
         for (row, rhs) in self.rows.chunks_exact(self.stride()).zip(self.rhs.chunks_exact(self.w)) {
             let (row, pivot) = row.split_at(self.words);
             if pivot[0] == 0 {
@@ -161,7 +161,7 @@ impl System<'_> {
             let p = (pivot[0] - 1) as usize;
             let only = |(i, &word): (usize, &u64)| word == if i == p / 64 { 1 << (p % 64) } else { 0 };
             if row.iter().enumerate().all(only) {
-                let i = places[p];
+                let i = places[p] as usize;
                 symbols[i * self.w..(i + 1) * self.w].copy_from_slice(rhs);
                 marks[i] = 2;
             }
@@ -386,12 +386,12 @@ pub fn check_close(
 }
 
 /// The position of each digit of a row.
-fn places(digits: Digits, marks: &[u8]) -> [usize; 3072] {
+fn places(digits: Digits, marks: &[u8]) -> [u16; 3072] {
     let mut places = [0; 3072];
     let mut u = 0;
     for (x, &mark) in marks.iter().enumerate() {
         if digits == Digits::All || mark != 1 {
-            places[u] = x;
+            places[u] = x as u16;
             u += 1;
         }
     }

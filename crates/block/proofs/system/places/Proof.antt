@@ -32,6 +32,9 @@ few c =
     let l = c .before .before .before .loop in
     omega (arith, l .inv .1 .counted, rank-bound (c .before .before .before .before .before .before .args .marks .now) (l .x), c .before .before .before .before .before .before .pre .1)
 
+cast-ps : tie.Need-cast-ps Inv-loop μ-loop
+cast-ps c = omega (arith, c .before .before .before .before .before .before .pre .1)
+
 mul-ps : tie.Need-mul-ps Inv-loop μ-loop
 mul-ps c = omega (arith, few c)
 
@@ -74,6 +77,7 @@ places-spec =
     blank-requires
     loop-holds
     shared-slice-read-if1
+    cast-ps
     mul-ps
     array-write-ps
     add-u

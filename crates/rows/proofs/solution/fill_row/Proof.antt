@@ -1,13 +1,14 @@
 -- `rows::solution::fill_row` meets its contract: the pivot word of a reduced row is its pivot + 1, and `only` says whether it stands alone.
 -- Assumes nothing.
-use mathlib.Core.Path.{_≡_, refl, subst}
+use mathlib.Core.Path.{_≡_, refl, ap, _∙_, subst, subst⁻¹}
 use mathlib.Core.Logic.{inl, inr}
 use mathlib.Core.Bool.{true}
 use Prim.Native.Nat.{ℕ, _+_, _-_, _*_, _≤_, _<_}
 use native.Mathlib.Nat.{le-trans}
 use native.Mathlib.Omega.{arith}
-use lib.ListN.{length, getD}
+use lib.ListN.{length, getD, set}
 use Rattle.algebra.proofs.Codeword.{slot}
+use Rattle.rows.specs.Parts.{copyFrom}
 use Rattle.rows.specs.Bits.{rowBit, OnlyIs}
 use Rattle.rows.specs.Reduced.{pivotWord}
 use Rattle.rows.proofs.FillLaws.{word-pivot, shared-at}
@@ -70,23 +71,38 @@ sub-p c = search needs
 only-requires : tie.Need-only-requires
 only-requires c κs = let h = pivot c in ((omega arith, omega (arith, ends (start c) .0)), h .1)
 
-mul-i : tie.Need-mul-i
-mul-i c = let h = pivot (c .before .before) .0 in omega (arith, c .before .before .before .before .before .before .before .before .before .pre .1 .0 .0 .enough)
+mul-wide : tie.Need-mul-wide
+mul-wide c = let h = pivot (c .before .before) .0 in omega (arith, c .before .before .before .before .before .before .before .before .before .pre .1 .0 .0 .enough)
 
-shared-slice-read-i : tie.Need-shared-slice-read-i
-shared-slice-read-i c = let h = pivot (c .before .before .before) .0 in omega (arith, c .before .before .before .before .before .before .before .before .before .before .pre .1 .0 .0 .enough)
+shared-slice-read-wide : tie.Need-shared-slice-read-wide
+shared-slice-read-wide c = let h = pivot (c .before .before .before) .0 in omega (arith, c .before .before .before .before .before .before .before .before .before .before .pre .1 .0 .0 .enough)
+
+wide-requires : tie.Need-wide-requires
+wide-requires c κs = search needs
+
+-- the position, as it is read
+module _ (c : tie.After-wide) where
+  read : c .wide .result ≡ place (c .before .before .before .before .before .before .before .before .before .before .before)
+  read = c .wide .ensures
+
+  position-read : c .wide .result < length (c .before .before .before .before .before .before .before .before .before .before .before .args .marks .now)
+  position-read = subst⁻¹ (λ (i : ℕ). i < length (c .before .before .before .before .before .before .before .before .before .before .before .args .marks .now)) read (position (c .before .before .before .before))
+
+  symbol-read : c .wide .result * c .before .before .before .before .before .before .before .before .before .before .before .args .width + c .before .before .before .before .before .before .before .before .before .before .before .args .width ≤ length (c .before .before .before .before .before .before .before .before .before .before .before .args .symbols .now)
+  symbol-read =
+      subst⁻¹ (λ (i : ℕ). i * c .before .before .before .before .before .before .before .before .before .before .before .args .width + c .before .before .before .before .before .before .before .before .before .before .before .args .width ≤ length (c .before .before .before .before .before .before .before .before .before .before .before .args .symbols .now)) read (symbol (c .before .before .before .before))
 
 mul-copy-from : tie.Need-mul-copy-from
-mul-copy-from c = omega (arith, symbol (c .before .before .before .before))
+mul-copy-from c = omega (arith, symbol-read (c .before))
 
 mul-copy-from-2 : tie.Need-mul-copy-from-2
-mul-copy-from-2 c = omega (arith, ends (c .before .before .before .before .before .before .before .before .before .before .before) .1)
+mul-copy-from-2 c = omega (arith, ends (c .before .before .before .before .before .before .before .before .before .before .before .before) .1)
 
 copy-from-requires : tie.Need-copy-from-requires
-copy-from-requires c κs = (symbol (c .before .before .before .before), ends (c .before .before .before .before .before .before .before .before .before .before .before) .1)
+copy-from-requires c κs = (symbol-read (c .before), ends (c .before .before .before .before .before .before .before .before .before .before .before .before) .1)
 
 slice-write-marks : tie.Need-slice-write-marks
-slice-write-marks c = position (c .before .before .before .before .before .before .before)
+slice-write-marks c = position-read (c .before .before .before .before)
 
 same-length : tie.Need-same-length
 same-length c = search needs
@@ -96,16 +112,18 @@ same-length-2 c = search needs
 
 returns-2 : tie.Need-returns-2
 returns-2 c =
+    let w = c .before .before .before .before in
+    let a = w .before .before .before .before .before .before .before .before .before .before .before .args in
     inl (
-      pivotOf (c .before .before .before .before .before .before .before .before .before .before .before .before .before .before),
+      pivotOf (w .before .before .before .before .before .before .before .before .before .before .before),
       record {
         alone = record {
-          word = is-pivot (c .before .before .before .before .before .before .before);
-          within = pivot (c .before .before .before .before .before .before .before) .0;
-          only = subst (OnlyIs _ _ _) (c .before .before .before .before .before .if2 .taken) (c .before .before .before .before .before .before .only .ensures);
+          word = is-pivot (w .before .before .before .before);
+          within = pivot (w .before .before .before .before) .0;
+          only = subst (OnlyIs _ _ _) (w .before .before .if2 .taken) (w .before .before .before .only .ensures);
         };
-        symbols = c .before .before .copy-from .ensures;
-        marks = refl;
+        symbols = c .before .before .copy-from .ensures ∙ ap (λ (i : ℕ). copyFrom (a .symbols .now) (i * a .width) (a .rhs .now) (a .s * a .width) (a .width)) (read w);
+        marks = ap (λ (i : ℕ). set (a .marks .now) i 2) (read w);
       },
     )
 
@@ -131,8 +149,9 @@ fill-row-spec =
     returns
     sub-p
     only-requires
-    mul-i
-    shared-slice-read-i
+    mul-wide
+    shared-slice-read-wide
+    wide-requires
     mul-copy-from
     mul-copy-from-2
     copy-from-requires
