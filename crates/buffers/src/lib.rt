@@ -113,14 +113,6 @@ pub fn add_within(buf: &mut [u8], at: usize, from: usize, len: usize)
     }
 }
 
-// The same with earlier bytes.
-pub fn add_earlier(buf: &mut [u8], at: usize, from: usize, len: usize)
-    requires { ⌜ (from + len ≤ at) × (at + len ≤ length (now buf)) ⌝ }
-    ensures { λ _. ⌜ now (buf .exit) ≡ added (now (buf .entry)) at (now (buf .entry)) from len ⌝ }
-{
-    add_within(buf, at, from, len);
-}
-
 // Sets every byte to 0.
 pub fn clear(buf: &mut [u8])
     ensures { λ _. ⌜ now (buf .exit) ≡ replicate (length (now (buf .entry))) 0 ⌝ }

@@ -56,7 +56,7 @@ fn carry(m: usize, w: usize, parity: &mut [u8])
 {
     let mut j = 1;
     while j < m {
-        buffers::add_earlier(parity, j * w, (j - 1) * w, w);
+        buffers::add_within(parity, j * w, (j - 1) * w, w);
         j += 1;
     }
 }

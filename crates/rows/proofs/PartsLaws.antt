@@ -40,8 +40,8 @@ xorPart-next l x from to n e = rw (add-one, e)
 -- ---- what stands where
 
 -- no index of the one part is an index of the other
-abbrev pub Apart : ℕ → ℕ → ℕ → Type 0
-Apart from to n = (i j : ℕ) → i < n → j < n → from + i ≡ to + j → ⊥
+abbrev pub Disjoint : ℕ → ℕ → ℕ → Type 0
+Disjoint from to n = (i j : ℕ) → i < n → j < n → from + i ≡ to + j → ⊥
 
 -- outside the part that is written nothing changes
 pub xorPart-out : (l : List ℕ) (from to n k : ℕ) → ((i : ℕ) → i < n → k ≡ to + i → ⊥) → getD (xorPart l from to n) k 0 ≡ getD l k 0
@@ -61,7 +61,7 @@ xorPart-last l from to n fit apart =
     getD-set-same (xorPart l from to n) (to + n) _ 0 (omega (arith, length-xorPart l from to n))
     ∙ ap₂ _⊕_ (xorPart-above l from to n (to + n) (omega arith)) (xorPart-out l from to n (from + n) apart)
 
-pub xorPart-in : (l : List ℕ) (from to n : ℕ) → to + n ≤ length l → Apart from to n
+pub xorPart-in : (l : List ℕ) (from to n : ℕ) → to + n ≤ length l → Disjoint from to n
     → (i : ℕ) → i < n → getD (xorPart l from to n) (to + i) 0 ≡ getD l (to + i) 0 ⊕ getD l (from + i) 0
 unfolding xorPart xorAt
 xorPart-in l from to zero fit apart i h = absurd (omega arith)
@@ -72,7 +72,7 @@ xorPart-in l from to (suc n) fit apart i h =
     (eq-or-lt-of-le (le-of-suc-le-suc h))
 
 -- so it does not matter that the one part is read while the other is written
-pub xorPart-added : (l : List ℕ) (from to n : ℕ) → Apart from to n → added l to l from n ≡ xorPart l from to n
+pub xorPart-added : (l : List ℕ) (from to n : ℕ) → Disjoint from to n → added l to l from n ≡ xorPart l from to n
 unfolding xorPart xorAt added
 xorPart-added l from to zero apart = refl
 xorPart-added l from to (suc n) apart =

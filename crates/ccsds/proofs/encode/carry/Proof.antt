@@ -1,6 +1,7 @@
 -- `ccsds::encode::carry` meets its contract: before turn j, symbols 1 to j - 1 have been added to.
 -- Assumes nothing.
 use mathlib.Core.Path.{_≡_, refl, ap, _∙_}
+use mathlib.Core.Logic.{inl}
 use Prim.Native.Nat.{ℕ, _<_, _≤_, _-_, _*_, _+_}
 use native.Mathlib.Omega.{arith}
 use lib.ListN.{length}
@@ -19,26 +20,28 @@ loop-holds : tie.Need-loop-holds Inv-loop μ-loop
 unfolding carried
 loop-holds c = (omega arith, omega arith, refl, refl)
 
-mul-add-earlier : tie.Need-mul-add-earlier Inv-loop μ-loop
-mul-add-earlier c =
+mul-add-within : tie.Need-mul-add-within Inv-loop μ-loop
+mul-add-within c =
     let a = c .before .before .before .before .args in
     let h : c .before .before .loop .j < a .m = omega arith in
     omega (arith, here (a .m) (a .w) (c .before .before .loop .j) (length (a .parity .now)) h (c .before .before .before .before .pre .1))
 
-sub-add-earlier : tie.Need-sub-add-earlier Inv-loop μ-loop
-sub-add-earlier c = omega arith
+sub-add-within : tie.Need-sub-add-within Inv-loop μ-loop
+sub-add-within c = omega arith
 
-mul-add-earlier-2 : tie.Need-mul-add-earlier-2 Inv-loop μ-loop
-mul-add-earlier-2 c =
+mul-add-within-2 : tie.Need-mul-add-within-2 Inv-loop μ-loop
+mul-add-within-2 c =
     let a = c .before .before .before .before .args in
     let h : c .before .before .loop .j < a .m = omega arith in
     omega (arith, earlier (a .w) (c .before .before .loop .j) (c .before .before .loop .inv .0), here (a .m) (a .w) (c .before .before .loop .j) (length (a .parity .now)) h (c .before .before .before .before .pre .1))
 
-add-earlier-requires : tie.Need-add-earlier-requires Inv-loop μ-loop
-add-earlier-requires c κs =
+add-within-requires : tie.Need-add-within-requires Inv-loop μ-loop
+add-within-requires c κs =
     let a = c .before .before .before .before .args in
     let h : c .before .before .loop .j < a .m = omega arith in
-    (earlier (a .w) (c .before .before .loop .j) (c .before .before .loop .inv .0), here (a .m) (a .w) (c .before .before .loop .j) _ h (c .before .before .loop .inv .2 ∙ c .before .before .before .before .pre .1))
+    let before = earlier (a .w) (c .before .before .loop .j) (c .before .before .loop .inv .0) in
+    let inside = here (a .m) (a .w) (c .before .before .loop .j) _ h (c .before .before .loop .inv .2 ∙ c .before .before .before .before .pre .1) in
+    (record { either = inl before }, (inside, omega (arith, before, inside)))
 
 add-j : tie.Need-add-j Inv-loop μ-loop
 add-j c = omega arith
@@ -49,7 +52,7 @@ loop-less c = omega arith
 loop-again : tie.Need-loop-again Inv-loop μ-loop
 loop-again c =
     let l = c .before .before .before .before .before .loop in
-    (omega arith, omega arith, c .before .before .add-earlier .kept .0 ∙ l .inv .2, carried-more _ _ _ _ _ (l .inv .0) (l .inv .3) (c .before .before .add-earlier .ensures))
+    (omega arith, omega arith, c .before .before .add-within .kept .0 ∙ l .inv .2, carried-more _ _ _ _ _ (l .inv .0) (l .inv .3) (c .before .before .add-within .ensures))
 
 same-length : tie.Need-same-length Inv-loop μ-loop
 same-length c = c .before .loop .inv .2
@@ -61,4 +64,4 @@ returns c =
 
 pub carry-spec : {M : Type 1} → statement M
 carry-spec =
-    tie.close (tie.spec Inv-loop μ-loop loop-holds mul-add-earlier sub-add-earlier mul-add-earlier-2 add-earlier-requires add-j loop-less loop-again same-length returns)
+    tie.close (tie.spec Inv-loop μ-loop loop-holds mul-add-within sub-add-within mul-add-within-2 add-within-requires add-j loop-less loop-again same-length returns)
