@@ -2,10 +2,11 @@
 -- Assumes nothing.
 use mathlib.Core.Path.{_≡_, sym, ap, _∙_}
 use mathlib.Core.List.{List}
-use Prim.Native.Nat.{ℕ, _+_, _<_}
+use Prim.Native.Nat.{ℕ, _+_, _<_, _≤_}
+use native.Mathlib.Nat.{not-suc-le-zero}
 use native.Mathlib.Decide.{decLt}
 use native.Mathlib.Omega.{arith}
-use lib.ListN.{length, getD, set}
+use lib.ListN.{length, getD, set, length-set}
 use lib.Seq.{getD-set-same, getD-set-other}
 
 -- element i is written after those before it, each of which is what f says
@@ -18,3 +19,23 @@ front-more f l i v h each e k g = go (decLt k i)
     go (no b) =
         let q : i ≡ k = omega arith in
         ap (λ (j : ℕ). getD (set l i v) j 0) (sym q) ∙ getD-set-same l i v 0 h ∙ e ∙ ap f q
+
+-- t has room for n elements, and its first i are what f says
+pub record Filled (f : ℕ → ℕ) (n i : ℕ) (t : List ℕ) : Type 0 where
+  pub upTo : i ≤ n
+  pub size : length t ≡ n
+  pub each : (b : ℕ) → b < i → getD t b 0 ≡ f b
+
+module _ {f : ℕ → ℕ} {n : ℕ} {t : List ℕ} where
+  pub filled-none : length t ≡ n → Filled f n 0 t
+  filled-none h = record { upTo = omega arith; size = h; each = λ b g. absurd (not-suc-le-zero g) }
+
+  pub filled-more : {i v : ℕ} → Filled f n i t → i < n → v ≡ f i → Filled f n (i + 1) (set t i v)
+  filled-more {i} {v} h g e = record {
+    upTo = omega arith;
+    size = length-set t i v ∙ h .size;
+    each = front-more f t i v (omega (arith, h .size)) (h .each) e;
+  }
+
+  pub filled-all : {i : ℕ} → Filled f n i t → n ≤ i → (b : ℕ) → b < n → getD t b 0 ≡ f b
+  filled-all h g b k = h .each b (omega arith)

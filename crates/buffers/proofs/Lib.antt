@@ -1,4 +1,5 @@
 pub mod Added
 pub mod Fronts
+pub mod Places
 pub mod Sums
 pub mod Zeros

@@ -12,29 +12,6 @@ use lib.ListN.{length, getD, set, length-set}
 use Rattle.algebra.specs.Sums.{_⊕_}
 use Rattle.buffers.specs.Parts.{added, put, Sum, Apart}
 use Rattle.buffers.proofs.Added.{added-above, added-below, added-more, added-same}
-use Rattle.buffers.proofs.Fronts.{front-more}
-
--- ---- what the loop that makes the sums needs: t has i of them, and room for n
-
-pub record Some (d : List ℕ) (at : ℕ) (s : List ℕ) (from n i : ℕ) (t : List ℕ) : Type 0 where
-  pub upTo : i ≤ n
-  pub size : length t ≡ n
-  pub each : (b : ℕ) → b < i → getD t b 0 ≡ getD d (at + b) 0 ⊕ getD s (from + b) 0
-
-module _ {d : List ℕ} {at : ℕ} {s : List ℕ} {from n : ℕ} {t : List ℕ} where
-  pub some-none : length t ≡ n → Some d at s from n 0 t
-  some-none h = record { upTo = omega arith; size = h; each = λ b g. absurd (not-suc-le-zero g) }
-
-  pub some-more : {i : ℕ} → Some d at s from n i t → i < n → Some d at s from n (i + 1) (set t i (bitXor (getD d (at + i) 0) (getD s (from + i) 0)))
-  unfolding _⊕_
-  some-more {i} h g = record {
-    upTo = omega arith;
-    size = length-set t i _ ∙ h .size;
-    each = front-more (λ (b : ℕ). getD d (at + b) 0 ⊕ getD s (from + b) 0) t i _ (omega (arith, h .size)) (h .each) refl;
-  }
-
-  pub some-all : {i : ℕ} → Some d at s from n i t → n ≤ i → Sum d at s from n t
-  some-all h g = record { size = h .size; each = λ b k. h .each b (omega arith) }
 
 -- ---- what the loop that puts them needs: before the first turn, and one turn more
 

@@ -17,6 +17,11 @@ unfoldable pub put : List ℕ → ℕ → List ℕ → ℕ → List ℕ
 put d at t zero = d
 put d at t (suc n) = set (put d at t n) (at + n) (getD t n 0)
 
+-- t is the n bytes of s from index `from` on
+pub record Part (s : List ℕ) (from n : ℕ) (t : List ℕ) : Type 0 where
+  pub size : length t ≡ n
+  pub each : (b : ℕ) → b < n → getD t b 0 ≡ getD s (from + b) 0
+
 -- t is the n sums of the bytes of d from index `at` on and those of s from index `from` on
 pub record Sum (d : List ℕ) (at : ℕ) (s : List ℕ) (from n : ℕ) (t : List ℕ) : Type 0 where
   pub size : length t ≡ n

@@ -2,7 +2,7 @@
 ghost use mathlib.Core.Path.{_≡_};
 ghost use Prim.Native.Nat.{_≤_, _+_};
 ghost use lib.ListN.{length, replicate};
-ghost use Rattle.buffers.specs.Parts.{added, put, Sum, Apart};
+ghost use Rattle.buffers.specs.Parts.{added, put, Sum, Part, Apart};
 
 // The 16 bytes of dst from index `at` on, each with the byte of src added that stands as far from index `from`. An array of its own overlaps with
 // nothing, and so short a loop is compiled to one vector instruction, without a test of whether dst and src overlap.
@@ -72,6 +72,43 @@ fn add_within_64(buf: &mut [u8], at: usize, from: usize)
     add_within_16(buf, at + 48, from + 48);
 }
 
+// The 16 bytes of src from index `from` on.
+fn part_16(src: &[u8], from: usize) -> [u8; 16]
+    requires { ⌜ from + 16 ≤ length (now src) ⌝ }
+    ensures { λ r. ⌜ Part (now (src .entry)) from 16 r ⌝ }
+{
+    let mut t = [0u8; 16];
+    let mut i = 0;
+    while i < 16 {
+        t[i] = src[from + i];
+        i += 1;
+    }
+    t
+}
+
+// Adds 16 bytes of src in two places of dst. They are read once.
+fn add_16_at_both(dst: &mut [u8], at: usize, to: usize, src: &[u8], from: usize)
+    requires { ⌜ (at + 16 ≤ length (now dst)) × (to + 16 ≤ length (now dst)) × (from + 16 ≤ length (now src)) ⌝ }
+    ensures { λ _. ⌜ now (dst .exit) ≡ added (added (now (dst .entry)) at (now (src .entry)) from 16) to (now (src .entry)) from 16 ⌝ }
+{
+    let s = part_16(src, from);
+    add_16(dst, at, &s, 0);
+    add_16(dst, to, &s, 0);
+}
+
+// The same with 32 bytes.
+fn add_32_at_both(dst: &mut [u8], at: usize, to: usize, src: &[u8], from: usize)
+    requires { ⌜ (at + 32 ≤ length (now dst)) × (to + 32 ≤ length (now dst)) × (from + 32 ≤ length (now src)) ⌝ }
+    ensures { λ _. ⌜ now (dst .exit) ≡ added (added (now (dst .entry)) at (now (src .entry)) from 32) to (now (src .entry)) from 32 ⌝ }
+{
+    let s = part_16(src, from);
+    let t = part_16(src, from + 16);
+    add_16(dst, at, &s, 0);
+    add_16(dst, at + 16, &t, 0);
+    add_16(dst, to, &s, 0);
+    add_16(dst, to + 16, &t, 0);
+}
+
 // Adds len bytes of src, from index `from` on, to those of dst from index `at` on.
 pub fn add_from(dst: &mut [u8], at: usize, src: &[u8], from: usize, len: usize)
     requires { ⌜ (at + len ≤ length (now dst)) × (from + len ≤ length (now src)) ⌝ }
@@ -89,6 +126,26 @@ pub fn add_from(dst: &mut [u8], at: usize, src: &[u8], from: usize, len: usize)
     while i < len {
         dst[at + i] = dst[at + i] ^ src[from + i];
         i += 1;
+    }
+}
+
+// Adds len bytes of src, from index `from` on, in two places of dst: from index `at` on, and from index `to` on. The places may overlap.
+pub fn add_at_both(dst: &mut [u8], at: usize, to: usize, src: &[u8], from: usize, len: usize)
+    requires { ⌜ (at + len ≤ length (now dst)) × (to + len ≤ length (now dst)) × (from + len ≤ length (now src)) ⌝ }
+    ensures { λ _. ⌜ now (dst .exit) ≡ added (added (now (dst .entry)) at (now (src .entry)) from len) to (now (src .entry)) from len ⌝ }
+{
+    let mut i = 0;
+    while len - i >= 32 {
+        add_32_at_both(dst, at + i, to + i, src, from + i);
+        i += 32;
+    }
+    while len - i >= 16 {
+        add_16_at_both(dst, at + i, to + i, src, from + i);
+        i += 16;
+    }
+    if i < len {
+        add_from(dst, at + i, src, from + i, len - i);
+        add_from(dst, to + i, src, from + i, len - i);
     }
 }
 

@@ -1,20 +1,22 @@
 -- `buffers::sum_16` meets its contract: after i turns, i sums stand in the array.
 -- Assumes nothing.
 use mathlib.Core.Path.{refl}
-use Prim.Native.Nat.{_-_}
+use Prim.Native.Nat.{ℕ, _+_, _-_}
 use native.Mathlib.Omega.{arith}
-use Rattle.buffers.proofs.Sums.{Some, some-none, some-more, some-all}
+use lib.ListN.{getD}
+use Rattle.algebra.specs.Sums.{_⊕_}
+use Rattle.buffers.proofs.Fronts.{Filled, filled-none, filled-more, filled-all}
 use Rattle.buffers.proofs.sum_16.Statement.{statement}
 use Rattle.buffers.proofs.sum_16.Tie as tie
 
 abbrev Inv-loop : tie.InvT-loop
-Inv-loop dst at src from t₀ i₀ t i = Some dst at src from 16 i t
+Inv-loop dst at src from t₀ i₀ t i = Filled (λ (b : ℕ). getD dst (at + b) 0 ⊕ getD src (from + b) 0) 16 i t
 
 abbrev μ-loop : tie.MeasureT-loop
 μ-loop dst at src from t₀ i₀ t i = 16 - i
 
 loop-holds : tie.Need-loop-holds Inv-loop μ-loop
-loop-holds c = some-none refl
+loop-holds c = filled-none refl
 
 add-t : tie.Need-add-t Inv-loop μ-loop
 add-t c = omega arith
@@ -38,10 +40,11 @@ loop-less : tie.Need-loop-less Inv-loop μ-loop
 loop-less c = omega arith
 
 loop-again : tie.Need-loop-again Inv-loop μ-loop
-loop-again c = some-more (c .before .before .before .loop .inv) (omega arith)
+unfolding _⊕_
+loop-again c = filled-more (c .before .before .before .loop .inv) (omega arith) refl
 
 returns : tie.Need-returns Inv-loop μ-loop
-returns c = some-all (c .before .loop .inv) (omega arith)
+returns c = record { size = c .before .loop .inv .size; each = filled-all (c .before .loop .inv) (omega arith) }
 
 pub sum-16-spec : {M : Type 1} → statement M
 sum-16-spec =
