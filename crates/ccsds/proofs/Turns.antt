@@ -23,6 +23,15 @@ module _ (c : Params) (w : ℕ) (info : List ℕ) where
       (hp ∙ ap₂ (λ (y f : ℕ). added p (y * w) info f w) hj hf)
       ∙ sym (ap (λ (l : List ℕ). addedAt c w info x l p) (drop-cons ys i 0 h)) ∙ hr
 
+  -- two addresses more
+  pub address-two : (x : ℕ) (ys : List ℕ) (i : ℕ) (p p′ r : List ℕ) (j h from : ℕ) → i + 1 < length ys → j ≡ place c x (getD ys i 0)
+      → h ≡ place c x (getD ys (i + 1) 0) → from ≡ x * w → p′ ≡ added (added p (j * w) info from w) (h * w) info from w
+      → addedAt c w info x (drop i ys) p ≡ r → addedAt c w info x (drop (i + 2) ys) p′ ≡ r
+  address-two x ys i p p′ r j h from g hj hh hf hp hr =
+      let e : i + 2 ≡ i + 1 + 1 = omega arith in
+      ap (λ (n : ℕ). addedAt c w info x (drop n ys) p′) e
+      ∙ address-more x ys (i + 1) _ p′ r h from g hh hf hp (address-more x ys i p _ r j from (omega arith) hj hf refl hr)
+
   -- no address is left
   pub address-all : (x : ℕ) (ys : List ℕ) (i : ℕ) (p r : List ℕ) → i ≡ length ys → addedAt c w info x (drop i ys) p ≡ r → p ≡ r
   unfolding addedAt

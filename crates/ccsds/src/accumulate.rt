@@ -11,7 +11,7 @@ ghost use Rattle.ccsds.specs.Tables.{codeOf, Known};
 ghost use Rattle.ccsds.specs.Layout.{Given, Front};
 ghost use Rattle.ccsds.specs.Steps.{addedAt};
 
-// Adds information symbol row * q + step of `symbols` at each check row that it touches. The addresses of its table row are ys.
+// Adds information symbol row * q + step of `symbols` at each check row that it touches, two at a time. The addresses of its table row are ys.
 pub fn add_symbol(
     number: usize,
     l: Layout,
@@ -31,9 +31,14 @@ pub fn add_symbol(
     let from = (row * l.q + step) * w;
     let n = tables::row_degree(number, l, row);
     let mut i = 0;
-    while i < n {
+    while n - i >= 2 {
+        let j = tables::check_row(number, l, row, step, ys, i);
+        let h = tables::check_row(number, l, row, step, ys, i + 1);
+        buffers::add_at_both(sums, j * w, h * w, symbols, from, w);
+        i += 2;
+    }
+    if i < n {
         let j = tables::check_row(number, l, row, step, ys, i);
         buffers::add_from(sums, j * w, symbols, from, w);
-        i += 1;
     }
 }

@@ -9,6 +9,7 @@ use lib.Dec.{eqb}
 use lib.ListN.{length}
 use borrow.Author.Needs.{needs}
 use Rattle.algebra.specs.Closing.{heard}
+use Rattle.buffers.specs.Parts.{added}
 use Rattle.ccsds.specs.Codes.{nOf}
 use Rattle.ccsds.specs.Tables.{codeOf}
 use Rattle.ccsds.proofs.Valid.{few-of}
@@ -47,6 +48,11 @@ module _ (s : tie.Start) where
   one-more : s .args .u + 1 ≤ 3072
   one-more = omega (arith, s .pre .1 .1 .counted, rank-bound (s .args .marks .now) x, inside, few-of (s .args .number))
 
+  -- it is heard, and added at row t
+  first : (d : List ℕ) → heard (s .args .marks .now) x ≡ true → d ≡ added (s .args .rhs .now) (s .args .t * s .args .w) (s .args .symbols .now) ((s .args .l .k + s .args .t) * s .args .w) (s .args .w)
+      → At (λ i. eqb (s .args .t) i || false) (s .args .rows .now) d
+  first d on e = heard-row (s .pre .1 .1) inside (s .pre .1 .0) on refl from e
+
 add-x : tie.Need-add-x
 add-x c = search needs
 
@@ -55,58 +61,58 @@ shared-slice-read-if1 c = search needs
 
 -- ---- heard
 
-mul-add-from : tie.Need-mul-add-from
-mul-add-from c = let s = c .before .before .before .before .before .before .before .before in omega (arith, rhs-fits (s .pre .1 .1) (inside s) (s .pre .1 .0))
-
-mul-add-from-2 : tie.Need-mul-add-from-2
-mul-add-from-2 c = let s = c .before .before .before .before .before .before .before .before in omega (arith, source s)
-
-add-from-requires : tie.Need-add-from-requires
-add-from-requires c κs = let s = c .before .before .before .before .before .before .before .before in (rhs-fits (s .pre .1 .1) (inside s) (s .pre .1 .0), source s)
-
 -- the symbol is there
 here : (c : tie.Then1) → heard (c .before .before .before .before .before .before .before .args .marks .now) (x (c .before .before .before .before .before .before .before)) ≡ true
 here c = let s = c .before .before .before .before .before .before .before in ap (heard (s .args .marks .now)) (sym (same s)) ∙ heard-one _ _ (c .if1 .taken)
 
--- in row t
-heard-first : (c : tie.After-add-from) → At (c .before .before .before .before .before .before .before .before .before) (λ i. eqb (c .before .before .before .before .before .before .before .before .before .args .t) i || false) (c .before .before .before .before .before .before .before .before .before .args .rows .now) (c .add-from .last .0)
-heard-first c =
-    let s = c .before .before .before .before .before .before .before .before .before in
-    heard-row (s .pre .1 .1) (inside s) (s .pre .1 .0) (here (c .before .before)) refl (from s) (c .add-from .ensures)
-
 add-if2 : tie.Need-add-if2
 add-if2 c = search needs
+
+mul-add-from : tie.Need-mul-add-from
+mul-add-from c = let s = c .before .before .before .before .before .before .before .before .before .before in omega (arith, rhs-fits (s .pre .1 .1) (inside s) (s .pre .1 .0))
+
+mul-add-from-2 : tie.Need-mul-add-from-2
+mul-add-from-2 c = let s = c .before .before .before .before .before .before .before .before .before .before in omega (arith, source s)
+
+add-from-requires : tie.Need-add-from-requires
+add-from-requires c κs = let s = c .before .before .before .before .before .before .before .before .before .before in (rhs-fits (s .pre .1 .1) (inside s) (s .pre .1 .0), source s)
 
 same-length : tie.Need-same-length
 same-length c = search needs
 
+-- t is the last row
 returns : tie.Need-returns
 returns c =
     let s = c .before .before .before .before .before .before .before .before .before .before .before .before .before in
-    next-heard (heard-first (c .before .before .before .before)) (here (c .before .before .before .before .before .before)) (λ r h. last-row _ _ r (c .if2 .taken ∙ s .pre .0 .1 .m) h)
+    let on = here (c .before .before .before .before .before .before) in
+    next-heard (first s _ on (c .before .before .add-from .ensures)) on (λ r h. last-row _ _ r (c .before .before .before .before .if2 .taken ∙ s .pre .0 .1 .m) h)
 
-add-add-from : tie.Need-add-add-from
-add-add-from c = search needs
+mul-add-at-both : tie.Need-mul-add-at-both
+mul-add-at-both c = let s = c .before .before .before .before .before .before .before .before .before .before in omega (arith, rhs-fits (s .pre .1 .1) (inside s) (s .pre .1 .0))
 
-mul-add-from-3 : tie.Need-mul-add-from-3
-mul-add-from-3 c = let s = c .before .before .before .before .before .before .before .before .before .before .before .before .before .before in omega (arith, rhs-fits (s .pre .1 .1) (inside s) (second s (c .before .if2 .left)))
+add-add-at-both : tie.Need-add-add-at-both
+add-add-at-both c = search needs
 
-mul-add-from-4 : tie.Need-mul-add-from-4
-mul-add-from-4 c = let s = c .before .before .before .before .before .before .before .before .before .before .before .before .before .before in omega (arith, source s)
+mul-add-at-both-2 : tie.Need-mul-add-at-both-2
+mul-add-at-both-2 c = let s = c .before .before .before .before .before .before .before .before .before .before in omega (arith, rhs-fits (s .pre .1 .1) (inside s) (second s (c .before .if2 .left)))
 
-add-from-requires-2 : tie.Need-add-from-requires-2
-add-from-requires-2 c κs =
-    let s = c .before .before .before .before .before .before .before .before .before .before .before .before .before .before in
-    (rhs-fits (heard-first (c .before .before .before .before .before)) (inside s) (second s (c .before .if2 .left)), source s)
+mul-add-at-both-3 : tie.Need-mul-add-at-both-3
+mul-add-at-both-3 c = let s = c .before .before .before .before .before .before .before .before .before .before in omega (arith, source s)
+
+add-at-both-requires : tie.Need-add-at-both-requires
+add-at-both-requires c κs =
+    let s = c .before .before .before .before .before .before .before .before .before .before in
+    (rhs-fits (s .pre .1 .1) (inside s) (s .pre .1 .0), rhs-fits (s .pre .1 .1) (inside s) (second s (c .before .if2 .left)), source s)
 
 same-length-2 : tie.Need-same-length-2
 same-length-2 c = search needs
 
+-- there is a row after it
 returns-2 : tie.Need-returns-2
 returns-2 c =
-    let s = c .before .before .before .before .before .before .before .before .before .before .before .before .before .before .before .before .before in
-    let on = here (c .before .before .before .before .before .before .before .before .before .before) in
-    let b = heard-row (heard-first (c .before .before .before .before .before .before .before .before)) (inside s) (second s (c .before .before .before .before .if2 .left)) on (not-here (s .args .t)) (from s) (c .before .before .add-from2 .ensures) in
+    let s = c .before .before .before .before .before .before .before .before .before .before .before .before .before in
+    let on = here (c .before .before .before .before .before .before) in
+    let b = heard-row (first s _ on refl) (inside s) (second s (c .before .before .before .before .if2 .left)) on (not-here (s .args .t)) (from s) (c .before .before .add-at-both .ensures) in
     next-heard b on (λ r h. parity-rows _ _ r)
 
 -- ---- missing
@@ -177,16 +183,17 @@ add-parity-symbol-spec =
     (tie.spec
     add-x
     shared-slice-read-if1
+    add-if2
     mul-add-from
     mul-add-from-2
     add-from-requires
-    add-if2
     same-length
     returns
-    add-add-from
-    mul-add-from-3
-    mul-add-from-4
-    add-from-requires-2
+    mul-add-at-both
+    add-add-at-both
+    mul-add-at-both-2
+    mul-add-at-both-3
+    add-at-both-requires
     same-length-2
     returns-2
     add-set-bit
