@@ -1,5 +1,7 @@
+pub mod Laid
 pub mod Added
 pub mod Fronts
 pub mod Places
+pub mod Put
 pub mod Sums
 pub mod Zeros

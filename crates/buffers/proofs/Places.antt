@@ -11,6 +11,7 @@ use Rattle.algebra.specs.Sums.{_⊕_}
 use Rattle.algebra.proofs.Sums.{assoc, comm, unit}
 use Rattle.buffers.specs.Parts.{added, Part}
 use Rattle.buffers.proofs.Added.{added-length, added-below, added-above, added-in, added-same}
+use Rattle.buffers.proofs.Put.{from-zero}
 use Rattle.buffers.proofs.Sums.{added-join}
 
 -- what an addition does at index i: it adds a byte, the same one whatever the buffer holds
@@ -72,4 +73,4 @@ both-rest d at to s from n m w l j k ha ht z e p q =
 -- a part that was read before is as good as the bytes themselves
 pub part-added : {s : List ℕ} {from n : ℕ} {t : List ℕ} (d : List ℕ) (at : ℕ) {k : List ℕ} → Part s from n t → k ≡ added d at t 0 n → k ≡ added d at s from n
 part-added {s} {from} {n} {t} d at h e =
-    e ∙ added-same d at t 0 s from n (λ b g. let z : 0 + b ≡ b = omega arith in ap (λ (j : ℕ). getD t j 0) z ∙ h .each b g)
+    e ∙ added-same d at t 0 s from n (λ b g. from-zero t b ∙ h .each b g)

@@ -1,38 +1,21 @@
--- Sums by way of an array of their own: the laws of `Sum`, `put` and `Apart`, for any number of bytes.
+-- Sums by way of an array of their own, and within one buffer: the laws of `Sum` and `Apart`, for any number of bytes.
 -- Assumes nothing.
-use mathlib.Core.Path.{_≡_, refl, sym, ap, ap₂, _∙_}
+use mathlib.Core.Path.{_≡_, sym, ap, ap₂, _∙_}
 use mathlib.Core.Logic.{inl, inr, ⊎-elim}
 use mathlib.Core.List.{List}
 use Prim.Native.Nat.{ℕ, zero, suc, _+_, _<_, _≤_}
-use native.Mathlib.Nat.{not-suc-le-zero}
-use native.Mathlib.Numerals.{add-one}
 use native.Mathlib.Omega.{arith}
 use lib.Bits.{bitXor}
-use lib.ListN.{length, getD, set, length-set}
+use lib.ListN.{getD, set}
 use Rattle.algebra.specs.Sums.{_⊕_}
 use Rattle.buffers.specs.Parts.{added, put, Sum, Apart}
-use Rattle.buffers.proofs.Added.{added-above, added-below, added-more, added-same}
+use Rattle.buffers.proofs.Laid.{laid-same}
+use Rattle.buffers.proofs.Added.{added-laid, added-above, added-below, added-more, added-same}
+use Rattle.buffers.proofs.Put.{put-laid, from-zero}
 
--- ---- what the loop that puts them needs: before the first turn, and one turn more
-
-pub put-none : (d : List ℕ) (at : ℕ) (t : List ℕ) → d ≡ put d at t 0
-unfolding put
-put-none d at t = refl
-
-pub put-more : (d : List ℕ) (at : ℕ) (t : List ℕ) (i : ℕ) (l : List ℕ) → l ≡ put d at t i → set l (at + i) (getD t i 0) ≡ put d at t (i + 1)
-unfolding put
-put-more d at t i l e = rw (add-one, e)
-
--- ---- the two together
-
-put-each : (d : List ℕ) (at : ℕ) (s : List ℕ) (from : ℕ) (t : List ℕ) (n : ℕ) → ((b : ℕ) → b < n → getD t b 0 ≡ getD d (at + b) 0 ⊕ getD s (from + b) 0)
-    → put d at t n ≡ added d at s from n
-unfolding put added
-put-each d at s from t zero e = refl
-put-each d at s from t (suc n) e = ap₂ (λ (l : List ℕ) (v : ℕ). set l (at + n) v) (put-each d at s from t n (λ b h. e b (omega arith))) (e n (omega arith))
-
-pub put-sums : {d : List ℕ} {at : ℕ} {s : List ℕ} {from n : ℕ} {t k : List ℕ} → Sum d at s from n t → k ≡ put d at t n → k ≡ added d at s from n
-put-sums {d} {at} {s} {from} {n} {t} h e = e ∙ put-each d at s from t n (h .each)
+-- the sums, put where they belong
+pub put-sums : {d : List ℕ} {at : ℕ} {s : List ℕ} {from n : ℕ} {t k : List ℕ} → Sum d at s from n t → k ≡ put d at t 0 n → k ≡ added d at s from n
+put-sums {d} {at} {s} {from} {n} {t} h e = e ∙ laid-same (put-laid d at t 0) (added-laid d at s from) n (λ b g. from-zero t b ∙ h .each b g)
 
 -- n bytes were added, and then m more
 pub added-join : (d : List ℕ) (at : ℕ) (s : List ℕ) (from n m : ℕ) → added (added d at s from n) (at + n) s (from + n) m ≡ added d at s from (n + m)

@@ -7,15 +7,15 @@ use Prim.Native.Nat.{ℕ, zero, suc, _+_, _<_, _≤_}
 use lib.ListN.{length, getD, set}
 use Rattle.algebra.specs.Sums.{_⊕_}
 
--- d, where the n bytes of s from index `from` on are added to those of d from index `at` on
+-- d, where the n elements of s from index `from` on are added to those of d from index `at` on
 unfoldable pub added : List ℕ → ℕ → List ℕ → ℕ → ℕ → List ℕ
 added d at s from zero = d
 added d at s from (suc n) = set (added d at s from n) (at + n) (getD d (at + n) 0 ⊕ getD s (from + n) 0)
 
--- d, where the first n bytes of t stand from index `at` on
-unfoldable pub put : List ℕ → ℕ → List ℕ → ℕ → List ℕ
-put d at t zero = d
-put d at t (suc n) = set (put d at t n) (at + n) (getD t n 0)
+-- d, where the n elements of s from index `from` on stand from index `at` on
+unfoldable pub put : List ℕ → ℕ → List ℕ → ℕ → ℕ → List ℕ
+put d at s from zero = d
+put d at s from (suc n) = set (put d at s from n) (at + n) (getD s (from + n) 0)
 
 -- t is the n bytes of s from index `from` on
 pub record Part (s : List ℕ) (from n : ℕ) (t : List ℕ) : Type 0 where
@@ -27,6 +27,6 @@ pub record Sum (d : List ℕ) (at : ℕ) (s : List ℕ) (from n : ℕ) (t : List
   pub size : length t ≡ n
   pub each : (b : ℕ) → b < n → getD t b 0 ≡ getD d (at + b) 0 ⊕ getD s (from + b) 0
 
--- the n bytes from index `at` on and the n from index `from` on have none in common
+-- the n elements from index `at` on and the n from index `from` on have none in common
 pub record Apart (at from n : ℕ) : Type 0 where
   pub either : (from + n ≤ at) ⊎ (at + n ≤ from)

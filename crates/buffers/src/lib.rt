@@ -22,7 +22,7 @@ fn sum_16(dst: &[u8], at: usize, src: &[u8], from: usize) -> [u8; 16]
 // Puts the bytes of t over those of dst from index `at` on.
 fn put_16(dst: &mut [u8], at: usize, t: &[u8; 16])
     requires { ⌜ (at + 16 ≤ length (now dst)) × (length (now t) ≡ 16) ⌝ }
-    ensures { λ _. ⌜ now (dst .exit) ≡ put (now (dst .entry)) at (now (t .entry)) 16 ⌝ }
+    ensures { λ _. ⌜ now (dst .exit) ≡ put (now (dst .entry)) at (now (t .entry)) 0 16 ⌝ }
 {
     let mut i = 0;
     while i < 16 {

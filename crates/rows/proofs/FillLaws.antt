@@ -11,7 +11,7 @@ use lib.ListN.{length, getD}
 use lib.Seq.{getD-set-same, getD-set-other}
 use Rattle.rows.proofs.Order.{eq-or-ne}
 use Rattle.algebra.proofs.Codeword.{slot}
-use Rattle.rows.proofs.PartsLaws.{copyFrom-in, copyFrom-out}
+use Rattle.buffers.proofs.Put.{put-in, put-out}
 use Rattle.rows.specs.Parts.{AllZeroIs}
 use Rattle.rows.specs.Bits.{rowBit, OnlyIs}
 use Rattle.rows.proofs.SweepLaws.{rows-apart}
@@ -47,7 +47,7 @@ module _ (l d ps a b a′ b′ a″ b″ : List ℕ) (words width k : ℕ) (fb :
     place = refl;
     marked = ap (λ (x : List ℕ). getD x (getD ps p 0) 0) (w .marks) ∙ getD-set-same b′ (getD ps p 0) 2 0 (omega (arith, h, fb));
     bytes = λ e he. ap (λ (x : List ℕ). getD x (getD ps p 0 * width + e) 0) (w .symbols)
-        ∙ copyFrom-in a′ d (getD ps p 0 * width) (k * width) width (omega (arith, fa, slot (getD ps p 0) (length b) width h)) e he;
+        ∙ put-in a′ (getD ps p 0 * width) d (k * width) width e he (omega (arith, fa, slot (getD ps p 0) (length b) width h));
   }
 
   -- a position that row k does not write
@@ -74,7 +74,7 @@ module _ (l d ps a b a′ b′ a″ b″ : List ℕ) (words width k : ℕ) (fb :
   wrote-else p i ne w =
       carry i (ap (λ (x : List ℕ). getD x i 0) (w .marks) ∙ getD-set-other b′ (getD ps p 0) i 2 0 ne)
       (λ e h. ap (λ (x : List ℕ). getD x (i * width + e) 0) (w .symbols)
-      ∙ copyFrom-out a′ d (getD ps p 0 * width) (k * width) width (i * width + e) (λ j hj f. rows-apart i (getD ps p 0) width ne e j h hj f))
+      ∙ put-out a′ (getD ps p 0 * width) d (k * width) width (i * width + e) (λ j hj f. rows-apart i (getD ps p 0) width ne e j h hj f))
       (λ u f e. let same : u ≡ p = omega (arith, w .alone .word) in absurd (ne (sym f ∙ ap (λ (x : ℕ). getD ps x 0) same)))
 
   kept : (i : ℕ) → Kept l a′ b′ a″ b″ words k → Was i → Is i

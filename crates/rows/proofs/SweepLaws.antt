@@ -15,8 +15,7 @@ use Rattle.algebra.specs.Sums.{_⊕_}
 use Rattle.rows.proofs.Order.{lt-or-le}
 use Rattle.algebra.proofs.Codeword.{slot}
 use Rattle.buffers.specs.Parts.{added, Apart}
-use Rattle.rows.specs.Parts.{xorPart}
-use Rattle.rows.proofs.PartsLaws.{length-xorPart, xorPart-out, xorPart-above, xorPart-in, xorPart-added}
+use Rattle.buffers.proofs.Added.{added-length, added-out, added-above, added-in}
 use Rattle.rows.specs.Bits.{testBit}
 use Rattle.rows.proofs.Digits.{testBit-xor}
 use Rattle.rows.specs.Bits.{rowBit}
@@ -38,23 +37,21 @@ pub length-sweepTo : (h : ℕ → Bool) (l : List ℕ) (r w len n : ℕ) → len
 unfolding sweepTo
 length-sweepTo h l r w len zero = refl
 length-sweepTo h l r w len (suc j) =
-    cond-elim (λ (x : List ℕ). length x ≡ length l) (h j) _ _ (λ _. length-xorPart (sweepTo h l r w len j) (r * w) (j * w) len ∙ length-sweepTo h l r w len j)
+    cond-elim (λ (x : List ℕ). length x ≡ length l) (h j) _ _ (λ _. added-length _ (j * w) _ (r * w) len ∙ length-sweepTo h l r w len j)
     (λ _. length-sweepTo h l r w len j)
 
 -- ---- what stands where
 
--- two rows have no index in common
+-- two rows are apart, and so are their first len elements
+pub rows-beside : (a b w len : ℕ) → a ≢ b → len ≤ w → Apart (b * w) (a * w) len
+rows-beside a b w len ne small = record {
+  either = ⊎-elim (λ lt. inl (omega (arith, slot a b w lt)))
+      (λ ge. ⊎-elim (λ q. absurd (ne (sym q))) (λ gt. inr (omega (arith, slot b a w gt))) (eq-or-lt-of-le ge)) (lt-or-le a b);
+}
+
+-- so they have no index in common
 pub rows-apart : (a b w : ℕ) → a ≢ b → (i j : ℕ) → i < w → j < w → a * w + i ≡ b * w + j → ⊥
-rows-apart a b w ne i j hi hj e =
-    ⊎-elim (λ lt. omega (arith, slot a b w lt)) (λ ge. ⊎-elim (λ q. ne (sym q)) (λ gt. omega (arith, slot b a w gt)) (eq-or-lt-of-le ge)) (lt-or-le a b)
-
-pub rows-beside : (a b w : ℕ) → a ≢ b → Apart (b * w) (a * w) w
-rows-beside a b w ne =
-    record { either = ⊎-elim (λ lt. inl (slot a b w lt)) (λ ge. ⊎-elim (λ q. absurd (ne (sym q))) (λ gt. inr (slot b a w gt)) (eq-or-lt-of-le ge)) (lt-or-le a b) }
-
--- so one goes into the other by `add_within`
-pub row-added : (l x : List ℕ) (a b w : ℕ) → a ≢ b → x ≡ added l (b * w) l (a * w) w → x ≡ xorPart l (a * w) (b * w) w
-row-added l x a b w ne e = e ∙ xorPart-added l (a * w) (b * w) w (rows-apart a b w ne)
+rows-apart a b w ne i j hi hj e = ⊎-elim (λ below. omega arith) (λ above. omega arith) (rows-beside a b w w ne (omega arith) .either)
 
 module _ (h : ℕ → Bool) (l : List ℕ) (r w len : ℕ) (small : len ≤ w) (own : h r ≡ false) where
   not-own : (j : ℕ) → h j ≡ true → j ≡ r → ⊥
@@ -66,7 +63,7 @@ module _ (h : ℕ → Bool) (l : List ℕ) (r w len : ℕ) (small : len ≤ w) (
   sweepTo-ahead zero k g = refl
   sweepTo-ahead (suc j) k g =
       let ih : getD (sweepTo h l r w len j) k 0 ≡ getD l k 0 = sweepTo-ahead j k (omega (arith, suc-mul j w)) in
-      cond-elim (λ (x : List ℕ). getD x k 0 ≡ getD l k 0) (h j) _ _ (λ _. xorPart-above _ (r * w) (j * w) len k (omega (arith, suc-mul j w)) ∙ ih) (λ _. ih)
+      cond-elim (λ (x : List ℕ). getD x k 0 ≡ getD l k 0) (h j) _ _ (λ _. added-above _ (j * w) _ (r * w) len k (omega (arith, suc-mul j w)) ∙ ih) (λ _. ih)
 
   -- row r itself
   pub sweepTo-own : (n i : ℕ) → i < w → getD (sweepTo h l r w len n) (r * w + i) 0 ≡ getD l (r * w + i) 0
@@ -74,7 +71,7 @@ module _ (h : ℕ → Bool) (l : List ℕ) (r w len : ℕ) (small : len ≤ w) (
   sweepTo-own zero i g = refl
   sweepTo-own (suc j) i g =
       cond-elim (λ (x : List ℕ). getD x (r * w + i) 0 ≡ getD l (r * w + i) 0) (h j) _ _
-      (λ t. xorPart-out _ (r * w) (j * w) len (r * w + i) (λ k hk e. rows-apart j r w (not-own j t) k i (omega arith) g (sym e)) ∙ sweepTo-own j i g)
+      (λ t. added-out _ (j * w) _ (r * w) len (r * w + i) (λ k hk e. rows-apart j r w (not-own j t) k i (omega arith) g (sym e)) ∙ sweepTo-own j i g)
       (λ _. sweepTo-own j i g)
 
   -- the elements of a row that take no part
@@ -83,7 +80,7 @@ module _ (h : ℕ → Bool) (l : List ℕ) (r w len : ℕ) (small : len ≤ w) (
   sweepTo-rest zero j i g hi = refl
   sweepTo-rest (suc n) j i g hi =
       cond-elim (λ (x : List ℕ). getD x (j * w + i) 0 ≡ getD l (j * w + i) 0) (h n) _ _
-      (λ t. xorPart-out _ (r * w) (n * w) len (j * w + i) (λ k hk e. rows-apart j n w (λ q. let f : j * w ≡ n * w = ap (λ (x : ℕ). x * w) q in omega arith) i k hi (omega arith) e) ∙ sweepTo-rest n j i g hi)
+      (λ t. added-out _ (n * w) _ (r * w) len (j * w + i) (λ k hk e. rows-apart j n w (λ q. let f : j * w ≡ n * w = ap (λ (x : ℕ). x * w) q in omega arith) i k hi (omega arith) e) ∙ sweepTo-rest n j i g hi)
       (λ _. sweepTo-rest n j i g hi)
 
   -- the elements of a row that was reached: of the last such row, and then of each
@@ -93,9 +90,7 @@ module _ (h : ℕ → Bool) (l : List ℕ) (r w len : ℕ) (small : len ≤ w) (
   sweepTo-last n i fit hi =
       let same : getD (sweepTo h l r w len n) (n * w + i) 0 ≡ getD l (n * w + i) 0 = sweepTo-ahead n (n * w + i) (omega arith) in
       cond-both (λ (x : List ℕ). getD x (n * w + i) 0) (h n) _ _ _ _
-      (λ t. xorPart-in (sweepTo h l r w len n) (r * w) (n * w) len (omega (arith, length-sweepTo h l r w len n))
-      (λ a b ha hb. rows-apart r n w (λ e. not-own n t (sym e)) a b (omega arith) (omega arith)) i hi
-      ∙ ap₂ _⊕_ same (sweepTo-own n i (omega arith))) same
+      (λ _. added-in (sweepTo h l r w len n) (n * w) _ (r * w) len i hi (omega (arith, length-sweepTo h l r w len n)) ∙ ap₂ _⊕_ same (sweepTo-own n i (omega arith))) same
 
   pub sweepTo-row : (n j i : ℕ) → n * w ≤ length l → j < n → i < len
       → getD (sweepTo h l r w len n) (j * w + i) 0 ≡ cond (h j) (getD l (j * w + i) 0 ⊕ getD l (r * w + i) 0) (getD l (j * w + i) 0)
@@ -104,7 +99,7 @@ module _ (h : ℕ → Bool) (l : List ℕ) (r w len : ℕ) (small : len ≤ w) (
   sweepTo-row (suc n) j i fit g hi =
       ⊎-elim (λ e. rw e (sweepTo-last n i (omega (arith, suc-mul n w)) hi))
       (λ lt. cond-elim (λ (x : List ℕ). getD x (j * w + i) 0 ≡ getD (sweepTo h l r w len n) (j * w + i) 0) (h n) _ _
-      (λ t. xorPart-out _ (r * w) (n * w) len (j * w + i) (λ k hk e. rows-apart j n w (λ q. omega arith) i k (omega arith) (omega arith) e)) (λ _. refl)
+      (λ t. added-out _ (n * w) _ (r * w) len (j * w + i) (λ k hk e. rows-apart j n w (λ q. omega arith) i k (omega arith) (omega arith) e)) (λ _. refl)
       ∙ sweepTo-row n j i (omega (arith, suc-mul n w)) lt hi) (eq-or-lt-of-le (le-of-suc-le-suc g))
 
   -- the same of the bits of a row, where the list is words of 64 unknowns
@@ -156,7 +151,7 @@ unfolding sweepTo
 sweep-first h l r w len m j t = sweepTo-skip h l r w len j 0 (t .from) (t .between)
 
 -- one row: y is the list that is swept (the rows themselves, or the right-hand side) after j rows, and z the same with row r gone into row j
-pub sweep-one : (h : ℕ → Bool) (d y z : List ℕ) (r w n j : ℕ) → h j ≡ true → y ≡ sweepTo h d r w n j → z ≡ xorPart y (r * w) (j * w) n → z ≡ sweepTo h d r w n (j + 1)
+pub sweep-one : (h : ℕ → Bool) (d y z : List ℕ) (r w n j : ℕ) → h j ≡ true → y ≡ sweepTo h d r w n j → z ≡ added y (j * w) y (r * w) n → z ≡ sweepTo h d r w n (j + 1)
 unfolding sweepTo
 sweep-one h d y z r w n j t ey ez = ez ∙ rw (add-one, t, ey)
 
@@ -176,10 +171,10 @@ between-more h j k off here i a b = ⊎-elim (λ e. ap h e ∙ here) (λ lt. off
 
 -- ---- one row alone
 
-pub sweep-single : (l : List ℕ) (r w len m j : ℕ) → j < m → xorPart l (r * w) (j * w) len ≡ sweepTo (λ i. eqb i j) l r w len m
+pub sweep-single : (l : List ℕ) (r w len m j : ℕ) → j < m → added l (j * w) l (r * w) len ≡ sweepTo (λ i. eqb i j) l r w len m
 unfolding sweepTo
 sweep-single l r w len m j h =
-    sweep-one (λ i. eqb i j) l l (xorPart l (r * w) (j * w) len) r w len j (eq-eqb j j refl)
+    sweep-one (λ i. eqb i j) l l (added l (j * w) l (r * w) len) r w len j (eq-eqb j j refl)
     (sweepTo-skip (λ i. eqb i j) l r w len j 0 (omega arith) (λ k a b. ne-eqb k j (λ e. omega arith))) refl
     ∙ sweepTo-skip (λ i. eqb i j) l r w len m (j + 1) (omega arith) (λ k a b. ne-eqb k j (λ e. omega arith))
 

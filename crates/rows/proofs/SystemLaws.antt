@@ -10,7 +10,7 @@ use lib.ListN.{length, getD, set}
 use lib.Seq.{getD-set-other}
 use lib.Dec.{eqb}
 use borrow.Author.Tests.{ne-eqb}
-use Rattle.rows.specs.Parts.{xorPart}
+use Rattle.buffers.specs.Parts.{added}
 use Rattle.rows.specs.Bits.{testBit, rowBit}
 use Rattle.rows.specs.Sweep.{sweepTo}
 use Rattle.rows.proofs.SweepLaws.{rows-apart, sweepTo-row, sweepTo-bit, sweep-single}
@@ -77,7 +77,7 @@ sweep-same h l d m words width r own inside rows bytes = record {
 -- ---- one row added to another
 
 pub add-same : (l d l′ d′ : List ℕ) (m words width r j : ℕ) → r < m → j < m → j ≢ r → m * (words + 1) ≤ length l → m * width ≤ length d
-    → l′ ≡ xorPart l (r * (words + 1)) (j * (words + 1)) words → d′ ≡ xorPart d (r * width) (j * width) width → Same l d l′ d′ m words width
+    → l′ ≡ added l (j * (words + 1)) l (r * (words + 1)) words → d′ ≡ added d (j * width) d (r * width) width → Same l d l′ d′ m words width
 add-same l d l′ d′ m words width r j inside hj ne rows bytes el ed =
     rw (el ∙ sweep-single l r (words + 1) words m j hj, ed ∙ sweep-single d r width width m j hj)
     (sweep-same (λ i. eqb i j) l d m words width r (ne-eqb r j (λ e. ne (sym e))) inside rows bytes)

@@ -7,7 +7,7 @@ use mathlib.Core.Bool.{Bool, true, false}
 use mathlib.Core.List.{List}
 use Prim.Native.Nat.{ℕ, _+_, _*_, _≤_, _<_}
 use lib.ListN.{length, getD, set}
-use Rattle.rows.specs.Parts.{copyFrom}
+use Rattle.buffers.specs.Parts.{put}
 use Rattle.rows.specs.Bits.{rowBit, OnlyIs}
 use Rattle.rows.specs.Reduced.{pivotWord, Empty}
 
@@ -67,7 +67,7 @@ Filled l d ps a b a′ b′ words width k = (i : ℕ) → i < length b → Settl
 -- what row s alone does: it fills the position that unknown p stands for, or nothing
 pub record Wrote (l d ps a b a′ b′ : List ℕ) (words width s p : ℕ) : Type 0 where
   pub alone : Alone l words s p
-  pub symbols : a′ ≡ copyFrom a (getD ps p 0 * width) d (s * width) width
+  pub symbols : a′ ≡ put a (getD ps p 0 * width) d (s * width) width
   pub marks : b′ ≡ set b (getD ps p 0) 2
 
 pub record Kept (l a b a′ b′ : List ℕ) (words s : ℕ) : Type 0 where

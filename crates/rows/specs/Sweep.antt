@@ -5,12 +5,12 @@ use mathlib.Core.Bool.{Bool, true, false, cond, not, _&&_}
 use mathlib.Core.List.{List}
 use Prim.Native.Nat.{ℕ, zero, suc, _+_, _*_, _≤_, _<_}
 use lib.Dec.{eqb}
-use Rattle.rows.specs.Parts.{xorPart}
+use Rattle.buffers.specs.Parts.{added}
 use Rattle.rows.specs.Bits.{rowBit}
 
 -- l, with row r added to row j where b is true
 abbrev pub addRow : Bool → List ℕ → ℕ → ℕ → ℕ → ℕ → List ℕ
-addRow b l r w len j = cond b (xorPart l (r * w) (j * w) len) l
+addRow b l r w len j = cond b (added l (j * w) l (r * w) len) l
 
 -- l after row r was added to each row j below n for which h j is true
 unfoldable pub sweepTo : (ℕ → Bool) → List ℕ → ℕ → ℕ → ℕ → ℕ → List ℕ

@@ -2,12 +2,14 @@
 ghost use mathlib.Core.Path.{_≡_};
 ghost use Prim.Native.Nat.{_+_, _≤_};
 ghost use lib.ListN.{length};
-ghost use Rattle.rows.specs.Parts.{xorPart, copyFrom, AllZeroIs};
+ghost use Rattle.buffers.specs.Parts.{added, put, Apart};
+ghost use Rattle.rows.specs.Parts.{AllZeroIs};
 
-// Exclusive or of the len words from index `from` into the len words from index `to`.
+// Exclusive or of the len words from index `from` into the len words from index `to`, which are apart.
 pub fn xor_words(rows: &mut [u64], from: usize, to: usize, len: usize)
+    requires { ⌜ Apart to from len ⌝ }
     requires { ⌜ (from + len ≤ length (now rows)) × (to + len ≤ length (now rows)) ⌝ }
-    ensures { λ _. ⌜ now (rows .exit) ≡ xorPart (now (rows .entry)) from to len ⌝ }
+    ensures { λ _. ⌜ now (rows .exit) ≡ added (now (rows .entry)) to (now (rows .entry)) from len ⌝ }
 {
     let mut i = 0;
     while i < len {
@@ -21,7 +23,7 @@ pub fn xor_words(rows: &mut [u64], from: usize, to: usize, len: usize)
 // Copies the len bytes of src from index `from` over the len bytes of dst from index `to`.
 pub fn copy_from(dst: &mut [u8], to: usize, src: &[u8], from: usize, len: usize)
     requires { ⌜ (to + len ≤ length (now dst)) × (from + len ≤ length (now src)) ⌝ }
-    ensures { λ _. ⌜ now (dst .exit) ≡ copyFrom (now (dst .entry)) to (now (src .entry)) from len ⌝ }
+    ensures { λ _. ⌜ now (dst .exit) ≡ put (now (dst .entry)) to (now (src .entry)) from len ⌝ }
 {
     let mut i = 0;
     while i < len {

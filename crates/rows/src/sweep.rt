@@ -5,7 +5,7 @@ ghost use mathlib.Core.Path.{_≡_};
 ghost use mathlib.Core.Logic.{_≢_};
 ghost use Prim.Native.Nat.{_+_, _*_, _/_, _≤_, _<_};
 ghost use lib.ListN.{length};
-ghost use Rattle.rows.specs.Parts.{xorPart};
+ghost use Rattle.buffers.specs.Parts.{added};
 ghost use Rattle.rows.specs.Sweep.{sweepTo, hit, HasRow, NextHit};
 
 // The first row from j on, other than r, that has unknown p; m where there is none.
@@ -31,8 +31,8 @@ pub fn add_row(rows: &mut [u64], rhs: &mut [u8], words: usize, width: usize, r: 
     requires { ⌜ HasRow (length (now rows)) (length (now rhs)) words width r ⌝ }
     requires { ⌜ HasRow (length (now rows)) (length (now rhs)) words width j ⌝ }
     requires { ⌜ r ≢ j ⌝ }
-    ensures { λ _. ⌜ now (rows .exit) ≡ xorPart (now (rows .entry)) (r * (words + 1)) (j * (words + 1)) words ⌝ }
-    ensures { λ _. ⌜ now (rhs .exit) ≡ xorPart (now (rhs .entry)) (r * width) (j * width) width ⌝ }
+    ensures { λ _. ⌜ now (rows .exit) ≡ added (now (rows .entry)) (j * (words + 1)) (now (rows .entry)) (r * (words + 1)) words ⌝ }
+    ensures { λ _. ⌜ now (rhs .exit) ≡ added (now (rhs .entry)) (j * width) (now (rhs .entry)) (r * width) width ⌝ }
 {
     let stride = words + 1;
     parts::xor_words(rows, r * stride, j * stride, words);

@@ -119,9 +119,9 @@ returns c =
     let a = c .before .before .before .before .before .before .before .before .before .before .before .before .before .before .before .args in
     let i = c .before .before .before .before .before .before .before .before .before .before .loop2 .i in
     both-rest (a .dst .now) (a .at) (a .to) (a .src .now) (a .from) i (a .len - i) (a .len) _ _ _ (omega arith) (omega arith) (omega arith)
-        (c .before .before .before .before .before .before .before .before .before .before .loop2 .inv .2 (a .dst .now) (sym (c .before .before .before .before .before .before .before .before .before .before .before .before .loop .inv .1)) (c .before .before .before .before .before .before .before .before .before .before .before .before .loop .inv .2 (a .dst .now) refl refl))
-        (c .before .before .before .before .before .before .add-from .ensures)
-        (c .before .before .add-from2 .ensures)
+    (c .before .before .before .before .before .before .before .before .before .before .loop2 .inv .2 (a .dst .now) (sym (c .before .before .before .before .before .before .before .before .before .before .before .before .loop .inv .1)) (c .before .before .before .before .before .before .before .before .before .before .before .before .loop .inv .2 (a .dst .now) refl refl))
+    (c .before .before .before .before .before .before .add-from .ensures)
+    (c .before .before .add-from2 .ensures)
 
 same-length-2 : tie.Need-same-length-2 Inv-loop μ-loop Inv-loop2 μ-loop2
 same-length-2 c = c .before .before .loop2 .inv .1 ∙ c .before .before .before .before .loop .inv .1

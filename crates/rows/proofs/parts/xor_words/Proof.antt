@@ -1,22 +1,23 @@
--- `rows::parts::xor_words` meets its contract. The invariant: the first i elements are done, which `xorPart` says of i.
+-- `rows::parts::xor_words` meets its contract. The invariant: the first i elements are done, which `added` says of i.
 -- Assumes nothing.
 use mathlib.Core.Path.{_≡_, refl, ap, _∙_}
 use Prim.Native.Nat.{_-_, _≤_}
 use native.Mathlib.Omega.{arith}
 use lib.ListN.{length, length-set}
-use Rattle.rows.specs.Parts.{xorPart}
-use Rattle.rows.proofs.PartsLaws.{xorPart-none, xorPart-next}
+use Rattle.buffers.specs.Parts.{added}
+use Rattle.buffers.proofs.Sums.{within-more}
 use Rattle.rows.proofs.parts.xor_words.Statement.{statement}
 use Rattle.rows.proofs.parts.xor_words.Tie as tie
 
 abbrev Inv-loop : tie.InvT-loop
-Inv-loop rows₀ from to len i₀ rows i = (i ≤ len) × ((length rows ≡ length rows₀) × (rows ≡ xorPart rows₀ from to i))
+Inv-loop rows₀ from to len i₀ rows i = (i ≤ len) × ((length rows ≡ length rows₀) × (rows ≡ added rows₀ to rows₀ from i))
 
 abbrev μ-loop : tie.MeasureT-loop
 μ-loop rows₀ from to len i₀ rows i = len - i
 
 loop-holds : tie.Need-loop-holds Inv-loop μ-loop
-loop-holds c = (omega arith, (refl, xorPart-none _ _ _))
+unfolding added
+loop-holds c = (omega arith, (refl, refl))
 
 add-s : tie.Need-add-s Inv-loop μ-loop
 add-s c = omega arith
@@ -50,13 +51,13 @@ loop-less c = omega arith
 
 loop-again : tie.Need-loop-again Inv-loop μ-loop
 loop-again c =
-    let h = c .before .before .before .loop .inv in (omega arith, (simp length-set (h .1 .0), xorPart-next _ _ _ _ _ (h .1 .1)))
+    let h = c .before .before .before .loop .inv in (omega arith, (simp length-set (h .1 .0), within-more _ _ _ _ _ _ (c .before .before .before .before .pre .0) (omega arith) (h .1 .1)))
 
 same-length : tie.Need-same-length Inv-loop μ-loop
 same-length c = c .before .loop .inv .1 .0
 
 returns : tie.Need-returns Inv-loop μ-loop
-returns c = let e : c .before .loop .i ≡ c .before .before .args .len = omega arith in c .before .loop .inv .1 .1 ∙ ap (xorPart _ _ _) e
+returns c = let e : c .before .loop .i ≡ c .before .before .args .len = omega arith in c .before .loop .inv .1 .1 ∙ ap (added _ _ _ _) e
 
 pub xor-words-spec : {M : Type 1} → statement M
 xor-words-spec =

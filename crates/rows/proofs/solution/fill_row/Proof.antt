@@ -8,7 +8,7 @@ use native.Mathlib.Nat.{le-trans}
 use native.Mathlib.Omega.{arith}
 use lib.ListN.{length, getD, set}
 use Rattle.algebra.proofs.Codeword.{slot}
-use Rattle.rows.specs.Parts.{copyFrom}
+use Rattle.buffers.specs.Parts.{put}
 use Rattle.rows.specs.Bits.{rowBit, OnlyIs}
 use Rattle.rows.specs.Reduced.{pivotWord}
 use Rattle.rows.proofs.FillLaws.{word-pivot, shared-at}
@@ -122,7 +122,7 @@ returns-2 c =
           within = pivot (w .before .before .before .before) .0;
           only = subst (OnlyIs _ _ _) (w .before .before .if2 .taken) (w .before .before .before .only .ensures);
         };
-        symbols = c .before .before .copy-from .ensures ∙ ap (λ (i : ℕ). copyFrom (a .symbols .now) (i * a .width) (a .rhs .now) (a .s * a .width) (a .width)) (read w);
+        symbols = c .before .before .copy-from .ensures ∙ ap (λ (i : ℕ). put (a .symbols .now) (i * a .width) (a .rhs .now) (a .s * a .width) (a .width)) (read w);
         marks = ap (λ (i : ℕ). set (a .marks .now) i 2) (read w);
       },
     )

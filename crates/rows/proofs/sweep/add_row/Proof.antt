@@ -1,7 +1,7 @@
--- `rows::sweep::add_row` meets its contract: the right-hand sides of two rows are apart.
+-- `rows::sweep::add_row` meets its contract: two rows are apart, on both sides.
 -- Assumes nothing.
 use native.Mathlib.Omega.{arith}
-use Rattle.rows.proofs.SweepLaws.{rows-beside, row-added}
+use Rattle.rows.proofs.SweepLaws.{rows-beside}
 use borrow.Author.Needs.{needs}
 use Rattle.rows.proofs.sweep.add_row.Statement.{statement}
 use Rattle.rows.proofs.sweep.add_row.Tie as tie
@@ -16,7 +16,9 @@ mul-xor-words-2 : tie.Need-mul-xor-words-2
 mul-xor-words-2 c = search needs
 
 xor-words-requires : tie.Need-xor-words-requires
-xor-words-requires c κs = search needs
+xor-words-requires c κs =
+    let start = c .before .before .before in
+    (rows-beside _ _ _ _ (start .pre .1 .1) (omega arith), (omega (arith, start .pre .0 .inRows), omega (arith, start .pre .1 .0 .inRows)))
 
 mul-add-within : tie.Need-mul-add-within
 mul-add-within c = search needs
@@ -27,7 +29,7 @@ mul-add-within-2 c = search needs
 add-within-requires : tie.Need-add-within-requires
 add-within-requires c κs =
     let start = c .before .before .before .before .before .before .before in
-    (rows-beside _ _ _ (start .pre .1 .1), (omega (arith, start .pre .1 .0 .inRhs), omega (arith, start .pre .0 .inRhs)))
+    (rows-beside _ _ _ _ (start .pre .1 .1) (omega arith), (omega (arith, start .pre .1 .0 .inRhs), omega (arith, start .pre .0 .inRhs)))
 
 same-length : tie.Need-same-length
 same-length c = search needs
@@ -36,9 +38,7 @@ same-length-2 : tie.Need-same-length-2
 same-length-2 c = search needs
 
 returns : tie.Need-returns
-returns c =
-    let start = c .before .before .before .before .before .before .before .before .before .before in
-    (c .before .before .before .before .before .before .xor-words .ensures, row-added _ _ _ _ _ (start .pre .1 .1) (c .before .before .add-within .ensures))
+returns c = search needs
 
 pub add-row-spec : {M : Type 1} → statement M
 add-row-spec =
