@@ -3,9 +3,11 @@
 use mathlib.Core.Path.{_≡_, sym, ap, _∙_, subst}
 use mathlib.Core.List.{List}
 use Prim.Native.Nat.{ℕ, _+_, _-_, _<_, _≤_}
+use native.Mathlib.Nat.{add-zero}
 use native.Mathlib.Decide.{decLt}
 use native.Mathlib.Omega.{arith}
-use lib.ListN.{length, getD}
+use lib.Bits.{bitXor}
+use lib.ListN.{length, getD, set}
 use lib.Seq.{ext-getD}
 use Rattle.algebra.specs.Sums.{_⊕_}
 use Rattle.algebra.proofs.Sums.{assoc, comm, unit}
@@ -62,13 +64,18 @@ both-chunk d at to s from n m l k ha ht e p =
     ∙ ap (λ (x : List ℕ). added (added x to s from n) (to + n) s (from + n) m) (added-join d at s from n m)
     ∙ added-join (added d at s from (n + m)) to s from n m
 
--- n bytes were added in both places, and then the rest of w
-pub both-rest : (d : List ℕ) (at to : ℕ) (s : List ℕ) (from n m w : ℕ) (l j k : List ℕ) → at + w ≤ length d → to + w ≤ length d → n + m ≡ w
-    → l ≡ added (added d at s from n) to s from n → j ≡ added l (at + n) s (from + n) m → k ≡ added j (to + n) s (from + n) m
-    → k ≡ added (added d at s from w) to s from w
-both-rest d at to s from n m w l j k ha ht z e p q =
-    both-chunk d at to s from n m l k (omega arith) (omega arith) e (q ∙ ap (λ (x : List ℕ). added x (to + n) s (from + n) m) p)
-    ∙ ap (λ (i : ℕ). added (added d at s from i) to s from i) z
+-- one byte
+one-added : (x : List ℕ) (a : ℕ) (s : List ℕ) (f : ℕ) → set x a (bitXor (getD x a 0) (getD s f 0)) ≡ added x a s f 1
+unfolding added _⊕_
+one-added x a s f = rw (add-zero a, add-zero f)
+
+-- one byte more in both places
+pub both-more : (d : List ℕ) (at to : ℕ) (s : List ℕ) (from n : ℕ) (l j k : List ℕ) → at + n + 1 ≤ length d → to + n + 1 ≤ length d
+    → l ≡ added (added d at s from n) to s from n → j ≡ set l (at + n) (bitXor (getD l (at + n) 0) (getD s (from + n) 0))
+    → k ≡ set j (to + n) (bitXor (getD j (to + n) 0) (getD s (from + n) 0)) → k ≡ added (added d at s from (n + 1)) to s from (n + 1)
+both-more d at to s from n l j k ha ht e p q =
+    both-chunk d at to s from n 1 l k ha ht e
+    (q ∙ one-added j (to + n) s (from + n) ∙ ap (λ (x : List ℕ). added x (to + n) s (from + n) 1) (p ∙ one-added l (at + n) s (from + n)))
 
 -- a part that was read before is as good as the bytes themselves
 pub part-added : {s : List ℕ} {from n : ℕ} {t : List ℕ} (d : List ℕ) (at : ℕ) {k : List ℕ} → Part s from n t → k ≡ added d at t 0 n → k ≡ added d at s from n

@@ -143,9 +143,10 @@ pub fn add_at_both(dst: &mut [u8], at: usize, to: usize, src: &[u8], from: usize
         add_16_at_both(dst, at + i, to + i, src, from + i);
         i += 16;
     }
-    if i < len {
-        add_from(dst, at + i, src, from + i, len - i);
-        add_from(dst, to + i, src, from + i, len - i);
+    while i < len {
+        dst[at + i] = dst[at + i] ^ src[from + i];
+        dst[to + i] = dst[to + i] ^ src[from + i];
+        i += 1;
     }
 }
 
