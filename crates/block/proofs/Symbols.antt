@@ -3,17 +3,19 @@
 use mathlib.Core.Path.{_≡_, _∙_, refl, sym, ap, ap₂, subst}
 use mathlib.Core.Logic.{_↔_, _≢_}
 use mathlib.Core.Bool.{Bool, true, false, false≢true}
-use mathlib.Core.List.{List, [], _∷_, _++_, append-nil}
+use mathlib.Core.List.{List, [], _∷_, _++_, append-assoc}
 use Prim.Native.Nat.{ℕ, _+_, _-_, _*_, _≤_, _<_}
 use native.Mathlib.Nat.{add-sub-cancel-left}
 use native.Mathlib.Decide.{decLt}
 use native.Mathlib.Omega.{arith}
 use lib.Dec.{eqb}
-use lib.ListN.{length, getD, take, drop, length-append, length-drop, drop-of-length-le, List·getD-append}
-use lib.Seq.{take-length, length-take-le, drop-drop, getD-append-add, getD-take, getD-drop, ext-getD}
+use lib.ListN.{length, getD, take, drop, length-append, length-drop, List·getD-append}
+use lib.Seq.{take-length, length-take-le, getD-append-add, getD-take, getD-drop, ext-getD}
 use Rattle.algebra.specs.Codeword.{byteAt}
 use Rattle.algebra.proofs.Lists.{and-iff, eqb-iff}
 use Rattle.algebra.proofs.Codeword.{slot}
+use Rattle.buffers.specs.Parts.{put}
+use Rattle.buffers.proofs.Put.{put-paste}
 use Rattle.block.specs.Block.{symbolAt}
 use Rattle.block.specs.Take.{sameBytes, stored}
 
@@ -98,14 +100,8 @@ same-is x y false f g = go (sameBytes x y) refl
     go true e = absurd (false≢true (g (same-bytes x y .0 e)))
     go false e = refl
 
--- a copy into a part as long as its source is the source
-copied : (s y : List ℕ) (a w : ℕ) → length y ≡ w → a + w ≤ length s → take (length y) y ++ drop (length y) (take (a + w - a) (drop a s)) ≡ y
-copied s y a w e h =
-    let l : length (take w (drop a s)) ≡ w = length-take-le w (drop a s) (rw length-drop (omega arith)) in
-    let n : length (take w (drop a s)) ≤ length y = omega arith in
-    rw (part-is s a w, take-length y, drop-of-length-le (take w (drop a s)) n, append-nil)
-
-pub stores : (s y ys : List ℕ) (a w : ℕ) → length y ≡ w → a + w ≤ length s
-    → ys ≡ take (length y) y ++ drop (length y) (take (a + w - a) (drop a s))
-    → take a s ++ (ys ++ drop (a + w - a) (drop a s)) ≡ stored s a y
-stores s y ys a w e h q = rw (q ∙ copied s y a w e h, add-sub-cancel-left a w, e, drop-drop w a s)
+-- w bytes put from index a on
+pub stores : (s y x : List ℕ) (a w : ℕ) → length y ≡ w → a + w ≤ length s → x ≡ put s a y 0 w → x ≡ stored s a y
+stores s y x a w e h q =
+    q ∙ ap (put s a y 0) (sym e) ∙ put-paste s a y (length y) (omega (arith, h, e)) (omega arith)
+    ∙ ap (λ (l : List ℕ). take a s ++ l ++ drop (a + length y) s) (take-length y) ∙ append-assoc (take a s) y (drop (a + length y) s)

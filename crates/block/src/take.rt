@@ -115,7 +115,7 @@ fn arrive(b: Block, symbols: &mut [u8], marks: &mut [u8], position: usize, symbo
         return Taken::Refused(12);
     }
     marks[position] = 1;
-    bytes::copy(symbol, &mut symbols[at..at + w]);
+    buffers::put_from(symbols, at, symbol, 0, w);
     Taken::Kept
 }
 

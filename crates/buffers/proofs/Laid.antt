@@ -47,3 +47,13 @@ pub laid-same : {d : List ℕ} {at : ℕ} {f f′ : ℕ → ℕ} {g g′ : ℕ �
 laid-same h h′ zero e = h .none ∙ sym (h′ .none)
 laid-same {at = at} h h′ (suc n) e =
     h .next n ∙ ap₂ (λ (l : List ℕ) (v : ℕ). set l (at + n) v) (laid-same h h′ n (λ b q. e b (omega arith))) (e n (omega arith)) ∙ sym (h′ .next n)
+
+-- n were written, and then m more
+pub laid-join : {d : List ℕ} {at : ℕ} {f : ℕ → ℕ} {g : ℕ → List ℕ} → Laid d at f g → (n : ℕ) {f′ : ℕ → ℕ} {g′ : ℕ → List ℕ} → Laid (g n) (at + n) f′ g′
+    → (m : ℕ) → ((b : ℕ) → b < m → f′ b ≡ f (n + b)) → g′ m ≡ g (n + m)
+laid-join {g = g} h n h′ zero e = let z : n ≡ n + 0 = omega arith in h′ .none ∙ ap g z
+laid-join {at = at} {f} {g} h n h′ (suc m) e =
+    let a : at + n + m ≡ at + (n + m) = omega arith in
+    let z : suc (n + m) ≡ n + suc m = omega arith in
+    h′ .next m ∙ ap₂ (λ (l : List ℕ) (v : ℕ). set l (at + n + m) v) (laid-join h n h′ m (λ b q. e b (omega arith))) (e m (omega arith))
+    ∙ ap (λ (k : ℕ). set (g (n + m)) k (f (n + m))) a ∙ sym (h .next (n + m)) ∙ ap g z

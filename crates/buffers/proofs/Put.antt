@@ -1,13 +1,19 @@
 -- What putting n bytes at a place does to each byte.
 -- Assumes nothing.
-use mathlib.Core.Path.{_≡_, refl, ap}
+use mathlib.Core.Path.{_≡_, refl, ap, ap₂, _∙_}
 use mathlib.Core.Logic.{_≢_}
 use mathlib.Core.List.{List}
-use Prim.Native.Nat.{ℕ, _+_, _<_, _≤_}
+use Prim.Native.Nat.{ℕ, zero, suc, _+_, _<_, _≤_}
 use native.Mathlib.Nat.{zero-add}
+use native.Mathlib.Omega.{arith}
 use lib.ListN.{length, getD, set}
-use Rattle.buffers.specs.Parts.{put}
-use Rattle.buffers.proofs.Laid.{Laid, laid-out, laid-in, laid-more}
+use lib.Seq.{paste, paste-zero, paste-suc}
+use Rattle.buffers.specs.Parts.{put, Part}
+use Rattle.buffers.proofs.Laid.{Laid, laid-out, laid-in, laid-more, laid-join}
+
+-- bytes from index 0 on
+pub from-zero : (t : List ℕ) (b : ℕ) → getD t (0 + b) 0 ≡ getD t b 0
+from-zero t b = ap (λ (i : ℕ). getD t i 0) (zero-add b)
 
 module _ (d : List ℕ) (at : ℕ) (s : List ℕ) (from : ℕ) where
   pub put-laid : Laid d at (λ b. getD s (from + b) 0) (put d at s from)
@@ -24,6 +30,18 @@ module _ (d : List ℕ) (at : ℕ) (s : List ℕ) (from : ℕ) where
   pub put-more : (n : ℕ) (l : List ℕ) → l ≡ put d at s from n → (y : ℕ) → y ≡ getD s (from + n) 0 → set l (at + n) y ≡ put d at s from (n + 1)
   put-more n l e y hy = laid-more put-laid n l y e hy
 
--- bytes from index 0 on
-pub from-zero : (t : List ℕ) (b : ℕ) → getD t (0 + b) 0 ≡ getD t b 0
-from-zero t b = ap (λ (i : ℕ). getD t i 0) (zero-add b)
+-- one chunk more: n bytes were put, and then the next m, which were read before
+pub put-chunk : (d : List ℕ) (at : ℕ) (s : List ℕ) (from n m : ℕ) {t : List ℕ} (l k : List ℕ) → l ≡ put d at s from n → Part s (from + n) m t → k ≡ put l (at + n) t 0 m
+    → k ≡ put d at s from (n + m)
+put-chunk d at s from n m {t} l k e h p =
+    p ∙ ap (λ (x : List ℕ). put x (at + n) t 0 m) e
+    ∙ laid-join (put-laid d at s from) n (put-laid (put d at s from n) (at + n) t 0) m
+    (λ b q. let f : from + n + b ≡ from + (n + b) = omega arith in from-zero t b ∙ h .each b q ∙ ap (λ (i : ℕ). getD s i 0) f)
+
+-- the same by parts of lists
+pub put-paste : (d : List ℕ) (at : ℕ) (s : List ℕ) (n : ℕ) → at + n ≤ length d → n ≤ length s → put d at s 0 n ≡ paste d at s n
+unfolding put
+put-paste d at s zero hd hs = paste-zero d at s
+put-paste d at s (suc n) hd hs =
+    ap₂ (λ (l : List ℕ) (v : ℕ). set l (at + n) v) (put-paste d at s n (omega arith) (omega arith)) (from-zero s n)
+    ∙ paste-suc d at s n 0 (omega arith) (omega arith)

@@ -3,13 +3,13 @@
 use mathlib.Core.Path.{_≡_, sym, ap, ap₂, _∙_}
 use mathlib.Core.Logic.{inl, inr, ⊎-elim}
 use mathlib.Core.List.{List}
-use Prim.Native.Nat.{ℕ, zero, suc, _+_, _<_, _≤_}
+use Prim.Native.Nat.{ℕ, _+_, _<_, _≤_}
 use native.Mathlib.Omega.{arith}
 use lib.Bits.{bitXor}
 use lib.ListN.{getD, set}
 use Rattle.algebra.specs.Sums.{_⊕_}
 use Rattle.buffers.specs.Parts.{added, put, Sum, Apart}
-use Rattle.buffers.proofs.Laid.{laid-same}
+use Rattle.buffers.proofs.Laid.{laid-same, laid-join}
 use Rattle.buffers.proofs.Added.{added-laid, added-above, added-below, added-more, added-same}
 use Rattle.buffers.proofs.Put.{put-laid, from-zero}
 
@@ -19,15 +19,12 @@ put-sums {d} {at} {s} {from} {n} {t} h e = e ∙ laid-same (put-laid d at t 0) (
 
 -- n bytes were added, and then m more
 pub added-join : (d : List ℕ) (at : ℕ) (s : List ℕ) (from n m : ℕ) → added (added d at s from n) (at + n) s (from + n) m ≡ added d at s from (n + m)
-unfolding added
-added-join d at s from n zero = let z : n ≡ n + 0 = omega arith in ap (added d at s from) z
-added-join d at s from n (suc m) =
-    let a : at + n + m ≡ at + (n + m) = omega arith in
-    let f : from + n + m ≡ from + (n + m) = omega arith in
-    let z : suc (n + m) ≡ n + suc m = omega arith in
-    ap₂ (λ (l : List ℕ) (k : ℕ). set l k (getD (added d at s from n) k 0 ⊕ getD s (from + n + m) 0)) (added-join d at s from n m) a
-    ∙ ap₂ (λ (x y : ℕ). set (added d at s from (n + m)) (at + (n + m)) (x ⊕ y)) (added-above d at s from n (at + (n + m)) (omega arith)) (ap (λ (k : ℕ). getD s k 0) f)
-    ∙ ap (added d at s from) z
+added-join d at s from n m =
+    laid-join (added-laid d at s from) n (added-laid (added d at s from n) (at + n) s (from + n)) m
+    (λ b h.
+    let a : at + n + b ≡ at + (n + b) = omega arith in
+    let f : from + n + b ≡ from + (n + b) = omega arith in
+    ap₂ _⊕_ (added-above d at s from n (at + n + b) (omega arith) ∙ ap (λ (k : ℕ). getD d k 0) a) (ap (λ (k : ℕ). getD s k 0) f))
 
 -- one chunk more: n bytes were added, and then the next m
 pub chunk : (d : List ℕ) (at : ℕ) (s : List ℕ) (from n m : ℕ) (l k : List ℕ) → l ≡ added d at s from n → k ≡ added l (at + n) s (from + n) m

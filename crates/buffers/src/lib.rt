@@ -171,6 +171,23 @@ pub fn add_within(buf: &mut [u8], at: usize, from: usize, len: usize)
     }
 }
 
+// Puts len bytes of src, from index `from` on, over those of dst from index `at` on.
+pub fn put_from(dst: &mut [u8], at: usize, src: &[u8], from: usize, len: usize)
+    requires { ⌜ (at + len ≤ length (now dst)) × (from + len ≤ length (now src)) ⌝ }
+    ensures { λ _. ⌜ now (dst .exit) ≡ put (now (dst .entry)) at (now (src .entry)) from len ⌝ }
+{
+    let mut i = 0;
+    while len - i >= 16 {
+        let t = part_16(src, from + i);
+        put_16(dst, at + i, &t);
+        i += 16;
+    }
+    while i < len {
+        dst[at + i] = src[from + i];
+        i += 1;
+    }
+}
+
 // Sets every byte to 0.
 pub fn clear(buf: &mut [u8])
     ensures { λ _. ⌜ now (buf .exit) ≡ replicate (length (now (buf .entry))) 0 ⌝ }

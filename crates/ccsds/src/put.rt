@@ -70,10 +70,7 @@ pub fn bytes(out: &mut [u8], at: usize, s: &[u8]) -> usize
     requires { ⌜ at + length (now s) ≤ length (now out) ⌝ }
     ensures { λ r. ⌜ Put (now (out .entry)) (now (out .exit)) at r (now (s .entry)) ⌝ }
 {
-    let mut i = 0;
-    while i < s.len() {
-        out[at + i] = s[i];
-        i += 1;
-    }
-    at + s.len()
+    let n = s.len();
+    buffers::put_from(out, at, s, 0, n);
+    at + n
 }

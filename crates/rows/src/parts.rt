@@ -1,8 +1,8 @@
-// Parts of lent buffers: exclusive or into another part, copy, and a test for zero.
+// Parts of lent buffers: exclusive or into another part, and a test for zero.
 ghost use mathlib.Core.Path.{_≡_};
 ghost use Prim.Native.Nat.{_+_, _≤_};
 ghost use lib.ListN.{length};
-ghost use Rattle.buffers.specs.Parts.{added, put, Apart};
+ghost use Rattle.buffers.specs.Parts.{added, Apart};
 ghost use Rattle.rows.specs.Parts.{AllZeroIs};
 
 // Exclusive or of the len words from index `from` into the len words from index `to`, which are apart.
@@ -16,20 +16,6 @@ pub fn xor_words(rows: &mut [u64], from: usize, to: usize, len: usize)
         let s = from + i;
         let d = to + i;
         rows[d] = rows[d] ^ rows[s];
-        i += 1;
-    }
-}
-
-// Copies the len bytes of src from index `from` over the len bytes of dst from index `to`.
-pub fn copy_from(dst: &mut [u8], to: usize, src: &[u8], from: usize, len: usize)
-    requires { ⌜ (to + len ≤ length (now dst)) × (from + len ≤ length (now src)) ⌝ }
-    ensures { λ _. ⌜ now (dst .exit) ≡ put (now (dst .entry)) to (now (src .entry)) from len ⌝ }
-{
-    let mut i = 0;
-    while i < len {
-        let s = from + i;
-        let d = to + i;
-        dst[d] = src[s];
         i += 1;
     }
 }

@@ -59,7 +59,7 @@ fn fill_row(
     let p = (v - 1) as usize;
     if bits::only(rows, base, words, p) {
         let i = wide(places[p]);
-        parts::copy_from(symbols, i * width, rhs, s * width, width);
+        buffers::put_from(symbols, i * width, rhs, s * width, width);
         marks[i] = 2;
     }
 }

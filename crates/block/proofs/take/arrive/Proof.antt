@@ -67,20 +67,8 @@ returns-3 c =
 slice-write-marks : tie.Need-slice-write-marks
 slice-write-marks c = search needs
 
-add-copy : tie.Need-add-copy
-add-copy c = search needs
-
-sub-copy : tie.Need-sub-copy
-sub-copy c = search needs
-
-part-copy-start : tie.Need-part-copy-start
-part-copy-start c = search needs
-
-part-copy-end : tie.Need-part-copy-end
-part-copy-end c = search needs
-
-copy-requires : tie.Need-copy-requires
-copy-requires c κs = search needs
+put-from-requires : tie.Need-put-from-requires
+put-from-requires c κs = search needs
 
 same-length-3 : tie.Need-same-length-3
 same-length-3 c = search needs
@@ -93,7 +81,7 @@ returns-4 c =
     let b = c .before .before .before .before .before .before .before .before .before .before in
     let a = b .args in
     let r = apart (at-new (a .b) (a .symbols .now) (a .marks .now) (record { position = a .position; symbol = a .symbol .now }) (c .before .before .before .before .before .if1 .left) (c .before .before .before .before .if2 .left)) in
-    (r .0, (stores (a .symbols .now) (a .symbol .now) _ (a .position * a .b .w) (a .b .w) (b .pre .1 .1) (b .pre .1 .0) (c .before .before .copy .ensures .1) ∙ r .1 .0, r .1 .1))
+    (r .0, (stores (a .symbols .now) (a .symbol .now) _ (a .position * a .b .w) (a .b .w) (b .pre .1 .1) (b .pre .1 .0) (c .before .before .put-from .ensures) ∙ r .1 .0, r .1 .1))
 
 pub arrive-spec : {M : Type 1} → statement M
 arrive-spec =
@@ -112,11 +100,7 @@ arrive-spec =
     same-length-2
     returns-3
     slice-write-marks
-    add-copy
-    sub-copy
-    part-copy-start
-    part-copy-end
-    copy-requires
+    put-from-requires
     same-length-3
     same-length-4
     returns-4)

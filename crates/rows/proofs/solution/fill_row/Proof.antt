@@ -92,14 +92,14 @@ module _ (c : tie.After-wide) where
   symbol-read =
       subst⁻¹ (λ (i : ℕ). i * c .before .before .before .before .before .before .before .before .before .before .before .args .width + c .before .before .before .before .before .before .before .before .before .before .before .args .width ≤ length (c .before .before .before .before .before .before .before .before .before .before .before .args .symbols .now)) read (symbol (c .before .before .before .before))
 
-mul-copy-from : tie.Need-mul-copy-from
-mul-copy-from c = omega (arith, symbol-read (c .before))
+mul-put-from : tie.Need-mul-put-from
+mul-put-from c = omega (arith, symbol-read (c .before))
 
-mul-copy-from-2 : tie.Need-mul-copy-from-2
-mul-copy-from-2 c = omega (arith, ends (c .before .before .before .before .before .before .before .before .before .before .before .before) .1)
+mul-put-from-2 : tie.Need-mul-put-from-2
+mul-put-from-2 c = omega (arith, ends (c .before .before .before .before .before .before .before .before .before .before .before .before) .1)
 
-copy-from-requires : tie.Need-copy-from-requires
-copy-from-requires c κs = (symbol-read (c .before), ends (c .before .before .before .before .before .before .before .before .before .before .before .before) .1)
+put-from-requires : tie.Need-put-from-requires
+put-from-requires c κs = (symbol-read (c .before), ends (c .before .before .before .before .before .before .before .before .before .before .before .before) .1)
 
 slice-write-marks : tie.Need-slice-write-marks
 slice-write-marks c = position-read (c .before .before .before .before)
@@ -122,7 +122,7 @@ returns-2 c =
           within = pivot (w .before .before .before .before) .0;
           only = subst (OnlyIs _ _ _) (w .before .before .if2 .taken) (w .before .before .before .only .ensures);
         };
-        symbols = c .before .before .copy-from .ensures ∙ ap (λ (i : ℕ). put (a .symbols .now) (i * a .width) (a .rhs .now) (a .s * a .width) (a .width)) (read w);
+        symbols = c .before .before .put-from .ensures ∙ ap (λ (i : ℕ). put (a .symbols .now) (i * a .width) (a .rhs .now) (a .s * a .width) (a .width)) (read w);
         marks = ap (λ (i : ℕ). set (a .marks .now) i 2) (read w);
       },
     )
@@ -152,9 +152,9 @@ fill-row-spec =
     mul-wide
     shared-slice-read-wide
     wide-requires
-    mul-copy-from
-    mul-copy-from-2
-    copy-from-requires
+    mul-put-from
+    mul-put-from-2
+    put-from-requires
     slice-write-marks
     same-length
     same-length-2
