@@ -1,5 +1,5 @@
 //! Close in plain Rust: the steps of `block::system`, `rows` and `block::close`, in their order.
-use crate::plain_encode::add;
+use crate::plain_encode::{add, add_at};
 use crate::plain_tables::{check_block, check_length, Layout};
 use lipvezor::{Closed, Refusal, Verdict};
 
@@ -102,10 +102,6 @@ impl System<'_> {
         self.rows[at] |= 1 << (p % 64);
     }
 
-    fn add_symbol(&mut self, j: usize, symbol: &[u8]) {
-        add(&mut self.rhs[j * self.w..][..self.w], symbol);
-    }
-
     /// The equations of a block.
     pub fn build(&mut self, layout: &Layout, symbols: &[u8], marks: &[u8]) {
         let w = self.w;
@@ -116,9 +112,8 @@ impl System<'_> {
             for step in 0..layout.q {
                 let x = row * layout.q + step;
                 if marks[x] == 1 {
-                    for &address in addresses.iter() {
-                        self.add_symbol(layout.check_row(address, step), &symbols[x * w..(x + 1) * w]);
-                    }
+                    let js = layout.check_rows(addresses, step);
+                    add_at(self.rhs, w, &js[..addresses.len()], &symbols[x * w..(x + 1) * w]);
                 } else {
                     let p = if self.digits == Digits::All { x } else { rank };
                     for &address in addresses.iter().rev() {
@@ -132,9 +127,7 @@ impl System<'_> {
             let x = layout.k + t;
             let last = (t + 1).min(layout.m - 1);
             if marks[x] == 1 {
-                for j in t..=last {
-                    self.add_symbol(j, &symbols[x * w..(x + 1) * w]);
-                }
+                add_at(self.rhs, w, &[t, t + 1][..=last - t], &symbols[x * w..(x + 1) * w]);
             } else {
                 let p = if self.digits == Digits::All { x } else { rank };
                 for j in t..=last {

@@ -37,6 +37,15 @@ impl Layout {
             j - self.m
         }
     }
+
+    /// The same for all addresses of a table row.
+    pub fn check_rows(&self, addresses: &[usize], step: usize) -> [usize; 8] {
+        let mut js = [0; 8];
+        for (j, &address) in js.iter_mut().zip(addresses) {
+            *j = self.check_row(address, step);
+        }
+        js
+    }
 }
 
 /// Refusals 1 and 2.
