@@ -18,13 +18,13 @@ use Rattle.algebra.specs.Staircase.{staircase, stair}
 use Rattle.algebra.specs.Closing.{heard}
 use Rattle.algebra.proofs.Sums.{sum-tests, sum-terms, sum-none, sum-only, sum-xor}
 use Rattle.algebra.proofs.Codeword.{slot}
-use Rattle.buffers.specs.Parts.{added}
+use Rattle.buffers.specs.Parts.{added, addedEach}
 use Rattle.buffers.proofs.Zeros.{zeros}
 use Rattle.buffers.proofs.Added.{added-length}
 use Rattle.ccsds.specs.Codes.{Params, nOf, checksOf, rowOf, place, hits, touches}
-use Rattle.ccsds.specs.Steps.{addedAt}
+use Rattle.ccsds.specs.Steps.{checkRows}
 use Rattle.ccsds.proofs.Valid.{Valid, place-lt, row-apart}
-use Rattle.ccsds.proofs.Columns.{added-column, addedAt-column}
+use Rattle.ccsds.proofs.Columns.{added-column, addedEach-column}
 use Rattle.rows.specs.Bits.{rowBit, testBit, setRowBit}
 use Rattle.rows.proofs.Digits.{testBit-none}
 use Rattle.rows.proofs.BitsLaws.{set-bit, set-bit-else, length-setRowBit}
@@ -323,12 +323,12 @@ module _ {c : Params} {w words : ℕ} {s mk : List ℕ} where
   module _ (v : Valid c) {x : ℕ} (hx : x < c .k) {u : ℕ} {l d : List ℕ} where
     -- heard: it is added at once
     pub information-heard : {d′ : List ℕ} → Partly c w words s mk x nowhere u l d → heard mk x ≡ true → length d′ ≡ length d
-        → d′ ≡ addedAt c w s x (rowOf c x) d → Partly c w words s mk (x + 1) nowhere u l d′
+        → d′ ≡ addedEach (checkRows c x) w s (x * w) d → Partly c w words s mk (x + 1) nowhere u l d′
     unfolding touches
     information-heard b on kd e =
         next-heard
         (heard-rows b (omega arith) on (touches c x) (λ i k. refl) kd
-        (λ k i hk hi. ap (λ (y : List ℕ). getD y (i * w + k) 0) e ∙ addedAt-column w k hk c v s x i (rowOf c x) d (row-apart c v x hx) (b .rhs-bytes)))
+        (λ k i hk hi. ap (λ (y : List ℕ). getD y (i * w + k) 0) e ∙ addedEach-column w k hk c v s x i (rowOf c x) d (row-apart c v x hx) (b .rhs-bytes)))
         on (λ j hj. or-false (touches c x j) ∙ sym (information-test c x j hx))
 
     -- missing: its addresses from the last to the first

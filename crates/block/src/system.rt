@@ -174,11 +174,12 @@ fn add_parity_symbol(
 {
     let x = l.k + t;
     if marks[x] == 1 {
+        let js = [t, t + 1, 0, 0, 0, 0, 0, 0];
         if t + 1 == l.m {
-            buffers::add_from(rhs, t * w, symbols, x * w, w);
+            buffers::add_at(rhs, &js, 1, w, symbols, x * w);
             return u;
         }
-        buffers::add_at_both(rhs, t * w, (t + 1) * w, symbols, x * w, w);
+        buffers::add_at(rhs, &js, 2, w, symbols, x * w);
         return u;
     }
     rows::bits::set_bit(rows, t * (words + 1), u);

@@ -1,8 +1,8 @@
 // Sums on parts of lent byte buffers, and clearing. The loops go by index, so that they are compiled to vector instructions.
 ghost use mathlib.Core.Path.{_≡_};
 ghost use Prim.Native.Nat.{_≤_, _+_};
-ghost use lib.ListN.{length, replicate};
-ghost use Rattle.buffers.specs.Parts.{added, put, Sum, Part, Apart};
+ghost use lib.ListN.{length, replicate, take};
+ghost use Rattle.buffers.specs.Parts.{added, addedEach, put, Sum, Part, Apart, Within};
 
 // The 16 bytes of dst from index `at` on, each with the byte of src added that stands as far from index `from`. An array of its own overlaps with
 // nothing, and so short a loop is compiled to one vector instruction, without a test of whether dst and src overlap.
@@ -110,7 +110,7 @@ fn add_32_at_both(dst: &mut [u8], at: usize, to: usize, src: &[u8], from: usize)
 }
 
 // Adds len bytes of src, from index `from` on, to those of dst from index `at` on.
-pub fn add_from(dst: &mut [u8], at: usize, src: &[u8], from: usize, len: usize)
+fn add_from(dst: &mut [u8], at: usize, src: &[u8], from: usize, len: usize)
     requires { ⌜ (at + len ≤ length (now dst)) × (from + len ≤ length (now src)) ⌝ }
     ensures { λ _. ⌜ now (dst .exit) ≡ added (now (dst .entry)) at (now (src .entry)) from len ⌝ }
 {
@@ -130,7 +130,7 @@ pub fn add_from(dst: &mut [u8], at: usize, src: &[u8], from: usize, len: usize)
 }
 
 // Adds len bytes of src, from index `from` on, in two places of dst: from index `at` on, and from index `to` on. The places may overlap.
-pub fn add_at_both(dst: &mut [u8], at: usize, to: usize, src: &[u8], from: usize, len: usize)
+fn add_at_both(dst: &mut [u8], at: usize, to: usize, src: &[u8], from: usize, len: usize)
     requires { ⌜ (at + len ≤ length (now dst)) × (to + len ≤ length (now dst)) × (from + len ≤ length (now src)) ⌝ }
     ensures { λ _. ⌜ now (dst .exit) ≡ added (added (now (dst .entry)) at (now (src .entry)) from len) to (now (src .entry)) from len ⌝ }
 {
@@ -150,7 +150,24 @@ pub fn add_at_both(dst: &mut [u8], at: usize, to: usize, src: &[u8], from: usize
     }
 }
 
-// The same with len bytes of the same buffer, apart from those that they are added to.
+// Adds the w bytes of src from index `from` on at each of the first n rows of js, two rows at a time. It is the one caller of the two sums, so
+// that they are inlined.
+pub fn add_at(dst: &mut [u8], js: &[usize; 8], n: usize, w: usize, src: &[u8], from: usize)
+    requires { ⌜ Within (now js) n w (length (now dst)) ⌝ }
+    requires { ⌜ from + w ≤ length (now src) ⌝ }
+    ensures { λ _. ⌜ now (dst .exit) ≡ addedEach (take n (now (js .entry))) w (now (src .entry)) from (now (dst .entry)) ⌝ }
+{
+    let mut i = 0;
+    while n - i >= 2 {
+        add_at_both(dst, js[i] * w, js[i + 1] * w, src, from, w);
+        i += 2;
+    }
+    if i < n {
+        add_from(dst, js[i] * w, src, from, w);
+    }
+}
+
+// Adds len bytes of a buffer, from index `from` on, to those of the same buffer from index `at` on, which are apart from them.
 pub fn add_within(buf: &mut [u8], at: usize, from: usize, len: usize)
     requires { ⌜ Apart at from len ⌝ }
     requires { ⌜ (at + len ≤ length (now buf)) × (from + len ≤ length (now buf)) ⌝ }

@@ -2,7 +2,7 @@
 -- Assumes nothing.
 use mathlib.Core.Path.{_≡_, refl, sym, ap, ap₂, _∙_, subst}
 use mathlib.Core.Bool.{Bool, false}
-use mathlib.Core.List.{List, [], _∷_}
+use mathlib.Core.List.{List, [], _∷_, map}
 use Prim.Native.Nat.{ℕ, zero, suc, _+_, _-_, _*_, _/_, _%_, _<_, _≤_}
 use native.Mathlib.Nat.{zero-add, le-refl, le-of-suc-le-suc, mod-lt, div-lt-iff-lt-mul, div-add-mod'}
 use native.Mathlib.Decide.{decLt}
@@ -18,11 +18,12 @@ use Rattle.algebra.specs.Staircase.{parity, parityBytes}
 use Rattle.algebra.proofs.Sums as sums
 use Rattle.algebra.proofs.Lists.{length-tab, getD-tab}
 use Rattle.algebra.proofs.Codeword.{slot}
-use Rattle.buffers.specs.Parts.{added}
+use Rattle.buffers.specs.Parts.{added, addedEach}
 use Rattle.buffers.proofs.Zeros.{zeros}
 use Rattle.buffers.proofs.Added.{added-length, added-below, added-above, added-in}
+use Rattle.buffers.proofs.Rows.{addedEach-length}
 use Rattle.ccsds.specs.Codes.{Params, rowOf, place, hits, touches, encodeOf}
-use Rattle.ccsds.specs.Steps.{addedAt, accumulated, carried}
+use Rattle.ccsds.specs.Steps.{checkRows, accumulated, carried}
 use Rattle.ccsds.proofs.Valid.{Valid, Apart, place-lt, row-apart, hit-once}
 
 -- ---- one byte of each symbol
@@ -52,22 +53,16 @@ module _ (w b : ℕ) (hb : b < w) where
     room : (p : List ℕ) (x y : ℕ) → length p ≡ c .m * w → place c x y * w + w ≤ length p
     room p x y h = omega (arith, slot (place c x y) (c .m) w (place-lt c v x y))
 
-    pub addedAt-length : (x : ℕ) (ys p : List ℕ) → length (addedAt c w info x ys p) ≡ length p
-    unfolding addedAt
-    addedAt-length x [] p = refl
-    addedAt-length x (y ∷ ys) p =
-        addedAt-length x ys (added p (place c x y * w) info (x * w) w) ∙ added-length p (place c x y * w) info (x * w) w
-
-    pub addedAt-column : (x j : ℕ) (ys p : List ℕ) → Apart (place c x) ys → length p ≡ c .m * w
-        → byteAt w (addedAt c w info x ys p) b j ≡ byteAt w p b j ⊕ pick (hits (place c x) ys j) (byteAt w info b x)
-    unfolding addedAt hits
-    addedAt-column x j [] p a h = sym (sums.unit (byteAt w p b j))
-    addedAt-column x j (y ∷ ys) p a h =
+    pub addedEach-column : (x j : ℕ) (ys p : List ℕ) → Apart (place c x) ys → length p ≡ c .m * w
+        → byteAt w (addedEach (map (place c x) ys) w info (x * w) p) b j ≡ byteAt w p b j ⊕ pick (hits (place c x) ys j) (byteAt w info b x)
+    unfolding addedEach hits
+    addedEach-column x j [] p a h = sym (sums.unit (byteAt w p b j))
+    addedEach-column x j (y ∷ ys) p a h =
         let q = added p (place c x y * w) info (x * w) w in
         let e = eqb (place c x y) j in
         let t = hits (place c x) ys j in
         let z = byteAt w info b x in
-        addedAt-column x j ys q (a .1) (added-length p (place c x y * w) info (x * w) w ∙ h)
+        addedEach-column x j ys q (a .1) (added-length p (place c x y * w) info (x * w) w ∙ h)
         ∙ ap (λ (n : ℕ). n ⊕ pick t z) (added-column p info (place c x y) x j (room p x y h))
         ∙ sums.assoc (byteAt w p b j) (pick e z) (pick t z)
         ∙ ap (λ (n : ℕ). byteAt w p b j ⊕ n)
@@ -76,7 +71,7 @@ module _ (w b : ℕ) (hb : b < w) where
     accumulated-length : (n : ℕ) (p : List ℕ) → length (accumulated c w info 0 n p) ≡ length p
     unfolding accumulated
     accumulated-length zero p = refl
-    accumulated-length (suc n) p = addedAt-length (0 + n) (rowOf c (0 + n)) (accumulated c w info 0 n p) ∙ accumulated-length n p
+    accumulated-length (suc n) p = addedEach-length w info ((0 + n) * w) (checkRows c (0 + n)) (accumulated c w info 0 n p) ∙ accumulated-length n p
 
     accumulated-column : (j n : ℕ) (p : List ℕ) → n ≤ c .k → length p ≡ c .m * w
         → byteAt w (accumulated c w info 0 n p) b j ≡ byteAt w p b j ⊕ sum (λ x. touches c x j) (byteAt w info b) n
@@ -85,8 +80,8 @@ module _ (w b : ℕ) (hb : b < w) where
     accumulated-column j (suc n) p l h =
         let t = pick (touches c n j) (byteAt w info b n) in
         let q = accumulated c w info 0 n p in
-        ap (λ (x : ℕ). byteAt w (addedAt c w info x (rowOf c x) q) b j) (zero-add n)
-        ∙ addedAt-column n j (rowOf c n) q (row-apart c v n l) (accumulated-length n p ∙ h)
+        ap (λ (x : ℕ). byteAt w (addedEach (checkRows c x) w info (x * w) q) b j) (zero-add n)
+        ∙ addedEach-column n j (rowOf c n) q (row-apart c v n l) (accumulated-length n p ∙ h)
         ∙ ap (λ (x : ℕ). x ⊕ t) (accumulated-column j n p (omega arith) h)
         ∙ sums.assoc (byteAt w p b j) (sum (λ x. touches c x j) (byteAt w info b) n) t
 

@@ -5,6 +5,7 @@ pub mod Refusals
 pub mod Address
 pub mod Columns
 pub mod Turns
+pub mod CheckRows
 pub mod EncodeRefusal
 pub mod Claims
 pub mod Samples

@@ -1,55 +1,30 @@
 -- The turns of the encoder's loops.
 -- Assumes nothing.
-use mathlib.Core.Path.{_≡_, refl, sym, ap, ap₂, _∙_}
+use mathlib.Core.Path.{_≡_, sym, ap, ap₂, _∙_}
 use mathlib.Core.List.{List}
 use Prim.Native.Nat.{ℕ, zero, suc, _+_, _-_, _*_, _<_, _≤_}
 use native.Mathlib.Nat.{add-assoc, add-zero, add-suc, suc-mul, not-suc-le-zero}
 use native.Mathlib.Numerals.{add-one}
 use native.Mathlib.Omega.{arith}
-use lib.ListN.{length, getD, drop}
-use lib.Seq.{drop-cons, drop-length}
-use Rattle.buffers.specs.Parts.{added}
+use Rattle.buffers.specs.Parts.{added, addedEach}
 use Rattle.algebra.proofs.Codeword.{slot}
-use Rattle.ccsds.specs.Codes.{Params, rowOf, place}
-use Rattle.ccsds.specs.Steps.{addedAt, accumulated, carried}
+use Rattle.ccsds.specs.Codes.{Params}
+use Rattle.ccsds.specs.Steps.{checkRows, accumulated, carried}
 
 module _ (c : Params) (w : ℕ) (info : List ℕ) where
-  -- one address more
-  pub address-more : (x : ℕ) (ys : List ℕ) (i : ℕ) (p p′ r : List ℕ) (j from : ℕ) → i < length ys → j ≡ place c x (getD ys i 0) → from ≡ x * w
-      → p′ ≡ added p (j * w) info from w → addedAt c w info x (drop i ys) p ≡ r → addedAt c w info x (drop (i + 1) ys) p′ ≡ r
-  unfolding addedAt
-  address-more x ys i p p′ r j from h hj hf hp hr =
-      ap₂ (λ (n : ℕ) (l : List ℕ). addedAt c w info x (drop n ys) l) (add-one i)
-      (hp ∙ ap₂ (λ (y f : ℕ). added p (y * w) info f w) hj hf)
-      ∙ sym (ap (λ (l : List ℕ). addedAt c w info x l p) (drop-cons ys i 0 h)) ∙ hr
-
-  -- two addresses more
-  pub address-two : (x : ℕ) (ys : List ℕ) (i : ℕ) (p p′ r : List ℕ) (j h from : ℕ) → i + 1 < length ys → j ≡ place c x (getD ys i 0)
-      → h ≡ place c x (getD ys (i + 1) 0) → from ≡ x * w → p′ ≡ added (added p (j * w) info from w) (h * w) info from w
-      → addedAt c w info x (drop i ys) p ≡ r → addedAt c w info x (drop (i + 2) ys) p′ ≡ r
-  address-two x ys i p p′ r j h from g hj hh hf hp hr =
-      let e : i + 2 ≡ i + 1 + 1 = omega arith in
-      ap (λ (n : ℕ). addedAt c w info x (drop n ys) p′) e
-      ∙ address-more x ys (i + 1) _ p′ r h from g hh hf hp (address-more x ys i p _ r j from (omega arith) hj hf refl hr)
-
-  -- no address is left
-  pub address-all : (x : ℕ) (ys : List ℕ) (i : ℕ) (p r : List ℕ) → i ≡ length ys → addedAt c w info x (drop i ys) p ≡ r → p ≡ r
-  unfolding addedAt
-  address-all x ys i p r h hr = sym (ap (λ (l : List ℕ). addedAt c w info x l p) (ap (λ (n : ℕ). drop n ys) h ∙ drop-length ys)) ∙ hr
-
   -- one information symbol more
   pub symbol-more : (from n : ℕ) (p₀ p p′ : List ℕ) → p ≡ accumulated c w info from n p₀
-      → p′ ≡ addedAt c w info (from + n) (rowOf c (from + n)) p → p′ ≡ accumulated c w info from (n + 1) p₀
+      → p′ ≡ addedEach (checkRows c (from + n)) w info ((from + n) * w) p → p′ ≡ accumulated c w info from (n + 1) p₀
   unfolding accumulated
   symbol-more from n p₀ p p′ e h =
-      h ∙ ap (addedAt c w info (from + n) (rowOf c (from + n))) e ∙ ap (λ (m : ℕ). accumulated c w info from m p₀) (sym (add-one n))
+      h ∙ ap (addedEach (checkRows c (from + n)) w info ((from + n) * w)) e ∙ ap (λ (m : ℕ). accumulated c w info from m p₀) (sym (add-one n))
 
   -- a run of symbols, and then one more run
   runs : (from n m : ℕ) (p : List ℕ) → accumulated c w info (from + n) m (accumulated c w info from n p) ≡ accumulated c w info from (n + m) p
   unfolding accumulated
   runs from n zero p = ap (λ (k : ℕ). accumulated c w info from k p) (sym (add-zero n))
   runs from n (suc m) p =
-      ap₂ (λ (x : ℕ) (q : List ℕ). addedAt c w info x (rowOf c x) q) (add-assoc from n m) (runs from n m p)
+      ap₂ (λ (x : ℕ) (q : List ℕ). addedEach (checkRows c x) w info (x * w) q) (add-assoc from n m) (runs from n m p)
       ∙ ap (λ (k : ℕ). accumulated c w info from k p) (sym (add-suc n m))
 
   -- one table row more: q symbols

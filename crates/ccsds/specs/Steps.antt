@@ -1,20 +1,19 @@
 -- The steps of the encoder on buffers: what each of its inner functions leaves in the parity buffer. Internal: no public contract cites it.
 -- Assumes nothing.
 use mathlib.Core.Path.{_≡_}
-use mathlib.Core.List.{List, [], _∷_}
+use mathlib.Core.List.{List, map}
 use Prim.Native.Nat.{ℕ, zero, suc, _+_, _*_}
-use Rattle.buffers.specs.Parts.{added}
+use Rattle.buffers.specs.Parts.{added, addedEach}
 use Rattle.ccsds.specs.Codes.{Params, rowOf, place}
 
--- information symbol x is added at the check row of each address of the list
-unfoldable pub addedAt : Params → ℕ → List ℕ → ℕ → List ℕ → List ℕ → List ℕ
-addedAt c w info x [] p = p
-addedAt c w info x (y ∷ ys) p = addedAt c w info x ys (added p (place c x y * w) info (x * w) w)
+-- the check rows that information symbol x touches, one for each address of its table row
+abbrev pub checkRows : Params → ℕ → List ℕ
+checkRows c x = map (place c x) (rowOf c x)
 
 -- the n information symbols from `from` on are added at the check rows that they touch
 unfoldable pub accumulated : Params → ℕ → List ℕ → ℕ → ℕ → List ℕ → List ℕ
 accumulated c w info from zero p = p
-accumulated c w info from (suc n) p = addedAt c w info (from + n) (rowOf c (from + n)) (accumulated c w info from n p)
+accumulated c w info from (suc n) p = addedEach (checkRows c (from + n)) w info ((from + n) * w) (accumulated c w info from n p)
 
 -- to each of the symbols 1 to n the one before it is added, in rising order
 unfoldable pub carried : ℕ → ℕ → List ℕ → List ℕ

@@ -1,15 +1,15 @@
 -- `block::system::add_parity_symbol` meets its contract: the symbol, or its unknown, comes into row t, and then into the row after it.
 -- Assumes nothing.
 use mathlib.Core.Path.{_≡_, refl, sym, ap, _∙_}
-use mathlib.Core.List.{List}
+use mathlib.Core.List.{List, [], _∷_}
 use mathlib.Core.Bool.{Bool, true, false, _||_}
-use Prim.Native.Nat.{ℕ, _<_, _≤_, _*_, _+_}
+use Prim.Native.Nat.{ℕ, zero, suc, _<_, _≤_, _*_, _+_}
 use native.Mathlib.Omega.{arith}
 use lib.Dec.{eqb}
-use lib.ListN.{length}
+use lib.ListN.{length, getD}
 use borrow.Author.Needs.{needs}
 use Rattle.algebra.specs.Closing.{heard}
-use Rattle.buffers.specs.Parts.{added}
+use Rattle.buffers.specs.Parts.{added, addedEach, Within}
 use Rattle.ccsds.specs.Codes.{nOf}
 use Rattle.ccsds.specs.Tables.{codeOf}
 use Rattle.ccsds.proofs.Valid.{few-of}
@@ -19,6 +19,15 @@ use Rattle.block.proofs.Ranks.{rank-bound}
 use Rattle.block.proofs.SystemLaws.{symbol-fits, unknown-fits, row-fits, rhs-fits, heard-row, missing-row, next-heard, next-missing, not-here, parity-rows, last-row}
 use Rattle.block.proofs.system.add_parity_symbol.Statement.{statement}
 use Rattle.block.proofs.system.add_parity_symbol.Tie as tie
+
+-- row t of w bytes, and the row after it where the array's second element counts
+pair-within : {t n w bytes : ℕ} → n ≤ 2 → t * w + w ≤ bytes → (1 < n → (t + 1) * w + w ≤ bytes) → Within (t ∷ (t + 1) ∷ 0 ∷ 0 ∷ 0 ∷ 0 ∷ 0 ∷ 0 ∷ []) n w bytes
+pair-within {t} {n} {w} {bytes} le one two = record { size = refl; few = omega arith; each = each }
+  where
+    each : (i : ℕ) → i < n → getD (t ∷ (t + 1) ∷ 0 ∷ 0 ∷ 0 ∷ 0 ∷ 0 ∷ 0 ∷ []) i 0 * w + w ≤ bytes
+    each zero h = one
+    each (suc zero) h = two h
+    each (suc (suc i)) h = absurd (omega arith)
 
 -- the symbol's position in the code's own words, and its bytes
 module _ (s : tie.Start) where
@@ -68,51 +77,44 @@ here c = let s = c .before .before .before .before .before .before .before in ap
 add-if2 : tie.Need-add-if2
 add-if2 c = search needs
 
-mul-add-from : tie.Need-mul-add-from
-mul-add-from c = let s = c .before .before .before .before .before .before .before .before .before .before in omega (arith, rhs-fits (s .pre .1 .1) (inside s) (s .pre .1 .0))
+add-if2-2 : tie.Need-add-if2-2
+add-if2-2 c = search needs
 
-mul-add-from-2 : tie.Need-mul-add-from-2
-mul-add-from-2 c = let s = c .before .before .before .before .before .before .before .before .before .before in omega (arith, source s)
+mul-add-at : tie.Need-mul-add-at
+mul-add-at c = let s = c .before .before .before .before .before .before .before .before .before .before .before in omega (arith, source s)
 
-add-from-requires : tie.Need-add-from-requires
-add-from-requires c κs = let s = c .before .before .before .before .before .before .before .before .before .before in (rhs-fits (s .pre .1 .1) (inside s) (s .pre .1 .0), source s)
+add-at-requires : tie.Need-add-at-requires
+add-at-requires c κs = let s = c .before .before .before .before .before .before .before .before .before .before .before in (pair-within (omega arith) (rhs-fits (s .pre .1 .1) (inside s) (s .pre .1 .0)) (λ h. absurd (omega arith)), source s)
 
 same-length : tie.Need-same-length
 same-length c = search needs
 
 -- t is the last row
 returns : tie.Need-returns
+unfolding addedEach
 returns c =
-    let s = c .before .before .before .before .before .before .before .before .before .before .before .before .before in
-    let on = here (c .before .before .before .before .before .before) in
-    next-heard (first s _ on (c .before .before .add-from .ensures)) on (λ r h. last-row _ _ r (c .before .before .before .before .if2 .taken ∙ s .pre .0 .1 .m) h)
+    let s = c .before .before .before .before .before .before .before .before .before .before .before .before .before .before in
+    let on = here (c .before .before .before .before .before .before .before) in
+    next-heard (first s _ on (c .before .before .add-at .ensures)) on (λ r h. last-row _ _ r (c .before .before .before .before .before .if2 .taken ∙ s .pre .0 .1 .m) h)
 
-mul-add-at-both : tie.Need-mul-add-at-both
-mul-add-at-both c = let s = c .before .before .before .before .before .before .before .before .before .before in omega (arith, rhs-fits (s .pre .1 .1) (inside s) (s .pre .1 .0))
+mul-add-at-2 : tie.Need-mul-add-at-2
+mul-add-at-2 c = let s = c .before .before .before .before .before .before .before .before .before .before .before in omega (arith, source s)
 
-add-add-at-both : tie.Need-add-add-at-both
-add-add-at-both c = search needs
-
-mul-add-at-both-2 : tie.Need-mul-add-at-both-2
-mul-add-at-both-2 c = let s = c .before .before .before .before .before .before .before .before .before .before in omega (arith, rhs-fits (s .pre .1 .1) (inside s) (second s (c .before .if2 .left)))
-
-mul-add-at-both-3 : tie.Need-mul-add-at-both-3
-mul-add-at-both-3 c = let s = c .before .before .before .before .before .before .before .before .before .before in omega (arith, source s)
-
-add-at-both-requires : tie.Need-add-at-both-requires
-add-at-both-requires c κs =
-    let s = c .before .before .before .before .before .before .before .before .before .before in
-    (rhs-fits (s .pre .1 .1) (inside s) (s .pre .1 .0), rhs-fits (s .pre .1 .1) (inside s) (second s (c .before .if2 .left)), source s)
+add-at-requires-2 : tie.Need-add-at-requires-2
+add-at-requires-2 c κs =
+    let s = c .before .before .before .before .before .before .before .before .before .before .before in
+    (pair-within (omega arith) (rhs-fits (s .pre .1 .1) (inside s) (s .pre .1 .0)) (λ h. rhs-fits (s .pre .1 .1) (inside s) (second s (c .before .before .if2 .left))), source s)
 
 same-length-2 : tie.Need-same-length-2
 same-length-2 c = search needs
 
 -- there is a row after it
 returns-2 : tie.Need-returns-2
+unfolding addedEach
 returns-2 c =
-    let s = c .before .before .before .before .before .before .before .before .before .before .before .before .before in
-    let on = here (c .before .before .before .before .before .before) in
-    let b = heard-row (first s _ on refl) (inside s) (second s (c .before .before .before .before .if2 .left)) on (not-here (s .args .t)) (from s) (c .before .before .add-at-both .ensures) in
+    let s = c .before .before .before .before .before .before .before .before .before .before .before .before .before .before in
+    let on = here (c .before .before .before .before .before .before .before) in
+    let b = heard-row (first s _ on refl) (inside s) (second s (c .before .before .before .before .before .if2 .left)) on (not-here (s .args .t)) (from s) (c .before .before .add-at2 .ensures) in
     next-heard b on (λ r h. parity-rows _ _ r)
 
 -- ---- missing
@@ -184,16 +186,13 @@ add-parity-symbol-spec =
     add-x
     shared-slice-read-if1
     add-if2
-    mul-add-from
-    mul-add-from-2
-    add-from-requires
+    add-if2-2
+    mul-add-at
+    add-at-requires
     same-length
     returns
-    mul-add-at-both
-    add-add-at-both
-    mul-add-at-both-2
-    mul-add-at-both-3
-    add-at-both-requires
+    mul-add-at-2
+    add-at-requires-2
     same-length-2
     returns-2
     add-set-bit
