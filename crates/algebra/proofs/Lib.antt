@@ -7,6 +7,6 @@ pub mod Reduced
 pub mod Words
 pub mod Agreeing
 pub mod Closing
-pub mod Again
+pub mod SameHeard
 pub mod Demand
 pub mod Counts

@@ -2,8 +2,8 @@
 -- Assumes nothing.
 use mathlib.Core.Path.{_≡_, refl, sym, ap, ap₂, _∙_}
 use mathlib.Core.Logic.{_≢_, _⊎_, inl, inr}
-use mathlib.Core.Bool.{Bool, true, false, xor, not, _&&_, _||_}
-use Prim.Native.Nat.{ℕ, zero, suc, _+_, _*_, _/_, _%_, _≤_, _<_}
+use mathlib.Core.Bool.{Bool, true, false, xor, not, _&&_}
+use Prim.Native.Nat.{ℕ, zero, suc, _+_, _*_, _/_, _%_, _<_}
 use native.Mathlib.Nat as nat
 use native.Mathlib.Nat.{zero-lt-suc, mod-lt, le-of-suc-le-suc, le-suc, le-refl, le-trans, not-suc-le-zero}
 use native.Mathlib.Decide.{ℕ-discrete, decLt}
@@ -100,10 +100,6 @@ add4 a b c d =
     ∙ sym (assoc a c (b ⊕ d))
 
 -- ---- sums of many
-
-pub sum-zero : (a : ℕ → Bool) (x : ℕ → ℕ) → sum a x zero ≡ 0
-unfolding sum
-sum-zero a x = refl
 
 pub sum-suc : (a : ℕ → Bool) (x : ℕ → ℕ) (n : ℕ) → sum a x (suc n) ≡ sum a x n ⊕ pick (a n) (x n)
 unfolding sum

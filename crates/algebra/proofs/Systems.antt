@@ -1,16 +1,16 @@
--- Systems of equations over sums by exclusive or: solutions, and the one step of elimination, adding a row to another.
+-- Systems of equations over sums by exclusive or: solutions, and what a change of one unknown does.
 -- A system has a test for each row and position, and a right-hand side for each row. A row says that the sum of the unknowns at the positions
 -- that it has is its right-hand side. Rows are counted below m, positions below n.
 -- Assumes nothing.
 use mathlib.Core.Path.{_≡_, refl, sym, ap, ap₂, _∙_, subst}
-use mathlib.Core.Logic.{_↔_, _≢_}
+use mathlib.Core.Logic.{_≢_}
 use mathlib.Core.Bool.{Bool, true, false, xor}
 use Prim.Native.Nat.{ℕ, zero, suc, _≤_, _<_}
 use native.Mathlib.Nat.{not-suc-le-zero}
 use native.Mathlib.Decide.{ℕ-discrete}
 use native.Mathlib.Omega.{arith}
 use Rattle.algebra.specs.Sums.{_⊕_, pick, sum}
-use Rattle.algebra.proofs.Sums.{assoc, comm, unit, cancel, sum-ext, sum-tests, sum-xor}
+use Rattle.algebra.proofs.Sums.{assoc, comm, unit, sum-ext}
 
 pub record System : Type 0 where
   pub coef : ℕ → ℕ → Bool
@@ -79,44 +79,3 @@ module _ (Ok : ℕ → Type 0) (o : Ok 0) (c : (a b : ℕ) → Ok a → Ok b →
       at : Dec (i ≡ p) → Ok (bump x p e i)
       at (yes q) = subst (λ (z : ℕ). Ok (bump x p e z)) (sym q) (subst Ok (sym (bump-at x p e)) (c (x p) e (h p) k))
       at (no q) = subst Ok (sym (bump-other x p e i q)) (h i)
-
--- ---- one step of elimination
-
--- T is S with row r added to row j
-pub record Added (n : ℕ) (S T : System) (r j : ℕ) : Type 0 where
-  pub coef-at : (p : ℕ) → p < n → T .coef j p ≡ xor (S .coef j p) (S .coef r p)
-  pub rhs-at : T .rhs j ≡ S .rhs j ⊕ S .rhs r
-  pub coef-other : (i p : ℕ) → i ≢ j → p < n → T .coef i p ≡ S .coef i p
-  pub rhs-other : (i : ℕ) → i ≢ j → T .rhs i ≡ S .rhs i
-
-module _ (m n : ℕ) (S T : System) (r j : ℕ) (D : Added n S T r j) (hr : r < m) (hj : j < m) (d : r ≢ j) (x : ℕ → ℕ) where
-  sum-at : sum (T .coef j) x n ≡ sum (S .coef j) x n ⊕ sum (S .coef r) x n
-  sum-at = sum-tests (T .coef j) (λ p. xor (S .coef j p) (S .coef r p)) x n (D .coef-at) ∙ sum-xor (S .coef j) (S .coef r) x n
-
-  sum-other : (i : ℕ) → i ≢ j → sum (T .coef i) x n ≡ sum (S .coef i) x n
-  sum-other i k = sum-tests (T .coef i) (S .coef i) x n (λ p h. D .coef-other i p k h)
-
-  forth : Solves m n S x → Solves m n T x
-  forth s i h = go (ℕ-discrete i j)
-    where
-      go : Dec (i ≡ j) → sum (T .coef i) x n ≡ T .rhs i
-      go (yes e) = subst (λ (k : ℕ). sum (T .coef k) x n ≡ T .rhs k) (sym e) (sum-at ∙ ap₂ _⊕_ (s j hj) (s r hr) ∙ sym (D .rhs-at))
-      go (no k) = sum-other i k ∙ s i h ∙ sym (D .rhs-other i k)
-
-  back : Solves m n T x → Solves m n S x
-  back t i h = go (ℕ-discrete i j)
-    where
-      at-r : sum (S .coef r) x n ≡ S .rhs r
-      at-r = sym (sum-other r d) ∙ t r hr ∙ D .rhs-other r d
-
-      go : Dec (i ≡ j) → sum (S .coef i) x n ≡ S .rhs i
-      go (yes e) =
-          subst (λ (k : ℕ). sum (S .coef k) x n ≡ S .rhs k) (sym e)
-          (sym (cancel (sum (S .coef j) x n) (sum (S .coef r) x n))
-          ∙ ap₂ _⊕_ (sym sum-at ∙ t j hj ∙ D .rhs-at) at-r
-          ∙ cancel (S .rhs j) (S .rhs r))
-      go (no k) = sym (sum-other i k) ∙ t i h ∙ D .rhs-other i k
-
-  -- a step keeps just the same solutions
-  pub added-solves : Solves m n S x ↔ Solves m n T x
-  added-solves = (forth, back)

@@ -16,7 +16,7 @@ use Rattle.algebra.specs.Closing.{heard, agreeing, verdictOf, verdict, settled,
 use Rattle.algebra.proofs.Lists.{eqb-iff, length-tab, getD-tab}
 use Rattle.algebra.proofs.Codeword.{ext-byteAt}
 use Rattle.algebra.proofs.Agreeing.{mark-at, byte-at, length-marks, length-symbols}
-use Rattle.algebra.proofs.Again.{SameHeard, same-agreeing}
+use Rattle.algebra.proofs.SameHeard.{SameHeard, same-agreeing}
 use Rattle.ccsds.specs.Refusals.{firstOf, Outcome, refused, answered, outcome, afterwards}
 use Rattle.ccsds.proofs.Refusals.{width-right}
 use Rattle.block.specs.Block.{checks, symbolAt, blockRefusal}

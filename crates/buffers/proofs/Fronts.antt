@@ -10,7 +10,7 @@ use lib.ListN.{length, getD, set, take, length-set}
 use lib.Seq.{getD-set-same, getD-set-other}
 
 -- element i is written after those before it, each of which is what f says
-pub front-more : (f : ℕ → ℕ) (l : List ℕ) (i v : ℕ) → i < length l → ((k : ℕ) → k < i → getD l k 0 ≡ f k) → v ≡ f i
+front-more : (f : ℕ → ℕ) (l : List ℕ) (i v : ℕ) → i < length l → ((k : ℕ) → k < i → getD l k 0 ≡ f k) → v ≡ f i
     → (k : ℕ) → k < i + 1 → getD (set l i v) k 0 ≡ f k
 front-more f l i v h each e k g = go (decLt k i)
   where

@@ -1,10 +1,10 @@
 -- The rows of encode's list of refusals, each decided by its test.
 -- Assumes nothing.
-use mathlib.Core.Path.{_≡_, refl, sym, ap, _∙_}
-use mathlib.Core.Bool.{Bool, true, false, not, _||_}
-use Prim.Native.Nat.{ℕ, zero, _*_, _<_, _≤_}
+use mathlib.Core.Path.{_≡_, sym, ap, _∙_}
+use mathlib.Core.Bool.{Bool, true, false, _||_}
+use Prim.Native.Nat.{ℕ, _*_, _<_}
 use Rattle.ccsds.specs.Tables.{codeOf, Known}
-use Rattle.ccsds.specs.Refusals.{firstOf, wrongCode, wrongWidth, wrongLength, bytesOf}
+use Rattle.ccsds.specs.Refusals.{wrongCode, wrongWidth, wrongLength, bytesOf}
 use Rattle.ccsds.specs.Encode.{encodeRefusal}
 use Rattle.ccsds.specs.Steps.{Sized}
 use Rattle.ccsds.proofs.Refusals.{first-is, first-on, first-end, first-none, bytes-right, code-known, width-right, length-right, length-wrong, length-same, or-false}

@@ -9,7 +9,7 @@ use native.Mathlib.Omega.{arith}
 use lib.Dec.{eqb, ltb}
 use borrow.Author.Tests.{not-false, eq-eqb, ne-eqb, eqb-true, eqb-false, ltb-false, lt-ltb, le-ltb}
 use Rattle.ccsds.specs.Tables.{isCode, Known}
-use Rattle.ccsds.specs.Refusals.{firstOf, wrongCode, wrongWidth, wrongLabel, wrongLength, wrongPosition, wrongSymbol, Outcome, refused, answered, outcome, afterwards, bytesOf}
+use Rattle.ccsds.specs.Refusals.{firstOf, wrongCode, wrongWidth, wrongLabel, wrongLength, wrongPosition, wrongSymbol, refused, answered, outcome, afterwards, bytesOf}
 
 -- ---- the conditions
 

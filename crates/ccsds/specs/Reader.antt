@@ -7,7 +7,7 @@ use Prim.Native.Nat.{ℕ, zero, suc, _+_, _-_, _*_, _/_, _%_}
 use lib.Dec.{eqb, ltb, leb}
 use lib.ListN.{length, getD, take, drop}
 use Rattle.ccsds.specs.Refusals.{Outcome, refused, answered, _⟫_, refuseIf}
-use Rattle.ccsds.specs.Sdnv.{Number, numberAt}
+use Rattle.ccsds.specs.Sdnv.{numberAt}
 use Rattle.ccsds.specs.declared.reader.Parameters.{Parameters}
 use Rattle.ccsds.specs.declared.reader.ParametersRead.{ParametersRead}
 use Rattle.ccsds.specs.declared.reader.ParametersRead.the-variants as parameters

@@ -4,7 +4,7 @@ use crate::code::Code;
 use crate::tables;
 use crate::tables::Layout;
 ghost use mathlib.Core.Path.{_≡_};
-ghost use Prim.Native.Nat.{_<_, _≤_, _+_, _*_, _-_};
+ghost use Prim.Native.Nat.{_<_, _+_, _*_, _-_};
 ghost use lib.ListN.{length};
 ghost use Rattle.ccsds.specs.Codes.{encodeOf};
 ghost use Rattle.ccsds.specs.Tables.{codeOf, Known};

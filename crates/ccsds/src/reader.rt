@@ -3,7 +3,6 @@ use crate::big_endian;
 use crate::sdnv;
 use crate::sdnv::NumberRead;
 ghost use mathlib.Core.Path.{_≡_};
-ghost use Rattle.ccsds.specs.Refusals.{_⟫_};
 ghost use Rattle.ccsds.specs.Reader.{codingOf, extensionAt, extensionsOf, wrongHeader, readUnit, codingAs, walkAs, readAs};
 
 // The coding parameters.

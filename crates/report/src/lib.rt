@@ -1,6 +1,5 @@
 // How the programs print what a buffer holds: its first bytes, and a checksum of all.
 use libc::STDOUT_FILENO;
-ghost use mathlib.Core.Path.{_≡_};
 ghost use Prim.Native.Nat.{_<_};
 
 // The checksum of s: from 0, each byte b takes d to (257 d + b) mod 4,294,967,291.

@@ -1,7 +1,7 @@
 -- `ccsds::encode::check_encode` meets its contract: each test decides one row of the list.
 -- Assumes nothing.
 use mathlib.Core.Path.{_≡_, sym, ap, _∙_}
-use mathlib.Core.Bool.{true, false, not}
+use mathlib.Core.Bool.{false, not}
 use borrow.Author.Needs.{needs}
 use Rattle.ccsds.specs.Refusals.{wrongCode, wrongWidth}
 use Rattle.ccsds.proofs.EncodeRefusal.{code-refused, width-refused, information-refused, parity-refused, not-refused}

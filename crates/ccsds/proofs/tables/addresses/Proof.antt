@@ -1,22 +1,20 @@
 -- `ccsds::tables::addresses` meets its contract: after i turns, the first i addresses stand in the array.
 -- Assumes nothing.
-use mathlib.Core.Path.{_≡_, refl, _∙_, subst⁻¹}
+use mathlib.Core.Path.{_≡_, refl, subst⁻¹}
 use mathlib.Core.Bool.{Bool, true, false, cond}
 use mathlib.Core.List.{[]}
-use Prim.Native.Nat.{ℕ, _<_, _≤_, _-_}
-use native.Mathlib.Nat.{not-suc-le-zero}
+use Prim.Native.Nat.{ℕ, _≤_, _-_}
 use native.Mathlib.Omega.{arith}
 use lib.Dec.{ltb}
-use lib.ListN.{length, getD, length-set}
+use lib.ListN.{length, getD}
 use Rattle.ccsds.specs.Tables.{codeOf}
-use Rattle.buffers.proofs.Fronts.{front-more}
+use Rattle.buffers.proofs.Fronts.{Filled, filled-none, filled-more}
 use Rattle.ccsds.proofs.tables.addresses.Statement.{statement}
 use Rattle.ccsds.proofs.tables.addresses.Tie as tie
 
 abbrev Inv-loop : tie.InvT-loop
 Inv-loop number l row ys₀ n i₀ ys i =
-    (i ≤ n) × (n ≡ length (getD (codeOf number .rows) row [])) × (length ys ≡ 8)
-    × ((k : ℕ) → k < i → getD ys k 0 ≡ getD (getD (codeOf number .rows) row []) k 0)
+    (i ≤ n) × (n ≡ length (getD (codeOf number .rows) row [])) × Filled (λ k. getD (getD (codeOf number .rows) row []) k 0) 8 i ys
 
 abbrev μ-loop : tie.MeasureT-loop
 μ-loop number l row ys₀ n i₀ ys i = n - i
@@ -33,7 +31,7 @@ row-degree-requires : tie.Need-row-degree-requires Inv-loop μ-loop
 row-degree-requires c κs = c .pre
 
 loop-holds : tie.Need-loop-holds Inv-loop μ-loop
-loop-holds c = (omega arith, c .row-degree .ensures, refl, λ k h. absurd (not-suc-le-zero h))
+loop-holds c = (omega arith, c .row-degree .ensures, filled-none refl)
 
 address-requires : tie.Need-address-requires Inv-loop μ-loop
 address-requires c κs =
@@ -57,14 +55,13 @@ loop-again : tie.Need-loop-again Inv-loop μ-loop
 loop-again c =
     let s = c .before .before .before .before in
     let l = c .before .before .loop in
-    let h : l .i < length (l .ys) = omega (arith, few s, l .inv .1, l .inv .2) in
-    (omega arith, l .inv .1, length-set (l .ys) (l .i) _ ∙ l .inv .2, front-more (λ k. getD (getD (codeOf (s .args .number) .rows) (s .args .row) []) k 0) (l .ys) (l .i) _ h (l .inv .3) (c .address .ensures))
+    (omega arith, l .inv .1, filled-more (l .inv .2) (omega (arith, few s, l .inv .1)) (c .address .ensures))
 
 returns : tie.Need-returns Inv-loop μ-loop
 returns c =
     let l = c .before .loop in
     let s = c .before .before .before in
-    record { size = l .inv .2; few = few s; each = λ k h. l .inv .3 k (omega (arith, l .inv .1)) }
+    record { size = l .inv .2 .size; few = few s; each = λ k h. l .inv .2 .each k (omega (arith, l .inv .1)) }
 
 pub addresses-spec : {M : Type 1} → statement M
 addresses-spec =
