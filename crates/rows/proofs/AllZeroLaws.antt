@@ -1,4 +1,4 @@
--- Laws of specs/Parts.antt.
+-- Laws of specs/AllZero.antt.
 -- Assumes nothing.
 use mathlib.Core.Path.{_≡_, refl, sym, ap, _∙_, subst}
 use mathlib.Core.Bool.{Bool, true, false}
@@ -10,7 +10,7 @@ use lib.Bits.{bitOr, or-zero-l, or-add-and, and-le-r}
 use lib.Dec.{eqb}
 use borrow.Author.Count.{below-more}
 use borrow.Author.Tests.{eqb-true, eqb-false, eq-eqb, ne-eqb}
-use Rattle.rows.specs.Parts.{AllZeroIs}
+use Rattle.rows.specs.AllZero.{AllZeroIs}
 
 -- a | b is 0 only where a is
 or-none : (a b : ℕ) → bitOr a b ≡ 0 → a ≡ 0

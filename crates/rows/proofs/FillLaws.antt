@@ -12,7 +12,7 @@ use lib.Seq.{getD-set-same, getD-set-other}
 use Rattle.rows.proofs.Order.{eq-or-ne}
 use Rattle.algebra.proofs.Codeword.{slot}
 use Rattle.buffers.proofs.Put.{put-in, put-out}
-use Rattle.rows.specs.Parts.{AllZeroIs}
+use Rattle.rows.specs.AllZero.{AllZeroIs}
 use Rattle.rows.specs.Bits.{rowBit, OnlyIs}
 use Rattle.rows.proofs.SweepLaws.{rows-apart}
 use Rattle.rows.specs.Reduced.{pivotWord, Empty, Done}

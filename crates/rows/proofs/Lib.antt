@@ -1,5 +1,5 @@
 pub mod Order
-pub mod PartsLaws
+pub mod AllZeroLaws
 pub mod Digits
 pub mod BitsLaws
 pub mod SweepLaws

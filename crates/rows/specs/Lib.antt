@@ -1,4 +1,4 @@
-pub mod Parts
+pub mod AllZero
 pub mod Bits
 pub mod Sweep
 pub mod System

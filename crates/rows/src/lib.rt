@@ -11,7 +11,7 @@ ghost use lib.ListN.{length};
 ghost use Rattle.rows.specs.System.{Same};
 ghost use Rattle.rows.specs.Reduced.{Reduced};
 
-pub mod parts; // parts of a buffer: exclusive or, copy, all zero
+pub mod parts; // parts of a buffer: exclusive or, all zero
 pub mod bits; // unknowns of a row
 pub mod solution; // what is read off the reduced form
 mod sweep; // one row added to others

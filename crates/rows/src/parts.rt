@@ -3,7 +3,7 @@ ghost use mathlib.Core.Path.{_≡_};
 ghost use Prim.Native.Nat.{_+_, _≤_};
 ghost use lib.ListN.{length};
 ghost use Rattle.buffers.specs.Parts.{added, Apart};
-ghost use Rattle.rows.specs.Parts.{AllZeroIs};
+ghost use Rattle.rows.specs.AllZero.{AllZeroIs};
 
 // Exclusive or of the len words from index `from` into the len words from index `to`, which are apart.
 pub fn xor_words(rows: &mut [u64], from: usize, to: usize, len: usize)

@@ -4,8 +4,8 @@ use mathlib.Core.Path.{_≡_}
 use Prim.Native.Nat.{_-_, _≤_}
 use native.Mathlib.Omega.{arith}
 use lib.Dec.{eqb}
-use Rattle.rows.specs.Parts.{AllZeroIs}
-use Rattle.rows.proofs.PartsLaws.{all-more, all-done}
+use Rattle.rows.specs.AllZero.{AllZeroIs}
+use Rattle.rows.proofs.AllZeroLaws.{all-more, all-done}
 use Rattle.rows.proofs.parts.all_zero.Statement.{statement}
 use Rattle.rows.proofs.parts.all_zero.Tie as tie
 
