@@ -10,8 +10,8 @@
  * no call reads or writes anything but what it was lent: two threads may call at the same time on different buffers. lipvezor_close takes
  * about 16 KB of stack, every other call less than 1 KB.
  *
- * Numbers. Every call may be handed any numbers, bytes and lengths. What does not fit is refused: a refusal has a number from 1 on
- * (lipvezor_answer), the first that applies is answered, from the smallest number up, and a refused call has changed nothing that it was
+ * Numbers. Every call may be handed any numbers, bytes and lengths. What does not fit is refused: a refusal has a number from 1 on, the
+ * first that applies is answered, in the order in which lipvezor_answer lists them, and a refused call has changed nothing that it was
  * lent. This is proved, for all inputs, of the code in the archive's source, together with what each call answers and leaves in each
  * buffer: crates/boundary states it.
  *
@@ -53,14 +53,16 @@ enum lipvezor_answer {
     /* take: the symbol is kept */
     LIPVEZOR_KEPT = 0,
 
-    /* refusals */
+    /* refusals, in the order in which they are tried; extension, number and extension kind have one place in it: a unit's extensions are
+       read byte by byte, and the first byte that can't be accepted decides */
     LIPVEZOR_REFUSED_CODE = 1,        /* the code's number is neither 1 nor 2 */
     LIPVEZOR_REFUSED_WIDTH = 2,       /* W is 0 or above 1024 */
     LIPVEZOR_REFUSED_LABEL = 3,       /* LSC is 0 or above 65534, or the protocol ID is above 7 */
     LIPVEZOR_REFUSED_LENGTH = 4,      /* a block, work, information, parity or output buffer is not exactly its size */
     LIPVEZOR_REFUSED_HEADER = 5,      /* under 6 bytes, version not 1, reserved bit set, or extension count 0 */
-    LIPVEZOR_REFUSED_EXTENSION = 6,   /* bytes end early, type 0 or 255, SDNV too long or too large, two of type 1, or type 1 not four
-                                         numbers */
+    LIPVEZOR_REFUSED_EXTENSION = 6,   /* the unit's bytes end early: before a type, within a length, or before the end of a value */
+    LIPVEZOR_REFUSED_NUMBER = 19,     /* an SDNV too long, too large or not in its shortest form */
+    LIPVEZOR_REFUSED_EXTENSION_KIND = 20, /* type 0 or 255, a second type 1, or type 1 not exactly four numbers */
     LIPVEZOR_REFUSED_PARAMETERS = 7,  /* no type 1, or not the block's W, k, n and 0 */
     LIPVEZOR_REFUSED_FOREIGN = 8,     /* the unit's LSC or protocol ID is not the block's */
     LIPVEZOR_REFUSED_POSITION = 9,    /* LWC is 0 or above n */
@@ -162,7 +164,7 @@ enum lipvezor_value {
 /*
  * What a unit's bytes say by themselves, whatever block they are of. Take reads units too: a receiver needs this call only to see which
  * block a unit is of.
- * Answers LIPVEZOR_DONE, or a refusal: header, extension. A refusal leaves the values as they were.
+ * Answers LIPVEZOR_DONE, or a refusal: header; extension, number, extension kind. A refusal leaves the values as they were.
  */
 uint8_t lipvezor_read(const uint8_t *unit, size_t unit_length, size_t values[LIPVEZOR_ARRAY(10)]);
 

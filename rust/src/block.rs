@@ -156,7 +156,7 @@ impl<B: AsRef<[u8]> + AsMut<[u8]>> Block<B> {
 
     /// Takes one unit, without its CRC-32. Only a kept one changes the block; its symbol may take the place of a filled one.
     ///
-    /// Refusals: header, extension, parameters, foreign, position, symbol, conflict.
+    /// Refusals: header, extension, number, extension kind, parameters, foreign, position, symbol, conflict.
     pub fn take(&mut self, unit: &[u8]) -> Result<Taken, Refusal> {
         calls::take(self.code, self.w, self.protocol, self.lsc, self.symbols.as_mut(), self.marks.as_mut(), unit)
     }

@@ -204,7 +204,7 @@ pub fn write(code: Code, w: usize, protocol: usize, lsc: usize, lwc: usize, symb
 
 /// What a unit says by itself, whatever block it is of. Take reads units too: this call is for seeing which block a unit is of.
 ///
-/// Refusals: header, extension.
+/// Refusals: header; extension, number, extension kind, by the first byte that can't be accepted.
 #[inline]
 pub fn read(unit: &[u8]) -> Result<UnitParts, Refusal> {
     let mut v = [0; 10];

@@ -1,8 +1,9 @@
 //! Why a call is turned down.
 use std::fmt;
 
-/// Why a call was turned down; it has then changed nothing that it was lent. Where several apply, the one with the smallest number is
-/// answered.
+/// Why a call was turned down; it has then changed nothing that it was lent. Where several apply, the first in the order of
+/// [`Refusal::ALL`] is answered. The extensions of a unit are read byte by byte, and the first byte that can't be accepted decides
+/// between extension, number and extension kind.
 ///
 /// ```
 /// use lipvezor::{Block, Code, Refusal};
@@ -12,6 +13,20 @@ use std::fmt;
 /// assert_eq!(refusal.number(), 1);
 /// assert_eq!(refusal.to_string(), "refused 1, code: the number is neither 1 nor 2");
 /// assert_eq!(Refusal::from_number(13), None);
+/// ```
+///
+/// A number in a unit is read in its shortest form alone:
+///
+/// ```
+/// use lipvezor::{calls, Refusal};
+///
+/// // an extension of type 9 with one value byte, its length in one byte
+/// let unit = [0x10, 1, 0, 1, 0, 7, 9, 0x01, 0xAB, 0x55];
+/// assert_eq!(calls::read(&unit)?.symbol, 9);
+/// // a relay rewrote the length 01 as 80 01
+/// let rewritten = [0x10, 1, 0, 1, 0, 7, 9, 0x80, 0x01, 0xAB, 0x55];
+/// assert_eq!(calls::read(&rewritten), Err(Refusal::Number));
+/// # Ok::<(), Refusal>(())
 /// ```
 #[derive(Clone, Copy, Debug, PartialEq, Eq, PartialOrd, Ord, Hash)]
 #[non_exhaustive]
@@ -27,7 +42,7 @@ pub enum Refusal {
     Length = 4,
     /// A unit of under 6 bytes, of another version than 1, with the reserved bit set, or without extensions.
     Header = 5,
-    /// The bytes end early, type 0 or 255, an SDNV too long or too large, two of type 1, or type 1 not four numbers.
+    /// A unit's bytes end early: before an extension's type, within its length, or before the end of its value.
     Extension = 6,
     /// No type 1, or not the block's W, k, n and seed 0.
     Parameters = 7,
@@ -41,17 +56,23 @@ pub enum Refusal {
     Mark = 11,
     /// Heard there before with other bytes.
     Conflict = 12,
+    /// An SDNV in a unit's extensions that is too long, too large or not in its shortest form.
+    Number = 19,
+    /// An extension of type 0 or 255, a second one of type 1, or one of type 1 whose value isn't exactly four numbers.
+    ExtensionKind = 20,
 }
 
 impl Refusal {
-    /// All of them, from 1 up.
-    pub const ALL: [Refusal; 12] = [
+    /// All of them, in the order in which they are tried. Extension, number and extension kind share one place.
+    pub const ALL: [Refusal; 14] = [
         Refusal::Code,
         Refusal::Width,
         Refusal::Label,
         Refusal::Length,
         Refusal::Header,
         Refusal::Extension,
+        Refusal::Number,
+        Refusal::ExtensionKind,
         Refusal::Parameters,
         Refusal::Foreign,
         Refusal::Position,
@@ -65,7 +86,7 @@ impl Refusal {
         self as u8
     }
 
-    /// The refusal of a number, from 1 to 12.
+    /// The refusal of a number: 1 to 12, 19 or 20.
     pub fn from_number(number: u8) -> Option<Refusal> {
         Refusal::ALL.into_iter().find(|r| r.number() == number)
     }
@@ -79,13 +100,15 @@ impl fmt::Display for Refusal {
             Refusal::Label => "label: LSC is 0 or above 65534, or the protocol ID is above 7",
             Refusal::Length => "length: a buffer isn't exactly its size",
             Refusal::Header => "header: under 6 bytes, version not 1, reserved bit set, or no extensions",
-            Refusal::Extension => "extension: not readable",
+            Refusal::Extension => "extension: the unit's bytes end early",
             Refusal::Parameters => "parameters: not the block's W, k, n and seed 0",
             Refusal::Foreign => "foreign: the unit's LSC or protocol ID isn't the block's",
             Refusal::Position => "position: LWC is 0 or above n",
             Refusal::Symbol => "symbol: not W bytes",
             Refusal::Mark => "mark: above 2",
             Refusal::Conflict => "conflict: heard there before with other bytes",
+            Refusal::Number => "number: an SDNV too long, too large or not in its shortest form",
+            Refusal::ExtensionKind => "extension kind: type 0 or 255, a second type 1, or type 1 not exactly four numbers",
         };
         write!(f, "refused {}, {}", self.number(), why)
     }

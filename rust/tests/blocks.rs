@@ -22,7 +22,7 @@ fn lists_of_calls_agree_with_the_model() {
     stats += c2;
     println!(
         "compared {} blocks, {} calls, C1 {c1_blocks} and C2 {c2_blocks} blocks; kept {}, repeated {}, whole {}, ambiguous {}, inconsistent {}, \
-         refused 4 to 12 {:?}; seed {}, {:.0} s",
+         refused {:?}; seed {}, {:.0} s",
         stats.blocks,
         stats.calls,
         stats.kept,
@@ -30,7 +30,7 @@ fn lists_of_calls_agree_with_the_model() {
         stats.whole,
         stats.ambiguous,
         stats.inconsistent,
-        &stats.refused[4..],
+        stats.refusals(),
         compare::seed(),
         start.elapsed().as_secs_f64()
     );

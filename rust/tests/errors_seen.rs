@@ -1,9 +1,10 @@
-//! Each error seen elsewhere, put into the model, is found by the comparisons; without one they find nothing.
+//! Each error seen elsewhere and each wrong reading of extensions, put into the model, is found by the comparisons; without one they find
+//! nothing.
 mod compare;
 mod model;
 
 use compare::random::Random;
-use compare::{encode, suite, units, Difference, Stats};
+use compare::{all_strings, encode, suite, unit_forms, units, Difference, Stats};
 use model::{codes, Fault};
 use std::thread;
 
@@ -14,6 +15,7 @@ struct Comparison {
     finds: &'static [Fault],
 }
 
+/// For the errors seen.
 static COMPARISONS: [Comparison; 8] = [
     Comparison { name: "blocks of C1", run: |fault| suite::chosen_blocks(&codes::C1, fault, 1), finds: &Fault::SEEN },
     Comparison { name: "blocks of C2", run: |fault| suite::chosen_blocks(&codes::C2, fault, 1), finds: &Fault::SEEN },
@@ -49,14 +51,54 @@ static COMPARISONS: [Comparison; 8] = [
     },
 ];
 
+/// For the wrong readings.
+static READINGS: [Comparison; 6] = [
+    Comparison {
+        name: "altered units",
+        run: |fault| unit_forms::altered(fault, &mut random()),
+        finds: &[
+            Fault::LeadingZerosRead,
+            Fault::ZeroInsideRefused,
+            Fault::TooLongSaid6,
+            Fault::CutByValueSaid6,
+            Fault::SecondType1Read,
+            Fault::FifthNumberRead,
+        ],
+    },
+    Comparison {
+        name: "forms of numbers",
+        run: |fault| unit_forms::numbers(fault, &mut random()),
+        finds: &[Fault::LeadingZerosRead, Fault::ZeroInsideRefused, Fault::TooLongSaid6, Fault::CutAfterFourSaid19, Fault::CutByValueSaid6],
+    },
+    Comparison {
+        name: "forms of coding parameters",
+        run: |fault| unit_forms::values(fault, &mut random()),
+        finds: &[Fault::LeadingZerosRead, Fault::CutByValueSaid6],
+    },
+    Comparison { name: "random units", run: |fault| unit_forms::random_units(20_000, fault, &mut random()), finds: &Fault::MISREAD },
+    Comparison {
+        name: "edge bytes as coding parameters",
+        run: all_strings::coding_values,
+        finds: &[
+            Fault::LeadingZerosRead,
+            Fault::ZeroInsideRefused,
+            Fault::TooLongSaid6,
+            Fault::CutAfterFourSaid19,
+            Fault::CutByValueSaid6,
+            Fault::FifthNumberRead,
+        ],
+    },
+    Comparison { name: "edge bytes as lengths", run: all_strings::lengths, finds: &Fault::MISREAD },
+];
+
 fn random() -> Random {
     Random::new(1)
 }
 
 /// Every comparison finds the fault if it should, and only then.
-fn check(fault: Fault) {
+fn check(comparisons: &'static [Comparison], fault: Fault) {
     thread::scope(|scope| {
-        for comparison in &COMPARISONS {
+        for comparison in comparisons {
             scope.spawn(move || match ((comparison.run)(fault), comparison.finds.contains(&fault)) {
                 (Err(difference), true) => println!("{fault:?} is found in {}: {}", comparison.name, shortened(&difference)),
                 (Ok(_), false) => {}
@@ -73,30 +115,66 @@ fn shortened(difference: &Difference) -> String {
 
 #[test]
 fn no_fault() {
-    check(Fault::None);
+    check(&COMPARISONS, Fault::None);
+    check(&READINGS, Fault::None);
 }
 
 #[test]
 fn gives_up_above_m() {
-    check(Fault::GivesUpAboveM);
+    check(&COMPARISONS, Fault::GivesUpAboveM);
 }
 
 #[test]
 fn undetermined_at_zero_said_whole() {
-    check(Fault::ZeroSaidWhole);
+    check(&COMPARISONS, Fault::ZeroSaidWhole);
 }
 
 #[test]
 fn ambiguous_where_an_equation_fails() {
-    check(Fault::AmbiguousFirst);
+    check(&COMPARISONS, Fault::AmbiguousFirst);
 }
 
 #[test]
 fn row_0_joined_to_the_last_parity_symbol() {
-    check(Fault::Row0JoinedToLast);
+    check(&COMPARISONS, Fault::Row0JoinedToLast);
 }
 
 #[test]
 fn lwc_k_as_parity() {
-    check(Fault::LwcKAsParity);
+    check(&COMPARISONS, Fault::LwcKAsParity);
+}
+
+#[test]
+fn leading_zeros_read() {
+    check(&READINGS, Fault::LeadingZerosRead);
+}
+
+#[test]
+fn zero_inside_a_number_refused() {
+    check(&READINGS, Fault::ZeroInsideRefused);
+}
+
+#[test]
+fn too_long_said_6() {
+    check(&READINGS, Fault::TooLongSaid6);
+}
+
+#[test]
+fn cut_off_after_four_bytes_said_19() {
+    check(&READINGS, Fault::CutAfterFourSaid19);
+}
+
+#[test]
+fn cut_off_by_the_value_said_6() {
+    check(&READINGS, Fault::CutByValueSaid6);
+}
+
+#[test]
+fn second_type_1_read() {
+    check(&READINGS, Fault::SecondType1Read);
+}
+
+#[test]
+fn fifth_number_read() {
+    check(&READINGS, Fault::FifthNumberRead);
 }

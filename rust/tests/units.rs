@@ -2,13 +2,27 @@
 mod compare;
 mod model;
 
-use compare::{unit_forms, units, Difference, Stats};
+use compare::{all_strings, unit_forms, units, Difference, Stats};
 use lipvezor::{calls, Code, Parameters, Refusal};
-use model::{codes, Fault};
+use model::{byte_reader, codes, Fault};
 
-fn report(name: &str, result: Result<Stats, Difference>) {
+fn report(name: &str, result: Result<Stats, Difference>) -> Stats {
     let stats = result.unwrap();
-    println!("{name}: compared {} units, {} shown symbols; refused 5 to 12 {:?}", stats.units, stats.shown, &stats.refused[5..]);
+    println!(
+        "{name}: compared {} units, {} shown symbols; readable {}, kept {}, refused {:?}",
+        stats.units,
+        stats.shown,
+        stats.readable,
+        stats.kept,
+        stats.refusals()
+    );
+    stats
+}
+
+/// That each of these refusals came often, and readable units did.
+fn assert_came(stats: &Stats, numbers: &[usize]) {
+    assert!(stats.readable >= 1000, "{stats:?}");
+    assert!(numbers.iter().all(|&number| stats.refused[number] >= 1000), "{stats:?}");
 }
 
 #[test]
@@ -29,7 +43,8 @@ fn shown_symbols() {
 
 #[test]
 fn altered_and_cut_units() {
-    report("altered", unit_forms::altered(Fault::None, &mut compare::seeded()));
+    let stats = report("altered", unit_forms::altered(Fault::None, &mut compare::seeded()));
+    assert_came(&stats, &[5, 6, 7, 8, 9, 19, 20]);
 }
 
 #[test]
@@ -48,8 +63,188 @@ fn extension_counts() {
 }
 
 #[test]
-fn random_extension_lists() {
-    report("random", unit_forms::random_units(60_000, Fault::None, &mut compare::seeded()));
+fn random_units() {
+    let stats = report("random", unit_forms::random_units(75_000, Fault::None, &mut compare::seeded()));
+    assert_came(&stats, &[5, 6, 7, 19, 20]);
+    assert!(stats.kept >= 1000);
+}
+
+#[test]
+fn bytes_that_decide() {
+    let stats = report("deciding", unit_forms::deciding_bytes(200_000, &mut compare::seeded()));
+    assert_came(&stats, &[5, 6, 19, 20]);
+}
+
+#[test]
+fn all_short_units() {
+    let stats = report("short", all_strings::short_units(Fault::None));
+    assert_came(&stats, &[6, 19, 20]);
+}
+
+#[test]
+fn all_edge_bytes_as_coding_parameters() {
+    let stats = report("edge values", all_strings::coding_values(Fault::None));
+    assert_came(&stats, &[6, 7, 19, 20]);
+}
+
+#[test]
+fn all_edge_bytes_as_lengths() {
+    let stats = report("edge lengths", all_strings::lengths(Fault::None));
+    assert_came(&stats, &[6, 7, 19, 20]);
+}
+
+/// Values of lengths about the borders of one to five bytes, all there and one byte short.
+#[test]
+fn long_values() {
+    for border in [1 << 7, 1 << 14, 1 << 21, 1 << 28] {
+        for length in [border - 1, border] {
+            let start = [&[0x10, 1, 0, 1, 0, 1, 2][..], &model::units::sdnv(length)].concat();
+            let mut unit = vec![0; start.len() + length];
+            unit[..start.len()].copy_from_slice(&start);
+            for (unit, symbol) in [(&unit[..], Ok(unit.len())), (&unit[..unit.len() - 1], Err(6))] {
+                let answers = [calls::read(unit).map_err(Refusal::number), model::units::read(unit, Fault::None), byte_reader::read(unit)];
+                assert_eq!(answers.map(|answer| answer.map(|parts| parts.symbol)), [symbol; 3], "length {length}");
+            }
+        }
+    }
+}
+
+/// What follows the header of a unit, and the number that it is refused with; 0 if it is read.
+struct Row {
+    count: u8,
+    bytes: &'static str,
+    number: u8,
+    why: &'static str,
+}
+
+const fn row(count: u8, bytes: &'static str, number: u8, why: &'static str) -> Row {
+    Row { count, bytes, number, why }
+}
+
+/// No byte is left in the unit.
+const UNIT_ENDS: &[Row] = &[
+    row(1, "", 6, "no type"),
+    row(1, "01", 6, "no length of type 1"),
+    row(1, "02", 6, "no length of type 2"),
+    row(1, "02 81", 6, "a length cut off after one byte"),
+    row(1, "02 8F FF FF FF", 6, "a length cut off after four bytes"),
+    row(1, "02 90 80 80 80", 6, "a length cut off after four bytes, too large with any fifth"),
+    row(1, "01 90 80 80 80", 6, "the length of type 1 cut off after four bytes, too large with any fifth"),
+    row(2, "02 00", 6, "no second type after an empty value"),
+    row(2, "02 01 AA", 6, "no second type after a value"),
+    row(2, "01 04 03 03 03 00", 6, "no second type after type 1"),
+    row(255, "02 00 02 00 02 00", 6, "no fourth type"),
+];
+
+/// The type byte.
+const TYPES: &[Row] = &[
+    row(1, "00", 20, "type 0 as the last byte"),
+    row(1, "FF", 20, "type 255 as the last byte"),
+    row(1, "00 80", 20, "type 0 before a padded length"),
+    row(1, "FF 05", 20, "type 255 before a length past the unit"),
+    row(1, "02 00", 0, "type 2"),
+    row(1, "FE 00", 0, "type 254"),
+    row(2, "02 00 00", 20, "type 0, second"),
+    row(2, "02 00 FF 00", 20, "type 255, second"),
+    row(2, "02 00 02 00", 0, "type 2 twice"),
+    row(2, "01 04 03 03 03 00 01", 20, "a second type 1 as the last byte"),
+    row(2, "01 04 03 03 03 00 01 80", 20, "a second type 1 before a padded length"),
+    row(2, "01 04 03 03 03 00 01 05", 20, "a second type 1 before a length past the unit"),
+    row(2, "01 04 03 03 03 00 01 04 03 03 03 00", 20, "a second type 1 that is as it should be"),
+    row(3, "01 04 03 03 03 00 02 00 01", 20, "a second type 1 after another type"),
+    row(2, "01 04 03 03 03 00 02 00", 0, "type 1 and another type"),
+    row(2, "01 01 80 01", 19, "a number of the first type 1 before the second"),
+];
+
+/// The first byte of a number.
+const FIRST_BYTES: &[Row] = &[
+    row(1, "02 80", 19, "a leading 80 as the last byte"),
+    row(1, "02 80 00", 19, "length 0 padded"),
+    row(1, "02 80 01 AA", 19, "length 1 padded"),
+    row(1, "01 80 04 03 03 03 00", 19, "length of type 1 padded"),
+    row(2, "02 00 02 80 00", 19, "length 0 of the second extension padded"),
+    row(1, "01 01 80", 19, "a leading 80 as the last byte of the value and the unit"),
+    row(1, "01 01 80 01", 19, "a leading 80 as the last byte of the value"),
+    row(1, "01 05 80 03 03 03 00", 19, "W padded"),
+    row(1, "01 05 03 80 03 03 00", 19, "k padded"),
+    row(1, "01 05 03 03 80 03 00", 19, "n padded"),
+    row(1, "01 05 03 03 03 80 00", 19, "seed padded"),
+    row(1, "01 04 03 03 03 80", 19, "a leading 80 where the seed ends the value"),
+    row(1, "01 04 00 00 00 00", 0, "0 in its one form"),
+    row(1, "01 06 81 80 00 03 03 00", 0, "80 inside a number"),
+    row(1, "01 08 03 03 03 81 80 80 80 00", 0, "80 at all three places inside a number"),
+    row(1, "02 81 80 00", 6, "80 inside a length, past the unit"),
+];
+
+/// The fifth byte of a number.
+const FIFTH_BYTES: &[Row] = &[
+    row(1, "02 8F FF FF FF 7F", 6, "length 4294967295, past the unit"),
+    row(1, "02 90 80 80 80 00", 19, "length 4294967296"),
+    row(1, "02 FF FF FF FF 7F", 19, "the largest length of five bytes"),
+    row(1, "02 81 80 80 80 00", 6, "the smallest length of five bytes, past the unit"),
+    row(1, "02 81 80 80 80 80", 19, "a length of more than five bytes, cut off after them"),
+    row(1, "02 81 80 80 80 80 00", 19, "a length of six bytes"),
+    row(1, "02 8F FF FF FF FF 7F", 19, "a length of six bytes"),
+    row(1, "01 08 8F FF FF FF 7F 03 03 00", 0, "W 4294967295"),
+    row(1, "01 08 90 80 80 80 00 03 03 00", 19, "W 4294967296"),
+    row(1, "01 08 03 03 03 8F FF FF FF 7F", 0, "seed 4294967295"),
+    row(1, "01 08 03 03 03 90 80 80 80 00", 19, "seed 4294967296"),
+    row(1, "01 08 03 03 03 81 80 80 80 80", 19, "a seed of more than five bytes, cut off after them"),
+    row(1, "01 09 03 03 03 81 80 80 80 80 00", 19, "a seed of six bytes"),
+    row(1, "01 07 03 03 03 90 80 80 80", 20, "a seed cut off after four bytes"),
+    row(1, "01 07 03 03 03 90 80 80 80 00", 20, "a seed cut off after four bytes, the fifth after the value"),
+    row(1, "01 04 FF FF FF FF", 20, "W cut off after four bytes"),
+];
+
+/// The last byte of a length.
+const LENGTHS: &[Row] = &[
+    row(1, "01 05 80", 6, "past the unit, before a leading 80"),
+    row(1, "01 05", 6, "past the unit by all of the value"),
+    row(1, "01 05 03 03 03 00", 6, "past the unit by one byte, before the value's end is seen"),
+    row(1, "01 06 03 03 03 00 80", 6, "past the unit by one byte, before a fifth number"),
+    row(1, "02 01", 6, "past the unit in type 2"),
+    row(1, "02 03 80 80", 6, "past the unit by one byte in type 2"),
+    row(1, "02 02 80 80", 0, "up to the unit's end"),
+    row(1, "02 01 80 80", 0, "up to the symbol"),
+    row(1, "02 04 80 FF 00 90", 0, "a value that is passed over"),
+    row(1, "01 04 03 03 03 00", 0, "type 1 up to the unit's end"),
+    row(1, "01 04 03 03 03 00 80", 0, "type 1 up to the symbol"),
+];
+
+/// The end of type 1's value.
+const VALUE_ENDS: &[Row] = &[
+    row(1, "01 00", 20, "an empty value at the unit's end"),
+    row(1, "01 00 03 03 03 00", 20, "an empty value"),
+    row(2, "01 00", 20, "an empty value before a missing type"),
+    row(1, "01 01 03", 20, "one number"),
+    row(1, "01 03 03 03 03", 20, "three numbers at the unit's end"),
+    row(1, "01 03 03 03 03 00", 20, "three numbers, the fourth after the value"),
+    row(1, "01 04 03 03 03 81", 20, "an unfinished number at the unit's end"),
+    row(1, "01 04 03 03 03 81 00", 20, "an unfinished number, its end after the value"),
+    row(1, "01 01 81", 20, "an unfinished W"),
+];
+
+/// A byte after the fourth number.
+const FIFTH_NUMBERS: &[Row] = &[
+    row(1, "01 05 03 03 03 00 00", 20, "a fifth number"),
+    row(1, "01 05 03 03 03 00 80", 20, "a leading 80"),
+    row(1, "01 06 03 03 03 00 80 00", 20, "a padded fifth number"),
+    row(1, "01 05 03 03 03 00 81", 20, "an unfinished fifth number"),
+    row(1, "01 0A 03 03 03 00 90 80 80 80 80 00", 20, "a fifth number of six bytes"),
+];
+
+/// The header comes before the extensions.
+const NO_EXTENSIONS: &[Row] = &[row(0, "", 5, "count 0"), row(0, "00 80", 5, "count 0 before a type 0")];
+
+#[test]
+fn first_byte_that_cannot_be_accepted() {
+    let tables = [UNIT_ENDS, TYPES, FIRST_BYTES, FIFTH_BYTES, LENGTHS, VALUE_ENDS, FIFTH_NUMBERS, NO_EXTENSIONS];
+    for Row { count, bytes, number, why } in tables.into_iter().flatten() {
+        let bytes = bytes.split_whitespace().map(|byte| u8::from_str_radix(byte, 16).unwrap());
+        let unit: Vec<u8> = [0x10, *count, 0, 1, 0, 1].into_iter().chain(bytes).collect();
+        let answer = units::read(&unit, Fault::None).unwrap();
+        assert_eq!(answer.err().unwrap_or(0), *number, "{unit:02X?}: {why}");
+    }
 }
 
 /// The sample SDNVs of the requirements, as the seed of a unit.
@@ -65,8 +260,10 @@ fn sample_sdnvs() {
     assert_eq!(read_seed(&[0x81, 0x00]), seed(128));
     assert_eq!(read_seed(&[0x86, 0x00]), seed(768));
     assert_eq!(read_seed(&[0x8F, 0xFF, 0xFF, 0xFF, 0x7F]), seed(4_294_967_295));
-    assert_eq!(read_seed(&[0x90, 0x80, 0x80, 0x80, 0x00]), Err(Refusal::Extension));
-    assert_eq!(read_seed(&[0x80, 0x01]), seed(1));
+    assert_eq!(read_seed(&[0x81, 0x80, 0x00]), seed(16_384));
+    assert_eq!(read_seed(&[0x90, 0x80, 0x80, 0x80, 0x00]), Err(Refusal::Number));
+    assert_eq!(read_seed(&[0x90, 0x80, 0x80, 0x80]), Err(Refusal::ExtensionKind));
+    assert_eq!(read_seed(&[0x80, 0x01]), Err(Refusal::Number));
 }
 
 #[test]

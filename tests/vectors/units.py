@@ -1,5 +1,5 @@
-"""Makes the vectors that the program unit_vectors reads and the lines that it must print. Written from document 01 alone ("The unit",
-"Why a call is turned down", "Sending"); it shares no code with the repository.
+"""Makes the vectors that the program unit_vectors reads and the lines that it must print. Written from document 01 ("The unit",
+"Why a call is turned down", "Sending") and request 6 alone; it shares no code with the repository.
 Run: python3 tests/vectors/units.py crates/unit_vectors/stdin crates/unit_vectors/stdout"""
 import sys
 
@@ -19,18 +19,16 @@ def sdnv(v):
     return bytes(int(("1" if i + 1 < len(groups) else "0") + g, 2) for i, g in enumerate(groups))
 
 
-def take_sdnv(data):
-    """The number that data begins with, and the rest."""
+def take_sdnv(data, cut):
+    """The number that data begins with, and the rest; `cut` is the refusal where the bytes end early."""
     bits = ""
     for count, byte in enumerate(data, 1):
-        if count > 5:
-            raise Refused(6)
         bits += f"{byte:08b}"[1:]
+        if count == 1 and byte == 0x80 or count == 5 and (byte > 127 or int(bits, 2) > 4294967295):
+            raise Refused(19)
         if byte < 128:
-            if int(bits, 2) > 4294967295:
-                raise Refused(6)
             return int(bits, 2), data[count:]
-    raise Refused(6)
+    raise Refused(cut)
 
 
 # ---- the reader: what is left of the unit is cut off from the front
@@ -43,20 +41,22 @@ def read_unit(unit):
         raise Refused(5)
     rest, coding = unit[6:], []
     for _ in range(unit[1]):
-        if not rest or rest[0] in (0, 255):
+        if not rest:
             raise Refused(6)
         kind = rest[0]
-        size, rest = take_sdnv(rest[1:])
+        if kind in (0, 255) or kind == 1 and coding:
+            raise Refused(20)
+        size, rest = take_sdnv(rest[1:], 6)
         if size > len(rest):
             raise Refused(6)
         value, rest = rest[:size], rest[size:]
         if kind == 1:
             numbers = []
             for _ in range(4):
-                number, value = take_sdnv(value)
+                number, value = take_sdnv(value, 20)
                 numbers.append(number)
-            if value or coding:
-                raise Refused(6)
+            if value:
+                raise Refused(20)
             coding = numbers
     said = " W {} k {} n {} seed {}".format(*coding) if coding else " no type 1"
     return (f"protocol {int(head[4:7], 2)} count {unit[1]} LWC {int.from_bytes(unit[2:4], 'big')}"
@@ -225,6 +225,20 @@ with_extensions(b"\x01\x80\x80\x80\x80\x06" + CODING[2:])
 with_extensions(b"\x01\x05" + CODING[2:])
 with_extensions(b"\x01\x07" + CODING[2:])
 with_extensions(CODING, symbol=b"")
+# which byte decides: an extension count, and all bytes after the header
+SECOND = CODING.hex()
+for count, rest in (
+        (1, ""), (1, "00"), (1, "FF"), (1, "01"), (2, "09 00"), (2, "09 00 00"), (2, "09 00 FF"),              # a type
+        (2, SECOND), (2, SECOND + "01"), (2, SECOND + "01 80"), (2, SECOND + "00"), (2, SECOND + "02"),        # a second one
+        (1, "09 80"), (1, "01 80"), (1, "01 01 80"), (1, "01 04 05 05 05 80"), (1, "01 03 80 00 00"),          # a leading 80
+        (1, "09 81 80 00"), (1, "01 06 05 05 05 81 80 00"), (1, "09 81 80"), (1, "01 05 05 05 05 81 80"),      # one inside
+        (1, "09 90 80 80 80"), (1, "09 90 80 80 80 00"), (1, "09 8F FF FF FF 7F"), (1, "09 FF FF FF FF"),      # a fifth byte
+        (1, "09 FF FF FF FF FF"), (1, "09 8F FF FF FF FF"), (1, "01 07 05 05 05 90 80 80 80"),
+        (1, "01 08 05 05 05 90 80 80 80 00"), (1, "01 08 05 05 05 FF FF FF FF FF"), (1, "01 08 05 05 05 8F FF FF FF 7F"),
+        (1, "01 05 80"), (1, "01 03 80 80"), (1, "01 02 FF"), (1, "09 01"), (1, "09 01 00"), (1, "09 00"),     # a length past the unit
+        (1, "01 00"), (1, "01 01 85"), (1, "01 03 05 05 05"), (1, "01 04 05 05 05 85"), (1, "01 04 05 05 05 05"),  # a value's end
+        (1, "01 05 05 05 05 05 80"), (1, "01 06 05 05 05 05 80 01"), (1, "01 05 05 05 05 05 05"), (1, "01 05 05 05 05 05 85")):  # after the fourth
+    reads(bytes([0x12, count, 0, 1, 0, 7]) + bytes.fromhex(rest.replace(" ", "")))
 # the sample with one byte or two changed
 state = 1
 

@@ -41,7 +41,7 @@ pub record Placed : Type 0 where
   pub position : ℕ
   pub symbol : List ℕ
 
--- 5 or 6 from the unit reader, 7 to 10; else the position is LWC - 1 and the symbol the last W bytes
+-- 5, 6, 19 or 20 from the unit reader, 7 to 10; else the position is LWC - 1 and the symbol the last W bytes
 unfoldable pub admission : Block → List ℕ → Outcome Placed
 admission b unit =
     readUnit unit ⟫ λ p.

@@ -9,6 +9,7 @@ pub mod CheckRows
 pub mod EncodeRefusal
 pub mod Claims
 pub mod Samples
+pub mod PartLaws
 pub mod SdnvLaws
 pub mod SdnvRound
 pub mod ReaderLaws
@@ -16,3 +17,6 @@ pub mod PutLaws
 pub mod UnitLaws
 pub mod ShowLaws
 pub mod UnitClaims
+pub mod CanonicalUnit
+pub mod FirstByte
+pub mod EndsEarly

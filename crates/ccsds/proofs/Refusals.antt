@@ -9,7 +9,7 @@ use native.Mathlib.Omega.{arith}
 use lib.Dec.{eqb, ltb}
 use borrow.Author.Tests.{not-false, eq-eqb, ne-eqb, eqb-true, eqb-false, ltb-false, lt-ltb, le-ltb}
 use Rattle.ccsds.specs.Tables.{isCode, Known}
-use Rattle.ccsds.specs.Refusals.{firstOf, wrongCode, wrongWidth, wrongLabel, wrongLength, wrongPosition, wrongSymbol, refused, answered, outcome, afterwards, bytesOf}
+use Rattle.ccsds.specs.Refusals.{firstOf, wrongCode, wrongWidth, wrongLabel, wrongLength, wrongPosition, wrongSymbol, Outcome, refused, answered, _⟫_, refuseIf, outcome, afterwards, bytesOf}
 
 -- ---- the conditions
 
@@ -143,3 +143,19 @@ module _ (r n : ℕ) (e : r ≡ n) where
 
     pub changed-by : (new old : List ℕ) → new ≡ afterwards n new old
     changed-by new old = sym (ap (λ (m : ℕ). afterwards m new old) not-refused)
+
+-- ---- what an answer says of the steps before it
+
+pub the-answer : {A : Type 0} {a b : A} → answered a ≡ answered b → a ≡ b
+the-answer e = cc
+
+pub never : {A : Type 0} {n : ℕ} {a : A} → refused n ≡ answered a → ⊥
+never e = let z : _≡_ {A = ℕ} 0 1 = cc in omega arith
+
+pub of-steps : {A B : Type 0} (r : Outcome A) (f : A → Outcome B) {b : B} → r ⟫ f ≡ answered b → (a : A) × (r ≡ answered a) × (f a ≡ answered b)
+of-steps (refused n) f e = absurd (never e)
+of-steps (answered a) f e = (a, refl, e)
+
+pub of-test : {A : Type 0} (t : Bool) (n : ℕ) (r : Outcome A) {a : A} → refuseIf t n r ≡ answered a → (t ≡ false) × (r ≡ answered a)
+of-test true n r e = absurd (never e)
+of-test false n r e = (refl, e)

@@ -8,14 +8,14 @@ use Prim.Native.Nat.{ℕ, suc, _+_, _-_, _<_, _≤_}
 use native.Mathlib.Decide.{decLt}
 use native.Mathlib.Omega.{arith}
 use lib.Dec.{T, ltb, ltb→lt}
-use Rattle.algebra.specs.Sums.{pick, sum}
+use Rattle.algebra.specs.Sums.{pick}
 use Rattle.algebra.specs.Codeword.{byteAt, codeword}
 use Rattle.algebra.proofs.Sums.{odd, sum-tests, sum-terms, sum-pick, sum-alone}
 use Rattle.algebra.proofs.Staircase.{codeword-parity, parity-odd}
 use Rattle.ccsds.specs.Codes.{Params, rowOf, place, touches, checksOf}
 use Rattle.ccsds.specs.Tables.{codeOf, codeIn, codes, isCode, numberIn, c1, c2, rows1, rows2}
 use Rattle.ccsds.specs.Samples.{CodeSample, CodeHolds, inRuns, SdnvHolds, Sample, ofCode, ofSdnv, Each, samples}
-use Rattle.ccsds.specs.Sdnv.{sdnvFrom, numberAt, group, sdnvBytes}
+use Rattle.ccsds.specs.Sdnv.{sdnvFrom, group, sdnvBytes}
 use Rattle.ccsds.proofs.Table.{both-left, both-right, upTo as each, between}
 use Rattle.ccsds.proofs.Valid.{Valid, valid-of, upTo, touches-odd}
 
@@ -99,9 +99,9 @@ enough (ofCode s ∷ ss) t = (code-holds s (t .0), enough ss (t .1))
 enough (ofSdnv s ∷ ss) t = (t .0, enough ss (t .1))
 
 pub all : Each samples
-unfolding samples codeOf codeIn codes isCode numberIn c1 c2 rows1 rows2 rowOf place upTo inRuns xor numberAt sdnvFrom sdnvBytes group
+unfolding samples codeOf codeIn codes isCode numberIn c1 c2 rows1 rows2 rowOf place upTo inRuns xor sdnvFrom sdnvBytes group
 all =
-    enough samples (tt, (tt, (tt, (tt, (tt, ((refl, refl), ((refl, refl), ((refl, refl), ((refl, refl), ((refl, tt), ((refl, refl), tt)))))))))))
+    enough samples (tt, (tt, (tt, (tt, (tt, ((refl, refl), ((refl, refl), ((refl, refl), ((refl, refl), ((refl, tt), ((refl, tt), tt)))))))))))
 
 -- A code sample with one symbol, in the paper's words: in a codeword whose information symbols are zero but for u_x = v, byte by byte,
 -- parity symbol j is v where a run has j, and zero where none has.

@@ -1,20 +1,21 @@
--- What is written as an SDNV is read back, wherever it stands, and no shorter bytes are read as the same number.
+-- What is written as an SDNV is read back, wherever it stands, and no other bytes are read as the same number.
 -- Assumes nothing.
-use mathlib.Core.Path.{_≡_, _∙_, ap, refl}
+use mathlib.Core.Path.{_≡_, _∙_, sym, ap, refl, subst}
 use mathlib.Core.Bool.{Bool, true, false, cond}
 use mathlib.Core.List.{List, [], _∷_, _++_, append-assoc}
 use Prim.Native.Nat.{ℕ, zero, suc, _+_, _-_, _*_, _/_, _%_, _^_, _≤_, _<_}
 use native.Mathlib.Omega.{arith}
 use lib.Dec.{eqb}
 use lib.ListN.{length, getD, length-append}
-use lib.Seq.{getD-at}
-use borrow.Author.Tests.{eqb-true, eq-eqb, ne-eqb, le-ltb}
-use Rattle.ccsds.specs.Refusals.{answered}
-use Rattle.ccsds.specs.Sdnv.{sdnvFrom, numberAt, group, sdnvBytes}
-use Rattle.ccsds.specs.UnitClaims.{ReadsBack, Shortest}
-use Rattle.ccsds.proofs.SdnvLaws.{last-byte, goes-on, is-fine}
+use lib.Seq.{getD-at, append-snoc}
+use borrow.Author.Tests.{eqb-true, eqb-false, eq-eqb, ne-eqb}
+use Rattle.ccsds.specs.Sdnv.{Reading, finished, unfinished, wrong, longer, sdnvFrom, group, sdnvBytes}
+use Rattle.ccsds.specs.Reader.{part}
+use Rattle.ccsds.specs.UnitClaims.{ReadsBack, OfBytes, OneForm, Shortest}
+use Rattle.ccsds.proofs.PartLaws.{part-length, part-cons}
+use Rattle.ccsds.proofs.SdnvLaws.{last-byte, goes-on, not-zero, grows, small, by-byte, Within, within, is-fine}
 
--- ---- lengths
+-- ---- groups and lengths
 
 few-by : (b : Bool) (x : ℕ) → length (cond b [] (x ∷ [])) ≤ 1
 few-by true x = omega arith
@@ -24,18 +25,24 @@ few : (h : ℕ) → length (group h) ≤ 1
 unfolding group
 few h = few-by (eqb h 0) (128 + h % 128)
 
-none : (h : ℕ) → h ≡ 0 → length (group h) ≡ 0
+nothing : (h : ℕ) → h ≡ 0 → group h ≡ []
 unfolding group
-none h z = rw (eq-eqb _ _ z)
+nothing h z = rw (eq-eqb _ _ z)
+
+alone : (h : ℕ) → (h ≡ 0 → ⊥) → group h ≡ (128 + h % 128) ∷ []
+unfolding group
+alone h z = rw (ne-eqb _ _ z)
+
+none : (h : ℕ) → h ≡ 0 → length (group h) ≡ 0
+none h z = ap length (nothing h z)
+
+one : (h : ℕ) → (h ≡ 0 → ⊥) → length (group h) ≡ 1
+one h z = ap length (alone h z)
 
 pub bytes-length : (v : ℕ) → length (sdnvBytes v)
     ≡ length (group (v / 268435456)) + length (group (v / 2097152)) + length (group (v / 16384)) + length (group (v / 128)) + 1
 unfolding sdnvBytes
 bytes-length v = simp length-append
-
-one : (h : ℕ) → (h ≡ 0 → ⊥) → length (group h) ≡ 1
-unfolding group
-one h z = rw (ne-eqb _ _ z)
 
 -- the length, by how large the number is
 pub length-one : (v : ℕ) → v < 128 → 1 ≡ length (sdnvBytes v)
@@ -61,27 +68,6 @@ length-five v l =
 pub most-five : (v : ℕ) → length (sdnvBytes v) ≤ 5
 most-five v = omega (arith, bytes-length v, few (v / 268435456), few (v / 2097152), few (v / 16384), few (v / 128))
 
--- j bytes are enough for a number below 2 ^ (7 * j)
-enough : (v j : ℕ) → 0 < j → v < 2 ^ (7 * j) → length (sdnvBytes v) ≤ j
-enough v zero h k = absurd (omega arith)
-enough v (suc zero) h k =
-    omega (arith, bytes-length v, none (v / 268435456) (omega arith), none (v / 2097152) (omega arith), none (v / 16384) (omega arith), none (v / 128) (omega arith))
-enough v (suc (suc zero)) h k =
-    omega (arith, bytes-length v, none (v / 268435456) (omega arith), none (v / 2097152) (omega arith), none (v / 16384) (omega arith), few (v / 128))
-enough v (suc (suc (suc zero))) h k =
-    omega (arith, bytes-length v, none (v / 268435456) (omega arith), none (v / 2097152) (omega arith), few (v / 16384), few (v / 128))
-enough v (suc (suc (suc (suc zero)))) h k =
-    omega (arith, bytes-length v, none (v / 268435456) (omega arith), few (v / 2097152), few (v / 16384), few (v / 128))
-enough v (suc (suc (suc (suc (suc j))))) h k = omega (arith, most-five v)
-
-pub shortest : Shortest
-shortest v = (
-  most-five v,
-  λ s at end e.
-      let f = is-fine s at e in
-      omega (arith, enough v (end - at) (omega (arith, f .starts)) (f .room), f .starts),
-)
-
 -- ---- reading back
 
 -- one group that goes on, or none: h is the number down to it
@@ -99,7 +85,8 @@ group-by false h m at s pre rest p q l e =
     let k : 1 + m - 1 ≡ m = omega arith in
     let n : h / 128 * 128 + (128 + h % 128) % 128 ≡ h = omega arith in
     let i : at < length s = rw q (rw length-append (omega arith)) in
-    goes-on (1 + m) _ s at (omega arith) i (omega arith) ∙ rw (e, b, k, n)
+    let z = eqb-false h 0 p in
+    goes-on (1 + m) _ s at (omega arith) i (omega arith) (omega arith) ∙ rw (e, b, k, n)
 
 step : (h m at : ℕ) (s pre rest : List ℕ) → s ≡ pre ++ (group h ++ rest) → length pre ≡ at → {v : ℕ} → v ≡ h / 128
     → sdnvFrom (length (group h) + m) v s at ≡ sdnvFrom m h s (at + length (group h))
@@ -107,10 +94,9 @@ unfolding group
 step h m at s pre rest q l e = group-by (eqb h 0) h m at s pre rest refl q l e
 
 -- the four groups, one after the other, and the last byte
-whole : (v : ℕ) → v < 34359738368 → (before after : List ℕ)
-    → sdnvFrom 5 0 (before ++ (sdnvBytes v ++ after)) (length before) ≡ answered (record { value = v; end = length before + length (sdnvBytes v) })
+pub reads-back : ReadsBack
 unfolding sdnvBytes
-whole v h before after =
+reads-back v h before after =
     let g1 = group (v / 268435456) in
     let g2 = group (v / 2097152) in
     let g3 = group (v / 16384) in
@@ -137,11 +123,80 @@ whole v h before after =
     ∙ step (v / 2097152) _ _ s (before ++ g1) _ q2 l1 (omega arith)
     ∙ step (v / 16384) _ _ s (before ++ g1 ++ g2) _ q3 l2 (omega arith)
     ∙ step (v / 128) m _ s (before ++ g1 ++ g2 ++ g3) _ q4 l3 (omega arith)
-    ∙ last-byte m (v / 128) s at (omega (arith, few (v / 268435456), few (v / 2097152), few (v / 16384), few (v / 128))) i (omega arith)
+    ∙ last-byte m (v / 128) s at (omega (arith, few (v / 268435456), few (v / 2097152), few (v / 16384), few (v / 128))) i (omega arith) (omega arith)
     ∙ rw (y, e, w)
 
-pub reads-back : ReadsBack
-unfolding numberAt
-reads-back v h before after =
-    let b : v ≤ 4294967295 = omega arith in
-    rw (whole v (omega arith) before after, le-ltb 4294967295 v b)
+-- ---- one form
+
+-- the groups of a number of at most four, all with the top bit set
+heads : ℕ → List ℕ
+heads v = group (v / 2097152) ++ group (v / 16384) ++ group (v / 128) ++ group v
+
+-- the last byte after them
+heads-last : (v g : ℕ) → g < 128 → heads v ++ (g ∷ []) ≡ sdnvBytes (v * 128 + g)
+unfolding sdnvBytes heads
+heads-last v g h =
+    let a : (v * 128 + g) / 268435456 ≡ v / 2097152 = omega arith in
+    let b : (v * 128 + g) / 2097152 ≡ v / 16384 = omega arith in
+    let c : (v * 128 + g) / 16384 ≡ v / 128 = omega arith in
+    let d : (v * 128 + g) / 128 ≡ v = omega arith in
+    let e : (v * 128 + g) % 128 ≡ g = omega arith in
+    rw (a, b, c, d, e)
+
+-- one group more
+heads-more : (v b : ℕ) → v < 2097152 → 128 ≤ b → b < 256 → 0 < longer v b → heads (longer v b) ≡ heads v ++ (b ∷ [])
+unfolding heads
+heads-more v b l h k z =
+    let c : longer v b / 2097152 ≡ v / 16384 = omega arith in
+    let d : longer v b / 16384 ≡ v / 128 = omega arith in
+    let e : longer v b / 128 ≡ v = omega arith in
+    let f : 128 + longer v b % 128 ≡ b = omega arith in
+    let g : v / 2097152 ≡ 0 = omega arith in
+    rw (c, d, e, alone (longer v b) (λ n. omega arith), f, nothing (v / 2097152) g)
+
+module _ (s : List ℕ) (bytes : OfBytes s) where
+  -- the bytes still to be read complete the number's shortest form
+  abbrev Completes : ℕ → ℕ → Reading → Type 0
+  Completes v at (finished x) = heads v ++ part s at (x .end) ≡ sdnvBytes (x .value)
+  Completes v at unfinished = Unit {0}
+  Completes v at wrong = Unit {0}
+
+  one-more : (v at : ℕ) (r : Reading) → Within s (at + 1) r → at < length s → heads (longer v (getD s at 0)) ≡ heads v ++ (getD s at 0 ∷ [])
+      → Completes (longer v (getD s at 0)) (at + 1) r → Completes v at r
+  one-more v at (finished x) w h e q =
+      rw (part-cons s at (x .end) h (omega (arith, w .starts)), ← append-snoc (heads v) (getD s at 0) (part s (at + 1) (x .end)), ← e) q
+  one-more v at unfinished w h e q = tt
+  one-more v at wrong w h e q = tt
+
+  last-of : (v at : ℕ) → at < length s → getD s at 0 < 128 → heads v ++ part s at (at + 1) ≡ sdnvBytes (longer v (getD s at 0))
+  last-of v at h b =
+      let e : at + 1 - (at + 1) ≡ 0 = omega arith in
+      let m : getD s at 0 % 128 ≡ getD s at 0 = omega arith in
+      rw (part-cons s at (at + 1) h (omega arith), e, m) (heads-last v (getD s at 0) b)
+
+  completes : (more i v at : ℕ) → i + more ≡ 5 → v < 2 ^ (7 * i) → Completes v at (sdnvFrom more v s at)
+  unfolding sdnvFrom
+  completes zero i v at n l = tt
+  completes (suc zero) i v at n l =
+      by-byte (Completes v at) zero v s at tt tt (λ h b m. last-of v at h b) (λ h z b. tt)
+  completes (suc (suc more)) i v at n l =
+      by-byte (Completes v at) (suc more) v s at tt tt (λ h b m. last-of v at h b) (λ h z b.
+      one-more v at (sdnvFrom (suc more) (longer v (getD s at 0)) s (at + 1)) (within (suc more) (longer v (getD s at 0)) s (at + 1)) h
+      (heads-more v (getD s at 0) (small v i l 3 (omega arith)) b (bytes at) (not-zero v (getD s at 0) z b (bytes at)))
+      (completes (suc more) (i + 1) (longer v (getD s at 0)) (at + 1) (omega arith) (grows v i (getD s at 0 % 128) l (omega arith))))
+
+pub one-form : OneForm
+unfolding heads group
+one-form s bytes at v end e =
+    subst (Completes s bytes 0 at) e (completes s bytes 5 0 0 at refl (omega arith))
+
+pub shortest : Shortest
+shortest v = (
+  most-five v,
+  λ s bytes at end e.
+      let f = is-fine s at e in
+      let n : at + (end - at) ≡ end = omega (arith, f .starts) in
+      let l : length (part s at (at + (end - at))) ≡ end - at = part-length s at (end - at) (omega (arith, f .ends)) in
+      let o : length (sdnvBytes v) ≡ end - at = ap length (sym (one-form s bytes at v end e)) ∙ rw n at l in
+      omega (arith, f .starts),
+)

@@ -19,8 +19,8 @@ use Rattle.algebra.proofs.Codeword.{slot}
 use Rattle.ccsds.specs.Codes.{Params, nOf, encodeOf}
 use Rattle.ccsds.specs.Tables.{codeOf}
 use Rattle.ccsds.specs.Refusals.{firstOf, wrongCode, wrongWidth, wrongLabel, wrongPosition, answered}
-use Rattle.ccsds.specs.Sdnv.{numberAt, sdnvBytes}
-use Rattle.ccsds.specs.Reader.{part, codingOf, valueOf, extensionAt, extensionsOf, wrongHeader, readUnit}
+use Rattle.ccsds.specs.Sdnv.{finished, numberAt, sdnvBytes}
+use Rattle.ccsds.specs.Reader.{part, lengthAt, codingOf, valueOf, wrongType, extensionAt, extensionsOf, wrongHeader, readUnit}
 use Rattle.ccsds.specs.Writer.{lwcOf, headerOf, valueBytes, extensionOf, unitOf, symbolStart, unitBytes, writeRefusal}
 use Rattle.ccsds.specs.Show.{Slice, showRefusal, showOf}
 use Rattle.ccsds.specs.UnitClaims.{RoundTrip, symbolAt, SendsCodeword}
@@ -33,7 +33,7 @@ use Rattle.ccsds.proofs.ShowLaws.{shows-information, shows-parity}
 
 -- a number that stands at a position
 there : (v : ℕ) → v < 4294967296 → (s before after : List ℕ) (at : ℕ) → s ≡ before ++ (sdnvBytes v ++ after) → length before ≡ at
-    → numberAt s at ≡ answered (record { value = v; end = at + length (sdnvBytes v) })
+    → numberAt s at ≡ finished (record { value = v; end = at + length (sdnvBytes v) })
 there v h s before after at q l = rw (q, ← l, reads-back v h before after)
 
 -- the four numbers of a value
@@ -49,18 +49,18 @@ value-reads w k n hw hk hn =
     let a = 0 + length sw in
     let b = a + length sk in
     let c = b + length sn in
-    let e1 : numberAt v 0 ≡ answered (record { value = w; end = a }) = there w hw v [] (sk ++ sn ++ s0) 0 (simp append-assoc) refl in
-    let e2 : numberAt v a ≡ answered (record { value = k; end = b }) = there k hk v sw (sn ++ s0) a (simp append-assoc) (omega arith) in
-    let e3 : numberAt v b ≡ answered (record { value = n; end = c }) = there n hn v (sw ++ sk) s0 b (simp append-assoc) (simp length-append (omega arith)) in
-    let e4 : numberAt v c ≡ answered (record { value = 0; end = c + length s0 }) = there 0 (omega arith) v (sw ++ sk ++ sn) [] c (simp (append-assoc, append-nil)) (simp length-append (omega arith)) in
+    let e1 : numberAt v 0 ≡ finished (record { value = w; end = a }) = there w hw v [] (sk ++ sn ++ s0) 0 (simp append-assoc) refl in
+    let e2 : numberAt v a ≡ finished (record { value = k; end = b }) = there k hk v sw (sn ++ s0) a (simp append-assoc) (omega arith) in
+    let e3 : numberAt v b ≡ finished (record { value = n; end = c }) = there n hn v (sw ++ sk) s0 b (simp append-assoc) (simp length-append (omega arith)) in
+    let e4 : numberAt v c ≡ finished (record { value = 0; end = c + length s0 }) = there 0 (omega arith) v (sw ++ sk ++ sn) [] c (simp (append-assoc, append-nil)) (simp length-append (omega arith)) in
     let l : c + length s0 ≡ length v = simp length-append (omega arith) in
     rw (e1, e2, e3, e4, eq-eqb _ _ l)
 
 -- the extension that stands at a position
 extension-reads : (w k n : ℕ) → w < 4294967296 → k < 4294967296 → n < 4294967296
     → (s before after : List ℕ) (at : ℕ) → s ≡ before ++ (extensionOf w k n ++ after) → length before ≡ at
-    → extensionAt s at ≡ answered (record { coding = some (record { w = w; k = k; n = n; seed = 0 }); end = at + length (extensionOf w k n) })
-unfolding extensionOf valueOf
+    → extensionAt s false at ≡ answered (record { coding = some (record { w = w; k = k; n = n; seed = 0 }); end = at + length (extensionOf w k n) })
+unfolding extensionOf valueOf wrongType lengthAt
 extension-reads w k n hw hk hn s before after at q l =
     let v = valueBytes w k n in
     let z = length v in
@@ -68,14 +68,17 @@ extension-reads w k n hw hk hn s before after at q l =
     let e = at + 1 + length sz in
     let front = before ++ (1 ∷ []) ++ sz in
     let t : getD s at 0 ≡ 1 = rw q (getD-at before 1 (sz ++ v ++ after) 0 at l) in
-    let m : numberAt s (at + 1) ≡ answered (record { value = z; end = e }) =
+    let m : numberAt s (at + 1) ≡ finished (record { value = z; end = e }) =
     there z (omega (arith, value-most w k n)) s (before ++ (1 ∷ [])) (v ++ after) (at + 1) (q ∙ simp append-assoc) (simp length-append (omega arith)) in
     let q2 : s ≡ front ++ (v ++ after) = q ∙ simp append-assoc in
     let lf : length front ≡ e = simp length-append (omega arith) in
     let ls : length s ≡ e + (z + length after) = rw q2 (simp length-append (omega (arith, lf))) in
     let d : part s e (e + z) ≡ v = rw (q2, add-sub-cancel-left, drop-at front (v ++ after) e lf, take-at v after z refl) in
     let x : e + z ≡ at + length (extensionOf w k n) = omega (arith, extension-length w k n) in
-    from-value s at z e (omega arith) (λ p. omega (arith, t)) (λ p. omega (arith, t)) m (omega arith)
+    let i : e + z ≤ length s = omega arith in
+    let y : wrongType false (getD s at 0) ≡ false = rw t in
+    let ln : lengthAt s (at + 1) ≡ answered (record { value = z; end = e }) = rw (m, le-ltb (length s) (e + z) i) in
+    from-value s false at (omega arith) y ln
     ∙ rw (t, d, value-reads w k n hw hk hn, x)
 
 -- the unit

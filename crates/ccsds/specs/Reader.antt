@@ -1,13 +1,17 @@
--- Document 01, "The unit": what the unit reader finds in a unit's bytes alone. Positions count from the unit's first byte.
+-- Document 01, "The unit", and document 02, job 6: what the unit reader finds in a unit's bytes alone. Positions count from the unit's
+-- first byte. Extensions are read byte by byte, and the first byte that can't be accepted decides: 6 where the bytes end early, 19 for a
+-- number, 20 for an extension's kind.
 -- Assumes nothing.
-use mathlib.Core.Bool.{Bool, cond, not, _||_}
+use mathlib.Core.Bool.{Bool, true, false, cond, not, _&&_, _||_}
 use mathlib.Core.List.{List}
 use mathlib.Core.Option.{Option, none, some}
 use Prim.Native.Nat.{ℕ, zero, suc, _+_, _-_, _*_, _/_, _%_}
 use lib.Dec.{eqb, ltb, leb}
 use lib.ListN.{length, getD, take, drop}
 use Rattle.ccsds.specs.Refusals.{Outcome, refused, answered, _⟫_, refuseIf}
-use Rattle.ccsds.specs.Sdnv.{numberAt}
+use Rattle.ccsds.specs.Sdnv.{Number, numberAt, numberOr}
+use Rattle.ccsds.specs.declared.reader.NumberRead.{NumberRead}
+use Rattle.ccsds.specs.declared.reader.NumberRead.the-variants as number
 use Rattle.ccsds.specs.declared.reader.Parameters.{Parameters}
 use Rattle.ccsds.specs.declared.reader.ParametersRead.{ParametersRead}
 use Rattle.ccsds.specs.declared.reader.ParametersRead.the-variants as parameters
@@ -47,14 +51,22 @@ part s a e = take (e - a) (drop a s)
 abbrev pub pairAt : List ℕ → ℕ → ℕ
 pairAt s at = getD s at 0 * 256 + getD s (at + 1) 0
 
+-- a length at a position: bytes that end early are 6, and so is a value that reaches past them
+unfoldable pub lengthAt : List ℕ → ℕ → Outcome Number
+lengthAt s at = numberOr 6 (numberAt s at) ⟫ λ len. refuseIf (ltb (length s) (len .end + len .value)) 6 (answered len)
+
+-- a number of a type 1's value: one that the value's end cuts off is 20
+abbrev pub parameterAt : List ℕ → ℕ → Outcome Number
+parameterAt v at = numberOr 20 (numberAt v at)
+
 -- a type 1's value: exactly four numbers
 unfoldable pub codingOf : List ℕ → Outcome Coding
 codingOf v =
-    numberAt v 0 ⟫ λ w.
-    numberAt v (w .end) ⟫ λ k.
-    numberAt v (k .end) ⟫ λ n.
-    numberAt v (n .end) ⟫ λ seed.
-    refuseIf (not (eqb (seed .end) (length v))) 6
+    parameterAt v 0 ⟫ λ w.
+    parameterAt v (w .end) ⟫ λ k.
+    parameterAt v (k .end) ⟫ λ n.
+    parameterAt v (n .end) ⟫ λ seed.
+    refuseIf (not (eqb (seed .end) (length v))) 20
     (answered (record { w = w .value; k = k .value; n = n .value; seed = seed .value }))
 
 -- the value of an extension of a type, from position a up to position e
@@ -64,27 +76,33 @@ valueOf s type a e =
     (codingOf (part s a e) ⟫ λ p. answered (record { coding = some p; end = e }))
     (answered (record { coding = none; end = e }))
 
--- one extension at a position: a type from 1 to 254, a length, and that many value bytes
-unfoldable pub extensionAt : List ℕ → ℕ → Outcome Said
-extensionAt s at =
-    refuseIf (leb (length s) at) 6
-    (refuseIf (eqb (getD s at 0) 0 || eqb (getD s at 0) 255) 6
-    (numberAt s (at + 1) ⟫ λ len.
-    refuseIf (ltb (length s) (len .end + len .value)) 6
-    (valueOf s (getD s at 0) (len .end) (len .end + len .value))))
+-- a type that isn't 1 to 254, or a second 1: `came` says whether a type 1 came before
+unfoldable pub wrongType : Bool → ℕ → Bool
+wrongType came type = eqb type 0 || eqb type 255 || came && eqb type 1
 
--- the coding parameters that came before, and those of one more extension: two of type 1 are refused
-abbrev pub oneOf : Option Coding → Option Coding → Outcome (Option Coding)
-oneOf none x = answered x
-oneOf (some p) none = answered (some p)
-oneOf (some p) (some q) = refused 6
+-- one extension at a position: a type, a length, and that many value bytes
+unfoldable pub extensionAt : List ℕ → Bool → ℕ → Outcome Said
+extensionAt s came at =
+    refuseIf (leb (length s) at) 6
+    (refuseIf (wrongType came (getD s at 0)) 20
+    (lengthAt s (at + 1) ⟫ λ len.
+    valueOf s (getD s at 0) (len .end) (len .end + len .value)))
+
+-- whether coding parameters came
+abbrev pub isSome : Option Coding → Bool
+isSome none = false
+isSome (some p) = true
+
+-- the coding parameters after one more extension
+abbrev pub after : Option Coding → Option Coding → Option Coding
+after before none = before
+after before (some p) = some p
 
 -- one more extension
 abbrev pub oneMore : List ℕ → Said → Outcome Said
 oneMore s found =
-    extensionAt s (found .end) ⟫ λ x.
-    oneOf (found .coding) (x .coding) ⟫ λ p.
-    answered (record { coding = p; end = x .end })
+    extensionAt s (isSome (found .coding)) (found .end) ⟫ λ x.
+    answered (record { coding = after (found .coding) (x .coding); end = x .end })
 
 -- the first so many extensions of a unit
 unfoldable pub extensionsOf : List ℕ → ℕ → Outcome Said
@@ -110,6 +128,10 @@ readUnit s =
     }))
 
 -- ---- the cases of the reader's answers in the paper's words
+
+abbrev pub numberAs : NumberRead → Outcome Number
+numberAs (number.Read x) = answered (record { value = x .value; end = x .end })
+numberAs (number.Refused refusal) = refused refusal
 
 abbrev pub fourAs : Parameters → Coding
 fourAs p = record { w = p .w; k = p .k; n = p .n; seed = p .seed }

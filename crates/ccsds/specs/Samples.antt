@@ -1,4 +1,4 @@
--- The starred samples of document 01, as rows of one table under one statement.
+-- The starred samples of document 01, with document 02, job 6, as rows of one table under one statement.
 -- Assumes nothing.
 use mathlib.Core.Path.{_≡_}
 use mathlib.Core.Bool.{Bool, true, false, _&&_, _||_}
@@ -12,7 +12,7 @@ use Rattle.algebra.specs.Codeword.{byteAt, codeword}
 use Rattle.ccsds.specs.Codes.{checksOf}
 use Rattle.ccsds.specs.Tables.{codeOf}
 use Rattle.ccsds.specs.Refusals.{Outcome, refused, answered, _⟫_}
-use Rattle.ccsds.specs.Sdnv.{numberAt, sdnvBytes}
+use Rattle.ccsds.specs.Sdnv.{numberAt, numberOr, sdnvBytes}
 
 -- In every codeword of the code whose information symbols outside first .. last are zero, each parity symbol j of from .. to is the sum of
 -- all information symbols if one of the runs has j, and zero if none has. Where first is last, that sum is the one symbol's value.
@@ -48,7 +48,7 @@ WrittenAs (answered v) bytes = sdnvBytes v ≡ bytes
 
 abbrev pub SdnvHolds : SdnvSample → Type 0
 SdnvHolds s =
-    (numberAt (s .bytes) 0 ≡ (s .answer ⟫ λ v. answered (record { value = v; end = length (s .bytes) }))) × WrittenAs (s .answer) (s .shortest)
+    (numberOr 6 (numberAt (s .bytes) 0) ≡ (s .answer ⟫ λ v. answered (record { value = v; end = length (s .bytes) }))) × WrittenAs (s .answer) (s .shortest)
 
 pub data Sample : Type 0 where
   ofCode : CodeSample → Sample
@@ -80,8 +80,8 @@ samples =
       answer = answered 4294967295;
       shortest = 0x8F ∷ 0xFF ∷ 0xFF ∷ 0xFF ∷ 0x7F ∷ [];
     })
-    ∷ ofSdnv (record { bytes = 0x90 ∷ 0x80 ∷ 0x80 ∷ 0x80 ∷ 0x00 ∷ []; answer = refused 6; shortest = [] })
-    ∷ ofSdnv (record { bytes = 0x80 ∷ 0x01 ∷ []; answer = answered 1; shortest = 0x01 ∷ [] })
+    ∷ ofSdnv (record { bytes = 0x90 ∷ 0x80 ∷ 0x80 ∷ 0x80 ∷ 0x00 ∷ []; answer = refused 19; shortest = [] })
+    ∷ ofSdnv (record { bytes = 0x80 ∷ 0x01 ∷ []; answer = refused 19; shortest = [] })
     ∷ []
 
 -- every row holds

@@ -1,15 +1,14 @@
--- Document 01, "The unit": SDNV numbers (RFC 6256). Seven bits a byte, high group first, the top bit set on all bytes but the last.
+-- Document 01, "The unit", and document 02, job 6: SDNV numbers (RFC 6256). Seven bits a byte, high group first, the top bit set on all
+-- bytes but the last, and the shortest form alone.
 -- Assumes nothing.
-use mathlib.Core.Bool.{cond}
+use mathlib.Core.Bool.{cond, _&&_}
 use mathlib.Core.List.{List, [], _∷_, _++_}
 use Prim.Native.Nat.{ℕ, zero, suc, _+_, _-_, _*_, _/_, _%_}
 use lib.Dec.{eqb, ltb, leb}
 use lib.ListN.{length, getD}
-use Rattle.ccsds.specs.Refusals.{Outcome, refused, answered, _⟫_, refuseIf}
+use Rattle.ccsds.specs.Refusals.{Outcome, refused, answered}
 use Rattle.ccsds.specs.declared.sdnv.Sdnv.{Sdnv}
-use Rattle.ccsds.specs.declared.sdnv.Sdnv.the-variants.{Whole, Unfinished}
-use Rattle.ccsds.specs.declared.sdnv.NumberRead.{NumberRead}
-use Rattle.ccsds.specs.declared.sdnv.NumberRead.the-variants.{Read, Refused}
+use Rattle.ccsds.specs.declared.sdnv.Sdnv.the-variants.{Whole, Unfinished, Wrong}
 
 -- ---- reading
 
@@ -18,28 +17,43 @@ pub record Number : Type 0 where
   pub value : ℕ
   pub end : ℕ
 
--- Goes on at position `at` of s with the number v so far, for at most so many bytes more. A byte below 128 is the last one. Where no
--- such byte comes, the number doesn't finish.
-unfoldable pub sdnvFrom : ℕ → ℕ → List ℕ → ℕ → Outcome Number
-sdnvFrom zero v s at = refused 6
+-- how the reading of a number ends: with the number; where the bytes end before it does; or at a byte that can't be accepted
+pub data Reading : Type 0 where
+  finished : Number → Reading
+  unfinished : Reading
+  wrong : Reading
+
+-- the number v so far, and the seven bits of one byte more
+abbrev pub longer : ℕ → ℕ → ℕ
+longer v byte = v * 128 + byte % 128
+
+-- Goes on at position `at` of s with the number v so far, for at most so many bytes more. Each byte decides, in this order: there is none;
+-- it is a group of zeros before any other, 80 where the number is still 0; it is below 128, so the last one, and the number is too large or
+-- finished. Where none is left to come, the byte before had its top bit set and the number is too long.
+unfoldable pub sdnvFrom : ℕ → ℕ → List ℕ → ℕ → Reading
+sdnvFrom zero v s at = wrong
 sdnvFrom (suc more) v s at =
-    refuseIf (leb (length s) at) 6
+    cond (leb (length s) at) unfinished
+    (cond (eqb v 0 && eqb (getD s at 0) 0x80) wrong
     (cond (ltb (getD s at 0) 128)
-    (answered (record { value = v * 128 + getD s at 0 % 128; end = at + 1 }))
-    (sdnvFrom more (v * 128 + getD s at 0 % 128) s (at + 1)))
+    (cond (ltb 4294967295 (longer v (getD s at 0))) wrong (finished (record { value = longer v (getD s at 0); end = at + 1 })))
+    (sdnvFrom more (longer v (getD s at 0)) s (at + 1))))
 
--- the number at a position of s: at most five bytes, and at most 4,294,967,295
-unfoldable pub numberAt : List ℕ → ℕ → Outcome Number
-numberAt s at = sdnvFrom 5 0 s at ⟫ λ x. refuseIf (ltb 4294967295 (x .value)) 6 (answered x)
+-- the number at a position of s: at most five bytes, at most 4,294,967,295, in its shortest form
+abbrev pub numberAt : List ℕ → ℕ → Reading
+numberAt s at = sdnvFrom 5 0 s at
 
--- the cases of the two answers in the paper's words
-abbrev pub sdnvAs : Sdnv → Outcome Number
-sdnvAs (Whole x) = answered (record { value = x .value; end = x .end })
-sdnvAs Unfinished = refused 6
+-- a reading as an answer: 19 for a byte that can't be accepted, and its own number, `early`, where the bytes end early
+abbrev pub numberOr : ℕ → Reading → Outcome Number
+numberOr early (finished x) = answered x
+numberOr early unfinished = refused early
+numberOr early wrong = refused 19
 
-abbrev pub numberAs : NumberRead → Outcome Number
-numberAs (Read x) = answered (record { value = x .value; end = x .end })
-numberAs (Refused number) = refused number
+-- the cases of the SDNV reader's answer in the paper's words
+abbrev pub sdnvAs : Sdnv → Reading
+sdnvAs (Whole x) = finished (record { value = x .value; end = x .end })
+sdnvAs Unfinished = unfinished
+sdnvAs Wrong = wrong
 
 -- ---- writing
 

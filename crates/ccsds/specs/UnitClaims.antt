@@ -1,17 +1,18 @@
--- What is claimed of SDNV numbers and units, beside the contracts; proofs/UnitClaims.antt proves it.
+-- What is claimed of SDNV numbers and units, beside the contracts. Proved in proofs/: SdnvRound (numbers), FirstByte and EndsEarly (what
+-- decides), UnitClaims and CanonicalUnit (units).
 -- Assumes nothing.
 use mathlib.Core.Path.{_≡_}
 use mathlib.Core.Bool.{false}
 use mathlib.Core.List.{List, _++_}
 use mathlib.Core.Option.{some}
 use Prim.Native.Nat.{ℕ, _+_, _*_, _≤_, _<_}
-use lib.ListN.{length, take, drop}
+use lib.ListN.{length, getD, take, drop}
 use denote.Ref.{RefT, now}
 use Rattle.ccsds.specs.Codes.{Params, nOf, encodeOf}
 use Rattle.ccsds.specs.Tables.{codeOf}
-use Rattle.ccsds.specs.Refusals.{wrongCode, wrongWidth, wrongLabel, answered}
-use Rattle.ccsds.specs.Sdnv.{numberAt, sdnvBytes}
-use Rattle.ccsds.specs.Reader.{Parts, readUnit}
+use Rattle.ccsds.specs.Refusals.{wrongCode, wrongWidth, wrongLabel, refused, answered}
+use Rattle.ccsds.specs.Sdnv.{finished, numberAt, sdnvBytes}
+use Rattle.ccsds.specs.Reader.{Parts, part, readUnit}
 use Rattle.ccsds.specs.Writer.{lwcOf, unitOf, symbolStart, unitBytes, writeRefusal}
 use Rattle.ccsds.specs.Show.{showOf}
 
@@ -19,13 +20,32 @@ use Rattle.ccsds.specs.Show.{showOf}
 abbrev pub ReadsBack : Type 0
 ReadsBack =
     (v : ℕ) → v < 4294967296 → (before after : List ℕ)
-    → numberAt (before ++ (sdnvBytes v ++ after)) (length before) ≡ answered (record { value = v; end = length before + length (sdnvBytes v) })
+    → numberAt (before ++ (sdnvBytes v ++ after)) (length before) ≡ finished (record { value = v; end = length before + length (sdnvBytes v) })
 
--- it has at most five bytes, and no bytes that are read as the same number are fewer
+-- a list of bytes
+abbrev pub OfBytes : List ℕ → Type 0
+OfBytes s = (i : ℕ) → getD s i 0 < 256
+
+-- it has one form: bytes that are read as a number are those that are written for it
+abbrev pub OneForm : Type 0
+OneForm =
+    (s : List ℕ) → OfBytes s → (at v end : ℕ) → numberAt s at ≡ finished (record { value = v; end = end }) → part s at end ≡ sdnvBytes v
+
+-- so it has at most five bytes, and no bytes that are read as the same number are fewer
 abbrev pub Shortest : Type 0
 Shortest =
     (v : ℕ)
-    → (length (sdnvBytes v) ≤ 5) × ((s : List ℕ) (at end : ℕ) → numberAt s at ≡ answered (record { value = v; end = end }) → at + length (sdnvBytes v) ≤ end)
+    → (length (sdnvBytes v) ≤ 5)
+    × ((s : List ℕ) → OfBytes s → (at end : ℕ) → numberAt s at ≡ finished (record { value = v; end = end }) → at + length (sdnvBytes v) ≤ end)
+
+-- The first byte that can't be accepted decides: what a unit's bytes say, read or refused, stays so whatever bytes come after them, unless
+-- they ended early.
+abbrev pub FirstByteDecides : Type 0
+FirstByteDecides = (s after : List ℕ) → 6 ≤ length s → (readUnit s ≡ refused 6 → ⊥) → readUnit (s ++ after) ≡ readUnit s
+
+-- 6 is kept for bytes that end early: there are bytes that, coming after them, lead to another answer.
+abbrev pub EndsEarly : Type 0
+EndsEarly = (s : List ℕ) → readUnit s ≡ refused 6 → (after : List ℕ) × (readUnit (s ++ after) ≡ refused 6 → ⊥)
 
 -- the parts of a unit that write makes
 abbrev pub partsOf : Params → ℕ → ℕ → ℕ → ℕ → Parts
@@ -49,6 +69,13 @@ abbrev pub RoundTrip : Type 0
 RoundTrip =
     (number w protocol lsc lwc : ℕ) (symbol : List ℕ) (outs : ℕ) → writeRefusal number w protocol lsc lwc (length symbol) outs ≡ 0
     → ReadsAs (unitOf (codeOf number) w protocol lsc lwc symbol) (partsOf (codeOf number) w protocol lsc lwc) symbol
+
+-- a unit of one extension that is read with a code's parameters is, byte for byte, what write makes of its numbers and its symbol
+abbrev pub CanonicalUnit : Type 0
+CanonicalUnit =
+    (c : Params) (w : ℕ) (u : List ℕ) (parts : Parts) → OfBytes u → readUnit u ≡ answered parts
+    → parts .count ≡ 1 → parts .coding ≡ some (record { w = w; k = c .k; n = nOf c; seed = 0 })
+    → u ≡ unitOf c w (parts .protocol) (parts .lsc) (parts .lwc) (drop (parts .symbol) u)
 
 -- the symbol at a position of a block of symbols of w bytes
 abbrev pub symbolAt : ℕ → List ℕ → ℕ → List ℕ

@@ -1,9 +1,44 @@
 // The unit reader: what a unit's bytes say, by themselves.
 use crate::big_endian;
 use crate::sdnv;
-use crate::sdnv::NumberRead;
+use crate::sdnv::Number;
+use crate::sdnv::Sdnv;
 ghost use mathlib.Core.Path.{_≡_};
-ghost use Rattle.ccsds.specs.Reader.{codingOf, extensionAt, extensionsOf, wrongHeader, readUnit, codingAs, walkAs, readAs};
+ghost use Rattle.ccsds.specs.Reader.{numberAs, lengthAt, parameterAt, codingOf, wrongType, extensionAt, extensionsOf, wrongHeader, readUnit, codingAs, walkAs, readAs};
+
+// A number that was read, or the refusal in its place.
+pub enum NumberRead {
+    Read(Number),
+    Refused(u8),
+}
+
+// The length at a position, of a value that ends within the bytes.
+fn read_length(s: &[u8], at: usize) -> NumberRead
+    ensures { λ r. ⌜ numberAs r ≡ lengthAt (now (s .entry)) at ⌝ }
+{
+    let answer = sdnv::number_at(s, at);
+    if let Sdnv::Wrong = answer {
+        return NumberRead::Refused(19);
+    }
+    let Sdnv::Whole(x) = answer else {
+        return NumberRead::Refused(6);
+    };
+    if x.end + x.value > s.len() {
+        return NumberRead::Refused(6);
+    }
+    NumberRead::Read(x)
+}
+
+// The number at a position of a type 1's value.
+fn read_parameter(v: &[u8], at: usize) -> NumberRead
+    ensures { λ r. ⌜ numberAs r ≡ parameterAt (now (v .entry)) at ⌝ }
+{
+    match sdnv::number_at(v, at) {
+        Sdnv::Whole(x) => NumberRead::Read(x),
+        Sdnv::Unfinished => NumberRead::Refused(20),
+        Sdnv::Wrong => NumberRead::Refused(19),
+    }
+}
 
 // The coding parameters.
 pub struct Parameters {
@@ -22,32 +57,32 @@ pub enum ParametersRead {
 fn read_parameters(v: &[u8]) -> ParametersRead
     ensures { λ r. ⌜ codingAs r ≡ codingOf (now (v .entry)) ⌝ }
 {
-    let w = match sdnv::number_at(v, 0) {
+    let w = match read_parameter(v, 0) {
         NumberRead::Read(x) => x,
         NumberRead::Refused(r) => {
             return ParametersRead::Refused(r);
         }
     };
-    let k = match sdnv::number_at(v, w.end) {
+    let k = match read_parameter(v, w.end) {
         NumberRead::Read(x) => x,
         NumberRead::Refused(r) => {
             return ParametersRead::Refused(r);
         }
     };
-    let n = match sdnv::number_at(v, k.end) {
+    let n = match read_parameter(v, k.end) {
         NumberRead::Read(x) => x,
         NumberRead::Refused(r) => {
             return ParametersRead::Refused(r);
         }
     };
-    let seed = match sdnv::number_at(v, n.end) {
+    let seed = match read_parameter(v, n.end) {
         NumberRead::Read(x) => x,
         NumberRead::Refused(r) => {
             return ParametersRead::Refused(r);
         }
     };
     if seed.end != v.len() {
-        return ParametersRead::Refused(6);
+        return ParametersRead::Refused(20);
     }
     ParametersRead::Four(Parameters {
         w: w.value,
@@ -69,21 +104,34 @@ pub enum Walk {
     Refused(u8),
 }
 
-// The extension at a position.
-fn read_extension(s: &[u8], at: usize) -> Walk
-    ensures { λ r. ⌜ walkAs r ≡ extensionAt (now (s .entry)) at ⌝ }
+// Not 1 to 254, or a second 1: `came` says whether a type 1 came before.
+fn wrong_type(came: bool, kind: u8) -> bool
+    ensures { λ r. ⌜ r ≡ wrongType came kind ⌝ }
+{
+    if kind == 0 {
+        return true;
+    }
+    if kind == 255 {
+        return true;
+    }
+    if came {
+        return kind == 1;
+    }
+    false
+}
+
+// The extension at a position. `came` says whether a type 1 came before.
+fn read_extension(s: &[u8], came: bool, at: usize) -> Walk
+    ensures { λ r. ⌜ walkAs r ≡ extensionAt (now (s .entry)) came at ⌝ }
 {
     if at >= s.len() {
         return Walk::Refused(6);
     }
     let kind = s[at];
-    if kind == 0 {
-        return Walk::Refused(6);
+    if wrong_type(came, kind) {
+        return Walk::Refused(20);
     }
-    if kind == 255 {
-        return Walk::Refused(6);
-    }
-    let len = match sdnv::number_at(s, at + 1) {
+    let len = match read_length(s, at + 1) {
         NumberRead::Read(x) => x,
         NumberRead::Refused(r) => {
             return Walk::Refused(r);
@@ -91,9 +139,6 @@ fn read_extension(s: &[u8], at: usize) -> Walk
     };
     let a = len.end;
     let e = a + len.value;
-    if e > s.len() {
-        return Walk::Refused(6);
-    }
     if kind != 1 {
         return Walk::To(Extension::PassedOver, e);
     }
@@ -103,8 +148,8 @@ fn read_extension(s: &[u8], at: usize) -> Walk
     }
 }
 
-// The extensions of a unit, so many. Two of type 1 are refused. What was found is carried as its parts: an enum that goes round a loop is
-// copied at odd addresses, which is slow.
+// The extensions of a unit, so many. What was found is carried as its parts: an enum that goes round a loop is copied at odd addresses,
+// which is slow.
 fn walk_extensions(s: &[u8], count: usize) -> Walk
     ensures { λ r. ⌜ walkAs r ≡ extensionsOf (now (s .entry)) count ⌝ }
 {
@@ -118,15 +163,12 @@ fn walk_extensions(s: &[u8], count: usize) -> Walk
     let mut at: usize = 6;
     let mut i: usize = 0;
     while i < count {
-        match read_extension(s, at) {
+        match read_extension(s, found, at) {
             Walk::To(x, end) => {
                 at = end;
                 match x {
                     Extension::PassedOver => {}
                     Extension::Coding(q) => {
-                        if found {
-                            return Walk::Refused(6);
-                        }
                         found = true;
                         p = q;
                     }

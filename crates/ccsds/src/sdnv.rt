@@ -1,7 +1,7 @@
 // SDNV numbers at a position of a slice. Internal: the unit reader's.
 use crate::big_endian;
 ghost use mathlib.Core.Path.{_≡_};
-ghost use Rattle.ccsds.specs.Sdnv.{sdnvFrom, numberAt, sdnvAs, numberAs};
+ghost use Rattle.ccsds.specs.Sdnv.{numberAt, sdnvAs};
 
 // A number, and the position after it.
 pub struct Number {
@@ -9,14 +9,16 @@ pub struct Number {
     pub end: usize,
 }
 
+// How the reading of a number ends: with the number, with the bytes, or at a byte that can't be accepted.
 pub enum Sdnv {
     Whole(Number),
     Unfinished,
+    Wrong,
 }
 
-// The SDNV of at most five bytes at a position.
-fn read_sdnv(s: &[u8], at: usize) -> Sdnv
-    ensures { λ r. ⌜ sdnvAs r ≡ sdnvFrom 5 0 (now (s .entry)) at ⌝ }
+// The number at a position: at most five bytes, at most 4,294,967,295, in its shortest form.
+pub fn number_at(s: &[u8], at: usize) -> Sdnv
+    ensures { λ r. ⌜ sdnvAs r ≡ numberAt (now (s .entry)) at ⌝ }
 {
     let mut more: usize = 5;
     let mut value: usize = 0;
@@ -30,26 +32,15 @@ fn read_sdnv(s: &[u8], at: usize) -> Sdnv
         more -= 1;
         value = value * 128 + b % 128;
         if b < 128 {
+            if value > 4294967295 {
+                return Sdnv::Wrong;
+            }
             return Sdnv::Whole(Number { value, end });
         }
+        // still 0: this was a leading 80
+        if value == 0 {
+            return Sdnv::Wrong;
+        }
     }
-    Sdnv::Unfinished
-}
-
-pub enum NumberRead {
-    Read(Number),
-    Refused(u8),
-}
-
-// The number at a position: an SDNV that finishes, and is not too large.
-pub fn number_at(s: &[u8], at: usize) -> NumberRead
-    ensures { λ r. ⌜ numberAs r ≡ numberAt (now (s .entry)) at ⌝ }
-{
-    let Sdnv::Whole(x) = read_sdnv(s, at) else {
-        return NumberRead::Refused(6);
-    };
-    if x.value > 4294967295 {
-        return NumberRead::Refused(6);
-    }
-    NumberRead::Read(x)
+    Sdnv::Wrong
 }

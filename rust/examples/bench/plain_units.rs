@@ -78,39 +78,57 @@ pub fn write(code: usize, w: usize, protocol: usize, lsc: usize, lwc: usize, sym
     Ok(())
 }
 
-/// The number at a position, and the position after it.
-fn number_at(s: &[u8], at: usize) -> Result<(usize, usize), Refusal> {
+/// How the reading of a number ends: with the number and the position after it, with the bytes, or at a byte that can't be accepted.
+enum Sdnv {
+    Whole(usize, usize),
+    Unfinished,
+    Wrong,
+}
+
+fn number_at(s: &[u8], at: usize) -> Sdnv {
     let mut value = 0;
-    for (i, &b) in s.iter().enumerate().skip(at).take(5) {
+    for more in 0..5 {
+        let Some(&b) = s.get(at + more) else {
+            return Sdnv::Unfinished;
+        };
         value = value * 128 + (b % 128) as usize;
         if b < 128 {
-            if value > 0xFFFF_FFFF {
-                return Err(Refusal::Extension);
-            }
-            return Ok((value, i + 1));
+            return if value > 0xFFFF_FFFF { Sdnv::Wrong } else { Sdnv::Whole(value, at + more + 1) };
+        }
+        if value == 0 {
+            return Sdnv::Wrong;
         }
     }
-    Err(Refusal::Extension)
+    Sdnv::Wrong
+}
+
+/// The same as an answer, with the refusal for bytes that end early.
+fn number_or(early: Refusal, s: &[u8], at: usize) -> Result<(usize, usize), Refusal> {
+    match number_at(s, at) {
+        Sdnv::Whole(value, end) => Ok((value, end)),
+        Sdnv::Unfinished => Err(early),
+        Sdnv::Wrong => Err(Refusal::Number),
+    }
 }
 
 fn read_parameters(v: &[u8]) -> Result<Parameters, Refusal> {
-    let (w, at) = number_at(v, 0)?;
-    let (k, at) = number_at(v, at)?;
-    let (n, at) = number_at(v, at)?;
-    let (seed, at) = number_at(v, at)?;
+    let (w, at) = number_or(Refusal::ExtensionKind, v, 0)?;
+    let (k, at) = number_or(Refusal::ExtensionKind, v, at)?;
+    let (n, at) = number_or(Refusal::ExtensionKind, v, at)?;
+    let (seed, at) = number_or(Refusal::ExtensionKind, v, at)?;
     if at != v.len() {
-        return Err(Refusal::Extension);
+        return Err(Refusal::ExtensionKind);
     }
     Ok(Parameters { w, k, n, seed })
 }
 
-/// The extension at a position, if it is of type 1, and the position after it.
-fn read_extension(s: &[u8], at: usize) -> Result<(Option<Parameters>, usize), Refusal> {
+/// The extension at a position, if it is of type 1, and the position after it. `came` says whether a type 1 came before.
+fn read_extension(s: &[u8], came: bool, at: usize) -> Result<(Option<Parameters>, usize), Refusal> {
     let kind = *s.get(at).ok_or(Refusal::Extension)?;
-    if kind == 0 || kind == 255 {
-        return Err(Refusal::Extension);
+    if kind == 0 || kind == 255 || came && kind == 1 {
+        return Err(Refusal::ExtensionKind);
     }
-    let (len, start) = number_at(s, at + 1)?;
+    let (len, start) = number_or(Refusal::Extension, s, at + 1)?;
     let value = s.get(start..start + len).ok_or(Refusal::Extension)?;
     if kind != 1 {
         return Ok((None, start + len));
@@ -128,13 +146,8 @@ fn read(s: &[u8]) -> Result<UnitParts, Refusal> {
     let mut coding = None;
     let mut at = 6;
     for _ in 0..count {
-        let (found, end) = read_extension(s, at)?;
-        if found.is_some() {
-            if coding.is_some() {
-                return Err(Refusal::Extension);
-            }
-            coding = found;
-        }
+        let (found, end) = read_extension(s, coding.is_some(), at)?;
+        coding = coding.or(found);
         at = end;
     }
     Ok(UnitParts {

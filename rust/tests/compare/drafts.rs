@@ -18,6 +18,10 @@ impl Extension {
     pub fn coding(numbers: [usize; 4]) -> Extension {
         Extension::new(1, numbers.map(sdnv).concat())
     }
+
+    pub fn bytes(&self) -> Vec<u8> {
+        [&[self.kind], &self.length[..], &self.value].concat()
+    }
 }
 
 #[derive(Clone, Debug)]
@@ -54,9 +58,7 @@ impl Draft {
         bytes.extend(self.lwc.to_be_bytes());
         bytes.extend(self.lsc.to_be_bytes());
         for extension in &self.extensions {
-            bytes.push(extension.kind);
-            bytes.extend(&extension.length);
-            bytes.extend(&extension.value);
+            bytes.extend(extension.bytes());
         }
         bytes.extend(&self.symbol);
         bytes

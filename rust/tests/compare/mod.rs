@@ -1,6 +1,7 @@
 //! Runs the archive and the model side by side.
 #![allow(dead_code)]
 
+pub mod all_strings;
 pub mod cases;
 pub mod drafts;
 pub mod encode;
@@ -12,8 +13,9 @@ pub mod suite;
 pub mod unit_forms;
 pub mod units;
 
-use lipvezor::{Closed, Taken, Verdict};
+use lipvezor::{Closed, Refusal, Taken, UnitParts, Verdict};
 use random::Random;
+use std::collections::BTreeMap;
 use std::fmt;
 use std::ops::AddAssign;
 
@@ -48,6 +50,9 @@ pub fn same_buffer<T: PartialEq + fmt::Debug>(archive: &[T], model: &[T], what: 
     }))
 }
 
+/// The largest number of a refusal.
+const LARGEST: usize = Refusal::ExtensionKind as usize;
+
 /// What was compared.
 #[derive(Clone, Debug, Default)]
 pub struct Stats {
@@ -56,16 +61,32 @@ pub struct Stats {
     pub kept: usize,
     pub repeated: usize,
     /// By number, from 1.
-    pub refused: [usize; 13],
+    pub refused: [usize; LARGEST + 1],
     pub whole: usize,
     pub ambiguous: usize,
     pub inconsistent: usize,
     pub encoded: usize,
     pub units: usize,
+    /// Units that read takes, whatever take says.
+    pub readable: usize,
     pub shown: usize,
 }
 
 impl Stats {
+    /// The refusals that came, and how often.
+    pub fn refusals(&self) -> BTreeMap<usize, usize> {
+        self.refused.into_iter().enumerate().filter(|&(_, times)| times > 0).collect()
+    }
+
+    /// For a unit that is only read.
+    pub fn count_read(&mut self, answer: Result<UnitParts, u8>) {
+        self.units += 1;
+        match answer {
+            Ok(_) => self.readable += 1,
+            Err(number) => self.count_refused(number),
+        }
+    }
+
     pub fn count_taken(&mut self, answer: Result<Taken, u8>) {
         match answer {
             Ok(Taken::Kept) => self.kept += 1,
@@ -102,6 +123,7 @@ impl AddAssign for Stats {
         self.inconsistent += other.inconsistent;
         self.encoded += other.encoded;
         self.units += other.units;
+        self.readable += other.readable;
         self.shown += other.shown;
     }
 }

@@ -1,6 +1,6 @@
 //! Makes a list of calls of a case: its units in some order, others between them that change nothing or little, and closes.
 use super::cases::Case;
-use super::drafts::{padded_sdnv, Draft, Extension};
+use super::drafts::{Draft, Extension};
 use super::lists::{Call, List};
 use super::random::Random;
 use crate::model::refusals::Record;
@@ -112,13 +112,9 @@ impl Script<'_> {
         draft.bytes()
     }
 
-    /// Other bytes that say the same.
+    /// Other extensions besides.
     fn dress(&mut self, draft: &mut Draft) {
-        let numbers = [self.case.w, self.case.code.k, self.case.code.n, 0];
-        let value = numbers.map(|number| padded_sdnv(number, self.random.below(4))).concat();
-        let length = padded_sdnv(value.len(), self.random.below(5));
-        draft.extensions = vec![Extension { kind: 1, length, value }];
-        for _ in 0..self.random.below(3) {
+        for _ in 0..1 + self.random.below(3) {
             let mut value = vec![0; self.random.below(200)];
             self.random.fill(&mut value);
             let other = Extension::new(2 + self.random.below(253) as u8, value);
@@ -151,7 +147,7 @@ impl Script<'_> {
     fn useless(&mut self, position: usize) -> Vec<u8> {
         let mut draft = self.draft(position);
         let code = self.case.code;
-        match self.random.below(14) {
+        match self.random.below(16) {
             0 | 1 => {}
             2 | 3 => return self.altered(position),
             4 => draft.lsc ^= 1 << self.random.below(16),
@@ -167,6 +163,8 @@ impl Script<'_> {
                 draft.extensions = vec![Extension::coding(numbers)];
             }
             12 => draft.extensions.push(draft.extensions[0].clone()),
+            13 => draft.extensions[0].length.insert(0, 0x80),
+            14 => draft.extensions[0] = Extension::new(1, [&[0x80], &draft.extensions[0].value[..]].concat()),
             _ => {
                 let mut unit = draft.bytes();
                 unit.truncate(self.random.below(unit.len()));

@@ -1,9 +1,12 @@
 //! Units in all forms, from readable to nonsense.
+use super::all_strings::EDGES;
 use super::drafts::{padded_sdnv, Draft, Extension};
 use super::random::Random;
 use super::units::Reader;
-use super::{Difference, Stats};
+use super::{same, Difference, Stats};
+use crate::model::byte_reader::{decide, Refused};
 use crate::model::{codes, units, Code, Fault};
+use lipvezor::{calls, Refusal, UnitParts};
 
 /// Each byte of a few units with each value; each unit cut off at each length, and longer.
 pub fn altered(fault: Fault, random: &mut Random) -> Result<Stats, Difference> {
@@ -11,12 +14,15 @@ pub fn altered(fault: Fault, random: &mut Random) -> Result<Stats, Difference> {
     for (code, w) in [(&codes::C1, 3), (&codes::C2, 1), (&codes::C1, 200)] {
         let mut reader = Reader::new(code, w, fault);
         for lwc in [1, code.k, code.k + 1, code.n] {
-            let plain = reader.draft(lwc, random);
+            let mut plain = reader.draft(lwc, random);
+            // Where a larger length takes in the symbol, a fifth number begins with 80.
+            plain.symbol[0] = 0x80;
             let mut dressed = plain.clone();
-            dressed.extensions[0].length = padded_sdnv(dressed.extensions[0].value.len(), 2);
-            dressed.extensions.insert(0, Extension::new(7, vec![1, 2, 3]));
+            dressed.extensions.insert(0, Extension::new(7, vec![1; 128]));
             dressed.extensions.push(Extension::new(254, vec![0x80; 4]));
-            for draft in [plain, dressed] {
+            let mut padded = plain.clone();
+            padded.extensions[0].length.insert(0, 0x80);
+            for draft in [plain, dressed, padded] {
                 let unit = draft.bytes();
                 reader.compare(&unit)?;
                 for length in 0..unit.len() {
@@ -39,7 +45,7 @@ pub fn altered(fault: Fault, random: &mut Random) -> Result<Stats, Difference> {
     Ok(stats)
 }
 
-/// Forms of a number: shortest and padded to five bytes, then too long, too large, and unfinished.
+/// Forms of a number: shortest, padded up to seven bytes, and unfinished.
 fn forms(value: usize) -> Vec<Vec<u8>> {
     let shortest = units::sdnv(value).len();
     let mut forms: Vec<Vec<u8>> = (0..=7 - shortest).map(|zeros| padded_sdnv(value, zeros)).collect();
@@ -129,29 +135,13 @@ pub fn counts(fault: Fault, random: &mut Random) -> Result<Stats, Difference> {
     Ok(reader.stats)
 }
 
-/// Random lists of extensions, from readable to nonsense.
+/// Random units, from readable to nonsense.
 pub fn random_units(rounds: usize, fault: Fault, random: &mut Random) -> Result<Stats, Difference> {
     let mut stats = Stats::default();
     for (code, w) in [(&codes::C1, 1), (&codes::C1, 16), (&codes::C2, 2)] {
         let mut reader = Reader::new(code, w, fault);
         for _ in 0..rounds {
-            let lwc = random.below(code.n + 3);
-            let mut draft = reader.draft(lwc, random);
-            draft.extensions = (0..1 + random.below(4)).map(|_| any_extension(code, w, random)).collect();
-            if random.chance(0.1) {
-                draft.count = Some(random.below(6) as u8);
-            }
-            if random.chance(0.05) {
-                draft.symbol.truncate(random.below(w + 1));
-            }
-            reader.compare(&draft.bytes())?;
-        }
-        for _ in 0..rounds / 4 {
-            let mut unit = vec![0; random.below(40)];
-            random.fill(&mut unit);
-            if random.chance(0.8) {
-                unit.splice(..unit.len().min(2), [0x1A, 1 + random.below(3) as u8]);
-            }
+            let unit = any_unit(&reader, code, w, random);
             reader.compare(&unit)?;
         }
         stats += reader.stats;
@@ -159,10 +149,73 @@ pub fn random_units(rounds: usize, fault: Fault, random: &mut Random) -> Result<
     Ok(stats)
 }
 
+/// Of random units: whatever comes after the byte that decides, the answer stays; cut off before it, the unit ends early.
+pub fn deciding_bytes(rounds: usize, random: &mut Random) -> Result<Stats, Difference> {
+    let (code, w) = (&codes::C1, 3);
+    let reader = Reader::new(code, w, Fault::None);
+    let mut stats = Stats::default();
+    for _ in 0..rounds {
+        let unit = any_unit(&reader, code, w, random);
+        stats.count_read(decided(&unit, random)?);
+    }
+    Ok(stats)
+}
+
+fn decided(unit: &[u8], random: &mut Random) -> Result<Result<UnitParts, u8>, Difference> {
+    let (answer, needed) = match decide(unit) {
+        Ok(parts) => (Ok(parts), parts.symbol),
+        Err(Refused { number, at }) => (Err(number), unit.len().min(at + 1)),
+    };
+    let mut other = unit.to_vec();
+    for _ in 0..4 {
+        fill(&mut other[needed..], random);
+        same(calls::read(&other).map_err(Refusal::number), answer, || format!("read of {other:02X?}, {needed} bytes as in {unit:02X?}"))?;
+    }
+    for cut in 0..needed {
+        let early = if cut < 6 { 5 } else { 6 };
+        same(calls::read(&unit[..cut]).map_err(Refusal::number), Err(early), || format!("read of {cut} bytes of {unit:02X?}"))?;
+    }
+    Ok(answer)
+}
+
+/// A list of extensions, or noise.
+fn any_unit(reader: &Reader, code: &Code, w: usize, random: &mut Random) -> Vec<u8> {
+    if random.chance(0.2) {
+        return noise(random);
+    }
+    let mut draft = reader.draft(random.below(code.n + 3), random);
+    draft.extensions = (0..1 + random.below(4)).map(|_| any_extension(code, w, random)).collect();
+    if random.chance(0.1) {
+        draft.count = Some(random.below(6) as u8);
+    }
+    if random.chance(0.05) {
+        draft.symbol.truncate(random.below(w + 1));
+    }
+    draft.bytes()
+}
+
+fn noise(random: &mut Random) -> Vec<u8> {
+    let mut unit = vec![0; random.below(40)];
+    fill(&mut unit, random);
+    if random.chance(0.8) {
+        unit.splice(..unit.len().min(2), [0x1A, 1 + random.below(3) as u8]);
+    }
+    unit
+}
+
+/// Any bytes, or edge bytes.
+fn fill(bytes: &mut [u8], random: &mut Random) {
+    if random.chance(0.5) {
+        random.fill(bytes);
+    } else {
+        bytes.iter_mut().for_each(|byte| *byte = EDGES[random.below(EDGES.len())]);
+    }
+}
+
 fn any_extension(code: &Code, w: usize, random: &mut Random) -> Extension {
     let kind = [1, 1, 2, 254, 1 + random.below(254) as u8, random.below(256) as u8][random.below(6)];
     let value = if kind == 1 || random.chance(0.2) {
-        let mut numbers = [w, code.k, code.n, 0].map(|number| padded_sdnv(number, random.below(3)));
+        let mut numbers = [w, code.k, code.n, 0].map(|number| some_form(number, random));
         if random.chance(0.2) {
             numbers[random.below(4)] = any_sdnv(random);
         }
@@ -174,11 +227,17 @@ fn any_extension(code: &Code, w: usize, random: &mut Random) -> Extension {
     };
     let length = match random.below(20) {
         0 => any_sdnv(random),
-        1 => padded_sdnv(value.len() + 1, random.below(3)),
-        2 => padded_sdnv(value.len().saturating_sub(1), random.below(3)),
-        _ => padded_sdnv(value.len(), random.below(6)),
+        1 => some_form(value.len() + 1, random),
+        2 => some_form(value.len().saturating_sub(1), random),
+        _ => some_form(value.len(), random),
     };
     Extension { kind, length, value }
+}
+
+/// Seldom padded.
+fn some_form(number: usize, random: &mut Random) -> Vec<u8> {
+    let zeros = if random.chance(0.03) { 1 + random.below(5) } else { 0 };
+    padded_sdnv(number, zeros)
 }
 
 fn any_sdnv(random: &mut Random) -> Vec<u8> {

@@ -1,11 +1,22 @@
 //! Units written, read, shown and taken.
-use super::drafts::Draft;
+use super::drafts::{Draft, Extension};
 use super::random::Random;
 use super::suite::WIDTHS;
 use super::{same, same_buffer, Difference, Stats};
 use crate::model::refusals::Record;
-use crate::model::{calls as model, units, Code, Fault};
-use lipvezor::{calls, Refusal};
+use crate::model::{byte_reader, calls as model, units, Code, Fault};
+use lipvezor::{calls, Parameters, Refusal, UnitParts};
+
+/// Reads a unit by itself, in the archive and with both readers of the model. Coding parameters have one form.
+pub fn read(unit: &[u8], fault: Fault) -> Result<Result<UnitParts, u8>, Difference> {
+    let answer = calls::read(unit).map_err(Refusal::number);
+    same(answer, units::read(unit, fault), || format!("read of {unit:02X?}"))?;
+    same(answer, byte_reader::read(unit), || format!("read byte by byte of {unit:02X?}"))?;
+    if let Ok(UnitParts { count: 1, symbol, coding: Some(Parameters { w, k, n, seed }), .. }) = answer {
+        same_buffer(&unit[6..symbol], &Extension::coding([w, k, n, seed]).bytes(), || format!("form of {unit:02X?}"))?;
+    }
+    Ok(answer)
+}
 
 /// Reads units by themselves and takes them into a standing block.
 pub struct Reader {
@@ -41,7 +52,7 @@ impl Reader {
     }
 
     pub fn compare(&mut self, unit: &[u8]) -> Result<(), Difference> {
-        same(calls::read(unit).map_err(Refusal::number), units::read(unit), || format!("read of {unit:02X?}"))?;
+        let readable = read(unit, self.fault)?.is_ok();
         let Record { code, w, protocol, lsc } = self.record;
         let taken = calls::take(lipvezor::Code(code), w, protocol, lsc, &mut self.symbols, &mut self.marks, unit).map_err(Refusal::number);
         let expected = model::take(self.record, &mut self.expected_symbols, &mut self.expected_marks, unit, self.fault);
@@ -50,6 +61,7 @@ impl Reader {
         same_buffer(&self.marks, &self.expected_marks, || format!("marks after {}", name()))?;
         same_buffer(&self.symbols, &self.expected_symbols, || format!("symbols after {}", name()))?;
         self.stats.units += 1;
+        self.stats.readable += usize::from(readable);
         self.stats.count_taken(taken);
         Ok(())
     }

@@ -1,4 +1,4 @@
-//! The errors seen elsewhere, each of which the model can be given on purpose.
+//! The errors seen elsewhere and wrong readings of extensions, each of which the model can be given on purpose.
 
 #[derive(Clone, Copy, Debug, Default, PartialEq, Eq)]
 pub enum Fault {
@@ -14,10 +14,35 @@ pub enum Fault {
     Row0JoinedToLast,
     /// LWC k is p_0, k + 1 is p_1, and so on.
     LwcKAsParity,
+    /// Leading zero groups of a number are read.
+    LeadingZerosRead,
+    /// `80` is refused inside a number, too.
+    ZeroInsideRefused,
+    /// A number whose fifth byte isn't its last: 6.
+    TooLongSaid6,
+    /// A number cut off after four bytes: 19.
+    CutAfterFourSaid19,
+    /// A number cut off by the end of type 1's value: 6.
+    CutByValueSaid6,
+    /// A second type 1 is read, then refused.
+    SecondType1Read,
+    /// A fifth number is read, then refused.
+    FifthNumberRead,
 }
 
 impl Fault {
-    /// The five, without none.
+    /// The five errors seen.
     pub const SEEN: [Fault; 5] =
         [Fault::GivesUpAboveM, Fault::ZeroSaidWhole, Fault::AmbiguousFirst, Fault::Row0JoinedToLast, Fault::LwcKAsParity];
+
+    /// The wrong readings.
+    pub const MISREAD: [Fault; 7] = [
+        Fault::LeadingZerosRead,
+        Fault::ZeroInsideRefused,
+        Fault::TooLongSaid6,
+        Fault::CutAfterFourSaid19,
+        Fault::CutByValueSaid6,
+        Fault::SecondType1Read,
+        Fault::FifthNumberRead,
+    ];
 }

@@ -2,6 +2,7 @@
 #![allow(dead_code)]
 
 pub mod blocks;
+pub mod byte_reader;
 pub mod calls;
 pub mod closing;
 pub mod codes;

@@ -53,9 +53,9 @@ impl Record {
         Ok(code)
     }
 
-    /// 5 to 10, for a record that `checked` lets pass.
+    /// 5 to 10, 19 and 20, for a record that `checked` lets pass.
     pub fn admit(&self, code: &Code, unit: &[u8], fault: Fault) -> Result<Admitted, u8> {
-        let parts = units::read(unit)?;
+        let parts = units::read(unit, fault)?;
         let coding = parts.coding.ok_or(7)?;
         refuse_if([coding.w, coding.k, coding.n, coding.seed] != [self.w, code.k, code.n, 0], 7)?;
         refuse_if(parts.lsc != self.lsc || parts.protocol != self.protocol, 8)?;

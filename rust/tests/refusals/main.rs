@@ -9,3 +9,10 @@ mod close;
 mod open;
 mod sending;
 mod take;
+
+use lipvezor::Refusal;
+
+#[test]
+fn order() {
+    assert_eq!(Refusal::ALL.map(Refusal::number), edits::ORDER.concat()[..]);
+}

@@ -41,28 +41,25 @@ stays-to s i count h e =
     let n : i + 1 + (count - (i + 1)) ≡ count = omega arith in
     sym (rw n at (stays s (i + 1) (count - (i + 1)) e))
 
--- one extension more: passed over, the first of type 1, another of type 1, or refused
+-- one extension more: passed over, of type 1, or refused
 module _ (s : List ℕ) (i : ℕ) (p : Parameters) (at : ℕ) where
   passed : (found : Bool) (end : ℕ) → extensionsOf s i ≡ answered (record { coding = carried found p; end = at })
-      → extensionAt s at ≡ answered (record { coding = none; end = end }) → extensionsOf s (i + 1) ≡ answered (record { coding = carried found p; end = end })
+      → extensionAt s found at ≡ answered (record { coding = none; end = end }) → extensionsOf s (i + 1) ≡ answered (record { coding = carried found p; end = end })
   unfolding extensionsOf
   passed true end e h = rw (add-one, e, h)
   passed false end e h = rw (add-one, e, h)
 
-  first : (found : Bool) (q : Parameters) (end : ℕ) → found ≡ false → extensionsOf s i ≡ answered (record { coding = carried found p; end = at })
-      → extensionAt s at ≡ answered (record { coding = some (fourAs q); end = end }) → extensionsOf s (i + 1) ≡ answered (record { coding = some (fourAs q); end = end })
+  coding : (found : Bool) (q : Parameters) (end : ℕ) → extensionsOf s i ≡ answered (record { coding = carried found p; end = at })
+      → extensionAt s found at ≡ answered (record { coding = some (fourAs q); end = end }) → extensionsOf s (i + 1) ≡ answered (record { coding = some (fourAs q); end = end })
   unfolding extensionsOf
-  first found q end f e h = rw (add-one, e, f, h)
-
-  another : (found : Bool) (q : Parameters) (end : ℕ) → found ≡ true → extensionsOf s i ≡ answered (record { coding = carried found p; end = at })
-      → extensionAt s at ≡ answered (record { coding = some (fourAs q); end = end }) → extensionsOf s (i + 1) ≡ refused 6
-  unfolding extensionsOf
-  another found q end f e h = rw (add-one, e, f, h)
+  coding true q end e h = rw (add-one, e, h)
+  coding false q end e h = rw (add-one, e, h)
 
   none-read : (found : Bool) {number : ℕ} → extensionsOf s i ≡ answered (record { coding = carried found p; end = at })
-      → extensionAt s at ≡ refused number → extensionsOf s (i + 1) ≡ refused number
+      → extensionAt s found at ≡ refused number → extensionsOf s (i + 1) ≡ refused number
   unfolding extensionsOf
-  none-read found e h = rw (add-one, e, h)
+  none-read true e h = rw (add-one, e, h)
+  none-read false e h = rw (add-one, e, h)
 
 -- what was read, by the walk's answer and by its extension
 told : {r : Walk} {o : Outcome Said} {x y : Extension} {end : ℕ} → walkAs r ≡ o → r ≡ walk.To x end → x ≡ y → o ≡ answered (record { coding = extensionAs y; end = end })
@@ -84,19 +81,11 @@ enum-told c = search needs
 enum-known-x-2 : tie.Need-enum-known-x-2 Inv-loop μ-loop
 enum-known-x-2 c = search needs
 
-returns : tie.Need-returns Inv-loop μ-loop
-returns c =
-    let l = c .before .before .before .before .before .before .before .before .before .loop in
-    let s = c .before .before .before .before .before .before .before .before .before .before .before in
-    stays-to (s .args .s .now) (l .i) (s .args .count) (omega arith)
-    (another (s .args .s .now) (l .i) (l .p) (l .at) (l .found) _ _ (c .if1 .taken) (l .inv .1)
-    (told (c .before .before .before .before .before .before .before .read-extension .ensures) (c .before .before .before .before .before .x .given .1) (c .before .before .x2 .given .1)))
-
 enum-known-r : tie.Need-enum-known-r Inv-loop μ-loop
 enum-known-r c = search needs
 
-returns-2 : tie.Need-returns-2 Inv-loop μ-loop
-returns-2 c =
+returns : tie.Need-returns Inv-loop μ-loop
+returns c =
     let l = c .before .before .before .before .before .loop in
     let s = c .before .before .before .before .before .before .before in
     stays-to (s .args .s .now) (l .i) (s .args .count) (omega arith)
@@ -118,8 +107,8 @@ loop-again c =
       ⊎-elim
           (λ a. passed s (l .i) (l .p) (l .at) (l .found) _ (l .inv .1) (told (r .ensures) (x .given .1) (a .1 .given .1))
           ∙ sym (ap₂ (λ (f : Bool) (p : Parameters). answered (record { coding = carried f p; end = x .given .0 .1 .0 })) (a .2) (a .3)))
-          (λ a. first s (l .i) (l .p) (l .at) (l .found) _ _ (a .3 .left) (l .inv .1) (told (r .ensures) (x .given .1) (a .1 .given .1))
-          ∙ sym (ap₂ (λ (f : Bool) (p : Parameters). answered (record { coding = carried f p; end = x .given .0 .1 .0 })) (a .4) (a .5)))
+          (λ a. coding s (l .i) (l .p) (l .at) (l .found) _ _ (l .inv .1) (told (r .ensures) (x .given .1) (a .1 .given .1))
+          ∙ sym (ap₂ (λ (f : Bool) (p : Parameters). answered (record { coding = carried f p; end = x .given .0 .1 .0 })) (a .3) (a .4)))
           (c .match2 .came),
     )
 
@@ -128,17 +117,17 @@ ended : (s : List ℕ) (i count at : ℕ) (found : Bool) (p : Parameters) (o : O
     → extensionsOf s i ≡ answered (record { coding = carried found p; end = at }) → answered (record { coding = o; end = at }) ≡ extensionsOf s count
 ended s i count at found p o e z h = sym (ap (extensionsOf s) (sym e) ∙ h ∙ ap (λ (v : Option Coding). answered (record { coding = v; end = at })) z)
 
+returns-2 : tie.Need-returns-2 Inv-loop μ-loop
+returns-2 c =
+    let l = c .before .before .loop in
+    let s = c .before .before .before .before in
+    ended (s .args .s .now) (l .i) (s .args .count) (l .at) (l .found) (l .p) _ (omega arith) (ap (λ (f : Bool). carried f (l .p)) (c .if1 .taken)) (l .inv .1)
+
 returns-3 : tie.Need-returns-3 Inv-loop μ-loop
 returns-3 c =
     let l = c .before .before .loop in
     let s = c .before .before .before .before in
-    ended (s .args .s .now) (l .i) (s .args .count) (l .at) (l .found) (l .p) _ (omega arith) (ap (λ (f : Bool). carried f (l .p)) (c .if2 .taken)) (l .inv .1)
-
-returns-4 : tie.Need-returns-4 Inv-loop μ-loop
-returns-4 c =
-    let l = c .before .before .loop in
-    let s = c .before .before .before .before in
-    ended (s .args .s .now) (l .i) (s .args .count) (l .at) (l .found) (l .p) _ (omega arith) (ap (λ (f : Bool). carried f (l .p)) (c .if2 .left)) (l .inv .1)
+    ended (s .args .s .now) (l .i) (s .args .count) (l .at) (l .found) (l .p) _ (omega arith) (ap (λ (f : Bool). carried f (l .p)) (c .if1 .left)) (l .inv .1)
 
 pub walk-extensions-spec : {M : Type 1} → statement M
 walk-extensions-spec =
@@ -151,11 +140,10 @@ walk-extensions-spec =
     enum-known-x
     enum-told
     enum-known-x-2
-    returns
     enum-known-r
-    returns-2
+    returns
     add-i
     loop-less
     loop-again
-    returns-3
-    returns-4)
+    returns-2
+    returns-3)
