@@ -128,12 +128,15 @@ value-decided : (u : List ℕ) (type a e : ℕ) → e ≡ length u → Decided u
 unfolding valueOf
 value-decided u type a e l = by-test (Decided u) (eqb type 1) (λ t. coding-decided u e (codingOf (part u a e)) l (coding-not-6 (part u a e))) (λ t. l)
 
+wrong-type : (s : List ℕ) (came : Bool) (at : ℕ) → at < length s → wrongType came (getD s at 0) ≡ true → extensionAt s came at ≡ refused 20
+unfolding extensionAt
+wrong-type s came at h t = rw (lt-leb _ _ h, t)
+
 -- a type 0 after the last byte
 zero-type : (s : List ℕ) (came : Bool) (at : ℕ) → at ≡ length s → extensionAt (s ++ (0 ∷ [])) came at ≡ refused 20
-unfolding extensionAt wrongType
+unfolding wrongType
 zero-type s came at e =
-    let l : at < length (s ++ (0 ∷ [])) = rw length-append (omega arith) in
-    rw (lt-leb _ _ l, e, getD-append-seam s 0 [] 0)
+    wrong-type (s ++ (0 ∷ [])) came at (rw length-append (omega arith)) (rw (e, getD-append-seam s 0 [] 0))
 
 not-6-of : {A : Type 0} (r : Outcome A) → Not6 r → r ≡ refused 6 → ⊥
 not-6-of (refused number) n e = let z : number ≡ 6 = cc in n z
@@ -175,10 +178,6 @@ module _ (s : List ℕ) (came : Bool) (at : ℕ) (here : at < length s) (type : 
       let r : numberAt (s ++ ones) (at + 1) ≡ wrong = too-long s 5 0 (at + 1) (omega arith) (omega arith) q in
       (ones, subst (Decided (s ++ ones)) (sym (wrong-length (s ++ ones) came at (here-too ones) (type-too ones) r)) (λ z. omega arith))
   by-number wrong q = absurd (not-6-of {A = Said} (refused 19) (λ z. omega arith) (sym (wrong-length s came at here type q) ∙ e))
-
-wrong-type : (s : List ℕ) (came : Bool) (at : ℕ) → at < length s → wrongType came (getD s at 0) ≡ true → extensionAt s came at ≡ refused 20
-unfolding extensionAt
-wrong-type s came at h t = rw (lt-leb _ _ h, t)
 
 extension-later : (s : List ℕ) (came : Bool) (at : ℕ) → at ≤ length s → extensionAt s came at ≡ refused 6 → Later s (λ u. extensionAt u came at)
 extension-later s came at l e = go (decLt at (length s))

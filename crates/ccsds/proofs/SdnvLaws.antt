@@ -3,7 +3,7 @@
 use mathlib.Core.Path.{_≡_, _∙_, sym, ap, refl, subst}
 use mathlib.Core.Bool.{Bool, true, false, cond, _&&_, false≢true}
 use mathlib.Core.List.{List}
-use Prim.Native.Nat.{ℕ, zero, suc, _+_, _-_, _*_, _^_, _≤_, _<_}
+use Prim.Native.Nat.{ℕ, zero, suc, _+_, _-_, _*_, _%_, _^_, _≤_, _<_}
 use native.Mathlib.Nat.{lt-of-lt-of-le}
 use native.Mathlib.Omega.{arith}
 use lib.Dec.{eqb, leb, ltb}
@@ -118,3 +118,27 @@ within (suc more) v s at =
 
 pub is-fine : (s : List ℕ) (at : ℕ) {x : Number} → numberAt s at ≡ finished x → Fine s at x
 is-fine s at e = subst (Within s at) e (within 5 0 s at)
+
+-- ---- i bytes before, and those that are read, have room for the number
+
+abbrev pub Room : ℕ → ℕ → Reading → Type 0
+Room i at (finished x) = (at < x .end) × (x .value < 2 ^ (7 * (i + (x .end - at))))
+Room i at unfinished = Unit {0}
+Room i at wrong = Unit {0}
+
+one-less : (i at : ℕ) (r : Reading) → Room (i + 1) (at + 1) r → Room i at r
+one-less i at (finished x) h =
+    let e : i + 1 + (x .end - (at + 1)) ≡ i + (x .end - at) = omega (arith, h .0) in
+    (omega (arith, h .0), rw e at (h .1))
+one-less i at unfinished h = tt
+one-less i at wrong h = tt
+
+pub room : (more i v : ℕ) (s : List ℕ) (at : ℕ) → v < 2 ^ (7 * i) → Room i at (sdnvFrom more v s at)
+unfolding sdnvFrom
+room zero i v s at h = tt
+room (suc more) i v s at h =
+    let g = grows v i (getD s at 0 % 128) h (omega arith) in
+    let e : i + 1 ≡ i + (at + 1 - at) = omega arith in
+    by-byte (Room i at) more v s at tt tt
+    (λ l b m. (omega arith, rw e at g))
+    (λ l n b. one-less i at (sdnvFrom more (longer v (getD s at 0)) s (at + 1)) (room more (i + 1) (longer v (getD s at 0)) s (at + 1) g))

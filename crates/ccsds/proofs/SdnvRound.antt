@@ -1,6 +1,6 @@
 -- What is written as an SDNV is read back, wherever it stands, and no other bytes are read as the same number.
 -- Assumes nothing.
-use mathlib.Core.Path.{_≡_, _∙_, sym, ap, refl, subst}
+use mathlib.Core.Path.{_≡_, _∙_, ap, refl, subst}
 use mathlib.Core.Bool.{Bool, true, false, cond}
 use mathlib.Core.List.{List, [], _∷_, _++_, append-assoc}
 use Prim.Native.Nat.{ℕ, zero, suc, _+_, _-_, _*_, _/_, _%_, _^_, _≤_, _<_}
@@ -12,8 +12,8 @@ use borrow.Author.Tests.{eqb-true, eqb-false, eq-eqb, ne-eqb}
 use Rattle.ccsds.specs.Sdnv.{Reading, finished, unfinished, wrong, longer, sdnvFrom, group, sdnvBytes}
 use Rattle.ccsds.specs.Reader.{part}
 use Rattle.ccsds.specs.UnitClaims.{ReadsBack, OfBytes, OneForm, Shortest}
-use Rattle.ccsds.proofs.PartLaws.{part-length, part-cons}
-use Rattle.ccsds.proofs.SdnvLaws.{last-byte, goes-on, not-zero, grows, small, by-byte, Within, within, is-fine}
+use Rattle.ccsds.proofs.PartLaws.{part-cons}
+use Rattle.ccsds.proofs.SdnvLaws.{last-byte, goes-on, not-zero, grows, small, by-byte, Within, within, Room, room}
 
 -- ---- groups and lengths
 
@@ -190,13 +190,26 @@ unfolding heads group
 one-form s bytes at v end e =
     subst (Completes s bytes 0 at) e (completes s bytes 5 0 0 at refl (omega arith))
 
+-- ---- no fewer
+
+-- j bytes are enough for a number below 2 ^ (7 * j)
+enough : (v j : ℕ) → 0 < j → v < 2 ^ (7 * j) → length (sdnvBytes v) ≤ j
+enough v zero h k = absurd (omega arith)
+enough v (suc zero) h k =
+    omega (arith, bytes-length v, none (v / 268435456) (omega arith), none (v / 2097152) (omega arith), none (v / 16384) (omega arith), none (v / 128) (omega arith))
+enough v (suc (suc zero)) h k =
+    omega (arith, bytes-length v, none (v / 268435456) (omega arith), none (v / 2097152) (omega arith), none (v / 16384) (omega arith), few (v / 128))
+enough v (suc (suc (suc zero))) h k =
+    omega (arith, bytes-length v, none (v / 268435456) (omega arith), none (v / 2097152) (omega arith), few (v / 16384), few (v / 128))
+enough v (suc (suc (suc (suc zero)))) h k =
+    omega (arith, bytes-length v, none (v / 268435456) (omega arith), few (v / 2097152), few (v / 16384), few (v / 128))
+enough v (suc (suc (suc (suc (suc j))))) h k = omega (arith, most-five v)
+
 pub shortest : Shortest
 shortest v = (
   most-five v,
-  λ s bytes at end e.
-      let f = is-fine s at e in
-      let n : at + (end - at) ≡ end = omega (arith, f .starts) in
-      let l : length (part s at (at + (end - at))) ≡ end - at = part-length s at (end - at) (omega (arith, f .ends)) in
-      let o : length (sdnvBytes v) ≡ end - at = ap length (sym (one-form s bytes at v end e)) ∙ rw n at l in
-      omega (arith, f .starts),
+  λ s at end e.
+      let r = subst (Room 0 at) e (room 5 0 0 s at (omega arith)) in
+      let z : 0 + (end - at) ≡ end - at = omega arith in
+      omega (arith, enough v (end - at) (omega (arith, r .0)) (rw z at (r .1)), r .0),
 )

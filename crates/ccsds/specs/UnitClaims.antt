@@ -31,12 +31,11 @@ abbrev pub OneForm : Type 0
 OneForm =
     (s : List ℕ) → OfBytes s → (at v end : ℕ) → numberAt s at ≡ finished (record { value = v; end = end }) → part s at end ≡ sdnvBytes v
 
--- so it has at most five bytes, and no bytes that are read as the same number are fewer
+-- it has at most five bytes, and no bytes that are read as the same number are fewer
 abbrev pub Shortest : Type 0
 Shortest =
     (v : ℕ)
-    → (length (sdnvBytes v) ≤ 5)
-    × ((s : List ℕ) → OfBytes s → (at end : ℕ) → numberAt s at ≡ finished (record { value = v; end = end }) → at + length (sdnvBytes v) ≤ end)
+    → (length (sdnvBytes v) ≤ 5) × ((s : List ℕ) (at end : ℕ) → numberAt s at ≡ finished (record { value = v; end = end }) → at + length (sdnvBytes v) ≤ end)
 
 -- The first byte that can't be accepted decides: what a unit's bytes say, read or refused, stays so whatever bytes come after them, unless
 -- they ended early.
