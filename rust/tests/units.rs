@@ -32,6 +32,31 @@ fn written_units() {
     }
 }
 
+/// Widths about the borders of what a copy may do at once, and of the bytes that W takes.
+#[test]
+fn written_units_of_every_lwc() {
+    let mut random = compare::seeded();
+    for code in codes::BOTH {
+        let mut stats = Stats::default();
+        for w in [1, 15, 16, 17, 31, 127, 128, 1023, 1024] {
+            stats += units::written_at(code, w, 1..=code.n, &mut random).unwrap();
+        }
+        assert_eq!(report("every LWC", Ok(stats)).readable, 9 * code.n);
+    }
+}
+
+#[test]
+fn written_units_of_every_width() {
+    let mut random = compare::seeded();
+    for code in codes::BOTH {
+        let mut stats = Stats::default();
+        for w in 1..=1024 {
+            stats += units::written_at(code, w, [1, code.k, code.k + 1, code.n], &mut random).unwrap();
+        }
+        assert_eq!(report("every width", Ok(stats)).readable, 4 * 1024);
+    }
+}
+
 #[test]
 fn shown_symbols() {
     for code in codes::BOTH {

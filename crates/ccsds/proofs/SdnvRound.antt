@@ -44,26 +44,21 @@ pub bytes-length : (v : ℕ) → length (sdnvBytes v)
 unfolding sdnvBytes
 bytes-length v = simp length-append
 
--- the length, by how large the number is
-pub length-one : (v : ℕ) → v < 128 → 1 ≡ length (sdnvBytes v)
-length-one v h =
-    omega (arith, bytes-length v, none (v / 268435456) (omega arith), none (v / 2097152) (omega arith), none (v / 16384) (omega arith), none (v / 128) (omega arith))
+-- one byte and two
+pub in-one : (v : ℕ) → v < 128 → sdnvBytes v ≡ v ∷ []
+unfolding sdnvBytes
+in-one v h =
+    let e : v % 128 ≡ v = omega arith in
+    rw (nothing (v / 268435456) (omega arith), nothing (v / 2097152) (omega arith), nothing (v / 16384) (omega arith), nothing (v / 128) (omega arith), e)
 
-pub length-two : (v : ℕ) → 128 ≤ v → v < 16384 → 2 ≡ length (sdnvBytes v)
-length-two v l h =
-    omega (arith, bytes-length v, none (v / 268435456) (omega arith), none (v / 2097152) (omega arith), none (v / 16384) (omega arith), one (v / 128) (λ e. omega arith))
+pub in-two : (v : ℕ) → 128 ≤ v → v < 16384 → sdnvBytes v ≡ (128 + v / 128) ∷ v % 128 ∷ []
+unfolding sdnvBytes
+in-two v l h =
+    let e : v / 128 % 128 ≡ v / 128 = omega arith in
+    rw (nothing (v / 268435456) (omega arith), nothing (v / 2097152) (omega arith), nothing (v / 16384) (omega arith), alone (v / 128) (λ z. omega arith), e)
 
-pub length-three : (v : ℕ) → 16384 ≤ v → v < 2097152 → 3 ≡ length (sdnvBytes v)
-length-three v l h =
-    omega (arith, bytes-length v, none (v / 268435456) (omega arith), none (v / 2097152) (omega arith), one (v / 16384) (λ e. omega arith), one (v / 128) (λ e. omega arith))
-
-pub length-four : (v : ℕ) → 2097152 ≤ v → v < 268435456 → 4 ≡ length (sdnvBytes v)
-length-four v l h =
-    omega (arith, bytes-length v, none (v / 268435456) (omega arith), one (v / 2097152) (λ e. omega arith), one (v / 16384) (λ e. omega arith), one (v / 128) (λ e. omega arith))
-
-pub length-five : (v : ℕ) → 268435456 ≤ v → 5 ≡ length (sdnvBytes v)
-length-five v l =
-    omega (arith, bytes-length v, one (v / 268435456) (λ e. omega arith), one (v / 2097152) (λ e. omega arith), one (v / 16384) (λ e. omega arith), one (v / 128) (λ e. omega arith))
+pub two-long : (v : ℕ) → (128 ≤ v) × (v < 16384) → length (sdnvBytes v) ≡ 2
+two-long v h = ap length (in-two v (h .0) (h .1))
 
 pub most-five : (v : ℕ) → length (sdnvBytes v) ≤ 5
 most-five v = omega (arith, bytes-length v, few (v / 268435456), few (v / 2097152), few (v / 16384), few (v / 128))

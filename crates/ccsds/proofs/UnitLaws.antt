@@ -1,6 +1,6 @@
 -- The lengths of a unit and its parts, and what is known where a unit can be written.
 -- Assumes nothing.
-use mathlib.Core.Path.{_≡_, refl}
+use mathlib.Core.Path.{_≡_, ap, refl}
 use mathlib.Core.Bool.{false}
 use mathlib.Core.List.{List}
 use Prim.Native.Nat.{ℕ, _+_, _≤_, _<_}
@@ -10,13 +10,26 @@ use Rattle.ccsds.specs.Codes.{Params, nOf}
 use Rattle.ccsds.specs.Tables.{codeOf, Known}
 use Rattle.ccsds.specs.Refusals.{wrongCode, wrongWidth, wrongLabel, wrongLength, wrongPosition, wrongSymbol}
 use Rattle.ccsds.specs.Sdnv.{sdnvBytes}
+use Rattle.ccsds.specs.Put.{Compact}
 use Rattle.ccsds.specs.Writer.{headerOf, valueBytes, extensionOf, unitOf, symbolStart, unitLength, unitBytes, writeRefusal}
 use Rattle.ccsds.proofs.Refusals.{first-none, code-known, width-right, label-right, length-right, position-right, symbol-right}
-use Rattle.ccsds.proofs.SdnvRound.{most-five}
+use Rattle.ccsds.proofs.SdnvRound.{most-five, in-one, two-long}
+use Rattle.ccsds.proofs.Valid.{valid-of}
 
 pub value-length : (w k n : ℕ) → length (valueBytes w k n) ≡ length (sdnvBytes w) + length (sdnvBytes k) + length (sdnvBytes n) + length (sdnvBytes 0)
 unfolding valueBytes
 value-length w k n = simp length-append
+
+-- with k and n in two bytes each
+pub value-compact : (w k n : ℕ) → Compact w k n → length (valueBytes w k n) ≡ length (sdnvBytes w) + 5
+value-compact w k n c =
+    omega (arith, value-length w k n, two-long k (c .two-k), two-long n (c .two-n), ap length (in-one 0 (omega arith)))
+
+-- as they are in every code
+pub compact-of : (number w : ℕ) → Known number → w ≤ 1024 → Compact w (codeOf number .k) (nOf (codeOf number))
+compact-of number w h l =
+    let v = valid-of number h in
+    record { few-w = omega arith; two-k = (v .some-k, omega (arith, v .few)); two-n = (omega (arith, v .some-k), omega (arith, v .few)) }
 
 pub value-most : (w k n : ℕ) → length (valueBytes w k n) ≤ 20
 value-most w k n = omega (arith, value-length w k n, most-five w, most-five k, most-five n, most-five 0)

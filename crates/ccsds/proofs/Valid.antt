@@ -39,6 +39,7 @@ pub record Valid (c : Params) : Type 0 where
   pub some-q : 0 < c .q
   pub whole : length (c .rows) * c .q ≡ c .k
   pub step : c .q * c .a ≡ c .m
+  pub some-k : 128 ≤ c .k
   pub few : nOf c ≤ 3072
   pub packed : 64 * (nOf c / 64) ≡ nOf c
   pub few-rows : c .m ≤ 1024
@@ -47,7 +48,7 @@ pub record Valid (c : Params) : Type 0 where
 -- the tests of a code
 abbrev tests : Params → List Bool
 tests c =
-    ltb 0 (c .m) ∷ ltb 0 (c .q) ∷ eqb (length (c .rows) * c .q) (c .k) ∷ eqb (c .q * c .a) (c .m) ∷ leb (c .k + c .m) 3072
+    ltb 0 (c .m) ∷ ltb 0 (c .q) ∷ eqb (length (c .rows) * c .q) (c .k) ∷ eqb (c .q * c .a) (c .m) ∷ leb 128 (c .k) ∷ leb (c .k + c .m) 3072
     ∷ eqb (64 * (nOf c / 64)) (nOf c) ∷ leb (c .m) 1024 ∷ tested c ∷ []
 
 abbrev passes : Params → Bool
@@ -60,13 +61,14 @@ valid c t =
       some-q = ltb→lt 0 (c .q) (one 1 (lit< tt));
       whole = eqb→eq (length (c .rows) * c .q) (c .k) (one 2 (lit< tt));
       step = eqb→eq (c .q * c .a) (c .m) (one 3 (lit< tt));
-      few = leb→le (c .k + c .m) 3072 (one 4 (lit< tt));
-      packed = eqb→eq (64 * (nOf c / 64)) (nOf c) (one 5 (lit< tt));
-      few-rows = leb→le (c .m) 1024 (one 6 (lit< tt));
-      table = one 7 (lit< tt);
+      some-k = leb→le 128 (c .k) (one 4 (lit< tt));
+      few = leb→le (c .k + c .m) 3072 (one 5 (lit< tt));
+      packed = eqb→eq (64 * (nOf c / 64)) (nOf c) (one 6 (lit< tt));
+      few-rows = leb→le (c .m) 1024 (one 7 (lit< tt));
+      table = one 8 (lit< tt);
     }
   where
-    one : (i : ℕ) → i < 8 → T (getD (tests c) i true)
+    one : (i : ℕ) → i < 9 → T (getD (tests c) i true)
     one i h = at (λ j b. b) true (tests c) t i h
 
 -- every code passes

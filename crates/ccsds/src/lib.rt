@@ -3,6 +3,7 @@ pub mod accumulate;
 pub mod big_endian;
 pub mod checks;
 pub mod code;
+mod copy;
 pub mod encode;
 mod put;
 pub mod reader;

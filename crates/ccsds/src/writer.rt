@@ -1,6 +1,7 @@
 // The unit writer.
 use crate::checks;
 use crate::code::Code;
+use crate::copy;
 use crate::put;
 ghost use mathlib.Core.Path.{_≡_};
 ghost use Prim.Native.Nat.{_+_, _<_, _≤_};
@@ -8,13 +9,14 @@ ghost use lib.ListN.{length};
 ghost use Rattle.ccsds.specs.Tables.{codeOf};
 ghost use Rattle.ccsds.specs.Refusals.{outcome, afterwards};
 ghost use Rattle.ccsds.specs.Writer.{headerOf, valueBytes, extensionOf, unitOf, unitBytes, writeRefusal, writtenAs};
-ghost use Rattle.ccsds.specs.Put.{Put};
+ghost use Rattle.ccsds.specs.Put.{Put, Compact};
 
-// The length of the coding parameters' value.
+// The length of the coding parameters' value: k and n have two bytes each in every code, and the seed has one.
 fn value_bytes(w: usize, k: usize, n: usize) -> usize
+    requires { ⌜ Compact w k n ⌝ }
     ensures { λ r. ⌜ r ≡ length (valueBytes w k n) ⌝ }
 {
-    put::sdnv_bytes(w) + put::sdnv_bytes(k) + put::sdnv_bytes(n) + put::sdnv_bytes(0)
+    put::sdnv_bytes(w) + 5
 }
 
 impl Code {
@@ -84,16 +86,18 @@ fn put_header(out: &mut [u8], protocol: usize, lsc: usize, lwc: usize) -> usize
 }
 
 fn put_value(out: &mut [u8], at: usize, w: usize, k: usize, n: usize) -> usize
+    requires { ⌜ Compact w k n ⌝ }
     requires { ⌜ at + length (valueBytes w k n) ≤ length (now out) ⌝ }
     ensures { λ r. ⌜ Put (now (out .entry)) (now (out .exit)) at r (valueBytes w k n) ⌝ }
 {
     let a = put::sdnv(out, at, w);
-    let b = put::sdnv(out, a, k);
-    let c = put::sdnv(out, b, n);
-    put::sdnv(out, c, 0)
+    let b = put::sdnv_2(out, a, k);
+    let c = put::sdnv_2(out, b, n);
+    put::byte(out, c, 0)
 }
 
 fn put_extension(out: &mut [u8], at: usize, w: usize, k: usize, n: usize) -> usize
+    requires { ⌜ Compact w k n ⌝ }
     requires { ⌜ at + length (extensionOf w k n) ≤ length (now out) ⌝ }
     ensures { λ r. ⌜ Put (now (out .entry)) (now (out .exit)) at r (extensionOf w k n) ⌝ }
 {
@@ -122,6 +126,6 @@ pub fn write(
     let c = Code { number: code };
     let a = put_header(out, protocol, lsc, lwc);
     let b = put_extension(out, a, w, c.k(), c.n());
-    put::bytes(out, b, symbol);
+    copy::symbol(out, b, symbol);
     Written::Done
 }

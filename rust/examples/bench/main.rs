@@ -222,11 +222,12 @@ fn compare_closes(b: &mut Receiving) -> (usize, usize) {
     (additions[0], additions[1])
 }
 
-/// A case's result, in MB/s.
+/// A case's result: how much in a second, and what is counted.
 struct Line {
     name: String,
     ours: f64,
     rust: f64,
+    unit: &'static str,
     simple: Option<f64>,
 }
 
@@ -237,7 +238,7 @@ impl Line {
     }
 
     fn print(&self, more: &str) {
-        println!("bench {} ours={:.1} rust={:.1} ratio={:.2} unit=MB/s{more}", self.name, self.ours, self.rust, self.ratio());
+        println!("bench {} ours={:.1} rust={:.1} ratio={:.2} unit={}{more}", self.name, self.ours, self.rust, self.ratio(), self.unit);
     }
 }
 
@@ -252,27 +253,39 @@ impl Bench {
         name.contains(&self.part)
     }
 
-    fn sending(&mut self, sent: &mut Sending) {
-        let megabytes = sent.information.len() as f64 / 1e6;
-        for (call, ours, rust) in [("encode", encode as fn(&mut Sending), encode_plain as fn(&mut Sending)), ("write", write, write_plain)] {
-            let name = format!("{call}/C{}/W{}", sent.code.0, sent.w);
-            if !self.wants(&name) {
-                continue;
-            }
-            ours(sent);
-            let by_ours = (sent.parity.clone(), sent.units.clone());
-            sent.parity.fill(0xA5);
-            if call == "write" {
-                sent.parity = by_ours.0.clone();
-                sent.units.fill(0xA5);
-            }
-            rust(sent);
-            assert!(by_ours.0 == sent.parity && by_ours.1 == sent.units, "{name}: ours and plain Rust's differ");
-            let seconds = alternate(sent, self.each, None, &[ours, rust]);
-            let line = Line { name, ours: megabytes / seconds[0], rust: megabytes / seconds[1], simple: None };
-            line.print("");
-            self.lines.push(line);
+    /// A case of two sides, from how much one run does, in millions, and each side's seconds for it.
+    fn line(&mut self, name: String, millions: f64, unit: &'static str, seconds: &[f64]) {
+        let line = Line { name, ours: millions / seconds[0], rust: millions / seconds[1], unit, simple: None };
+        line.print("");
+        self.lines.push(line);
+    }
+
+    fn encoding(&mut self, sent: &mut Sending) {
+        let name = format!("encode/C{}/W{}", sent.code.0, sent.w);
+        if !self.wants(&name) {
+            return;
         }
+        encode(sent);
+        let by_ours = sent.parity.clone();
+        sent.parity.fill(0xA5);
+        encode_plain(sent);
+        assert!(by_ours == sent.parity, "{name}: ours and plain Rust's differ");
+        let seconds = alternate(sent, self.each, None, &[encode, encode_plain]);
+        self.line(name, sent.information.len() as f64 / 1e6, "MB/s", &seconds);
+    }
+
+    fn writing(&mut self, sent: &mut Sending) {
+        let name = format!("write/C{}/W{}", sent.code.0, sent.w);
+        if !self.wants(&name) {
+            return;
+        }
+        write(sent);
+        let by_ours = sent.units.clone();
+        sent.units.fill(0xA5);
+        write_plain(sent);
+        assert!(by_ours == sent.units, "{name}: ours and plain Rust's differ");
+        let seconds = alternate(sent, self.each, None, &[write, write_plain]);
+        self.line(name, sent.code.n() as f64 / 1e6, "Munits/s", &seconds);
     }
 
     fn taking(&mut self, sent: &Sending) {
@@ -288,9 +301,7 @@ impl Bench {
         take_plain(&mut block);
         assert!(by_ours == (block.symbols.clone(), block.marks.clone()), "{name}: ours and plain Rust's differ");
         let seconds = alternate(&mut block, self.each, Some(open), &[take, take_plain]);
-        let line = Line { name, ours: megabytes / seconds[0], rust: megabytes / seconds[1], simple: None };
-        line.print("");
-        self.lines.push(line);
+        self.line(name, megabytes, "MB/s", &seconds);
     }
 
     fn closing(&mut self, sent: &Sending, percent: usize) {
@@ -319,7 +330,7 @@ impl Bench {
         }
         let mean = |side: usize| best.iter().map(|sides| sides[side]).sum::<f64>() / PATTERNS as f64;
         let [ours, rust, simple] = [mean(0), mean(1), mean(2)].map(|seconds| megabytes / seconds);
-        let line = Line { name, ours, rust, simple: Some(simple) };
+        let line = Line { name, ours, rust, unit: "MB/s", simple: Some(simple) };
         let counts = (additions.0 as f64 / PATTERNS as f64, additions.1 as f64 / PATTERNS as f64);
         line.print(&format!(" simple={simple:.1} additions={:.0} simple_additions={:.0}", counts.0, counts.1));
         self.lines.push(line);
@@ -358,9 +369,11 @@ fn main() {
         bench.each.as_millis()
     );
     for code in [Code::C1, Code::C2] {
+        bench.writing(&mut Sending::new(code, 1));
         for w in [16, 1024] {
             let mut sent = Sending::new(code, w);
-            bench.sending(&mut sent);
+            bench.encoding(&mut sent);
+            bench.writing(&mut sent);
             bench.taking(&sent);
             for percent in [0, 10, 50, 90, 97, 120] {
                 bench.closing(&sent, percent);

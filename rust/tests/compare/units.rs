@@ -90,18 +90,51 @@ pub fn written(code: &'static Code, fault: Fault, random: &mut Random) -> Result
     Ok(stats)
 }
 
+/// Writes random symbols of these LWCs. The LSC goes from 1 to 65534 as the LWC goes from 1 to n; the protocol ID goes round.
+pub fn written_at(code: &Code, w: usize, lwcs: impl IntoIterator<Item = usize>, random: &mut Random) -> Result<Stats, Difference> {
+    let mut stats = Stats::default();
+    for lwc in lwcs {
+        let lsc = 1 + (lwc - 1) * 65533 / (code.n - 1);
+        let unit = write(Record { code: code.number, w, protocol: (lwc + w) % 8, lsc }, lwc, Fault::None, random)?;
+        stats.count_read(units::read(&unit, Fault::None));
+    }
+    Ok(stats)
+}
+
+/// Bytes on either side of an output.
+const GUARD: usize = 64;
+
+/// Writes a random symbol twice, into the middle of bytes A5 and of bytes 5A; those on either side stay. Over LWCs, and over widths, the
+/// outputs start at all alignments of 16.
 fn write(record: Record, lwc: usize, fault: Fault, random: &mut Random) -> Result<Vec<u8>, Difference> {
     let Record { code, w, protocol, lsc } = record;
-    let code = lipvezor::Code(code);
-    let mut symbol = vec![0; w];
-    random.fill(&mut symbol);
-    let mut unit = vec![0xEE; code.unit_bytes(w)];
-    let mut expected = unit.clone();
-    let answer = calls::write(code, w, protocol, lsc, lwc, &symbol, &mut unit).map_err(Refusal::number);
-    let name = || format!("write of {record:?}, LWC {lwc}");
-    same(answer, model::write(record, lwc, &symbol, &mut expected, fault), name)?;
-    same_buffer(&unit, &expected, || format!("unit of {}", name()))?;
+    let bytes = unlike_neighbours(w + 15, random);
+    let symbol = &bytes[random.below(16)..][..w];
+    let size = units::write(Code::of_number(code).unwrap(), w, 1, 1, 1, symbol).len();
+    let mut unit = Vec::new();
+    for (filling, alignment) in [(0xA5, lwc + w), (0x5A, (lwc + w) / 16)] {
+        let mut buffer = vec![filling; GUARD + 15 + 15 + size + GUARD];
+        let mut expected = buffer.clone();
+        let start = GUARD + buffer[GUARD..].as_ptr().align_offset(16) + alignment % 16;
+        let output = start..start + size;
+        let answer =
+            calls::write(lipvezor::Code(code), w, protocol, lsc, lwc, symbol, &mut buffer[output.clone()]).map_err(Refusal::number);
+        let name = || format!("write of {record:?}, LWC {lwc}, to bytes {output:?} of a buffer");
+        same(answer, model::write(record, lwc, symbol, &mut expected[output.clone()], fault), name)?;
+        same_buffer(&buffer, &expected, name)?;
+        unit = buffer[output].to_vec();
+    }
     Ok(unit)
+}
+
+/// Random bytes, each unlike the one before it.
+fn unlike_neighbours(length: usize, random: &mut Random) -> Vec<u8> {
+    let mut byte = random.next() as u8;
+    let mut next = || {
+        byte = byte.wrapping_add(1 + random.below(255) as u8);
+        byte
+    };
+    (0..length).map(|_| next()).collect()
 }
 
 /// Shows every symbol of a block, and what is past its ends.

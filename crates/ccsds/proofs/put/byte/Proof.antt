@@ -1,5 +1,6 @@
 -- `ccsds::put::byte` meets its contract: a store is one byte put.
 -- Assumes nothing.
+use mathlib.Core.Path.{refl}
 use Rattle.ccsds.proofs.PutLaws.{put-one}
 use borrow.Author.Needs.{needs}
 use Rattle.ccsds.proofs.put.byte.Statement.{statement}
@@ -18,7 +19,7 @@ same-length : tie.Need-same-length
 same-length c = search needs
 
 returns : tie.Need-returns
-returns c = put-one _ _ _ (c .pre .0)
+returns c = put-one _ _ _ _ refl (c .pre .0)
 
 pub byte-spec : {M : Type 1} → statement M
 byte-spec = tie.close (tie.spec cast-out slice-write-out add-result same-length returns)

@@ -7,26 +7,26 @@ use lib.ListN.{length}
 use Rattle.ccsds.specs.Sdnv.{sdnvBytes}
 use Rattle.ccsds.specs.Writer.{extensionOf}
 use Rattle.ccsds.proofs.PutLaws.{then-put}
-use Rattle.ccsds.proofs.UnitLaws.{extension-length}
+use Rattle.ccsds.proofs.UnitLaws.{extension-length, value-most}
 use borrow.Author.Needs.{needs}
 use Rattle.ccsds.proofs.writer.put_extension.Statement.{statement}
 use Rattle.ccsds.proofs.writer.put_extension.Tie as tie
 
 byte-requires : tie.Need-byte-requires
-byte-requires c κs = omega (arith, extension-length (c .before .before .args .w) (c .before .before .args .k) (c .before .before .args .n), c .before .before .pre)
+byte-requires c κs = omega (arith, extension-length (c .before .before .args .w) (c .before .before .args .k) (c .before .before .args .n), c .before .before .pre .1)
 
 value-bytes-requires : tie.Need-value-bytes-requires
-value-bytes-requires c κs = search needs
+value-bytes-requires c κs = c .before .before .before .before .before .before .pre .0
 
 sdnv-requires : tie.Need-sdnv-requires
 sdnv-requires c κs =
     let e = ap (λ (v : ℕ). length (sdnvBytes v)) (c .value-bytes .ensures) in
-    omega (arith, extension-length (c .before .before .before .before .before .before .before .args .w) (c .before .before .before .before .before .before .before .args .k) (c .before .before .before .before .before .before .before .args .n), c .before .before .before .before .before .before .before .pre, c .before .before .before .before .byte .ensures, e)
+    (omega (arith, extension-length (c .before .before .before .before .before .before .before .args .w) (c .before .before .before .before .before .before .before .args .k) (c .before .before .before .before .before .before .before .args .n), c .before .before .before .before .before .before .before .pre .1, c .before .before .before .before .byte .ensures, e), omega (arith, value-most (c .before .before .before .before .before .before .before .args .w) (c .before .before .before .before .before .before .before .args .k) (c .before .before .before .before .before .before .before .args .n), c .value-bytes .ensures))
 
 put-value-requires : tie.Need-put-value-requires
 put-value-requires c κs =
     let e = ap (λ (v : ℕ). length (sdnvBytes v)) (c .before .before .before .before .value-bytes .ensures) in
-    omega (arith, extension-length (c .before .before .before .before .before .before .before .before .before .before .before .args .w) (c .before .before .before .before .before .before .before .before .before .before .before .args .k) (c .before .before .before .before .before .before .before .before .before .before .before .args .n), c .before .before .before .before .before .before .before .before .before .before .before .pre, c .before .before .before .before .before .before .before .before .byte .ensures, c .before .before .before .sdnv .ensures, e)
+    (c .before .before .before .before .before .before .before .before .before .before .before .pre .0, omega (arith, extension-length (c .before .before .before .before .before .before .before .before .before .before .before .args .w) (c .before .before .before .before .before .before .before .before .before .before .before .args .k) (c .before .before .before .before .before .before .before .before .before .before .before .args .n), c .before .before .before .before .before .before .before .before .before .before .before .pre .1, c .before .before .before .before .before .before .before .before .byte .ensures, c .before .before .before .sdnv .ensures, e))
 
 same-length : tie.Need-same-length
 same-length c = search needs

@@ -10,7 +10,7 @@ use Rattle.ccsds.specs.Writer.{extensionOf, unitOf, unitLength, symbolSt
 use Rattle.ccsds.proofs.Valid.{few-of}
 use Rattle.ccsds.proofs.Refusals.{refused-by, kept-by, not-refused, answered-by, changed-by}
 use Rattle.ccsds.proofs.PutLaws.{then-put, put-whole}
-use Rattle.ccsds.proofs.UnitLaws.{header-length, unit-length, Writable, writable}
+use Rattle.ccsds.proofs.UnitLaws.{header-length, compact-of, unit-length, Writable, writable}
 use borrow.Author.Needs.{needs}
 use Rattle.ccsds.proofs.writer.write.Statement.{statement}
 use Rattle.ccsds.proofs.writer.write.Tie as tie
@@ -47,11 +47,13 @@ n-requires c κs = search needs
 
 put-extension-requires : tie.Need-put-extension-requires
 put-extension-requires c κs =
-    omega (arith, room _ _ _ _ _ _ _ (ready (c .before .before .before .before .before .before .before)), ap length (extension c), c .before .before .before .before .before .put-header .ensures, header-length (c .before .before .before .before .before .before .before .before .before .before .before .args .protocol) (c .before .before .before .before .before .before .before .before .before .before .before .args .lsc) (c .before .before .before .before .before .before .before .before .before .before .before .args .lwc))
+    let r = ready (c .before .before .before .before .before .before .before) in
+    (rw (c .n .ensures, c .before .k .ensures) (compact-of _ _ (r .known) (r .width .1)), omega (arith, room _ _ _ _ _ _ _ r, ap length (extension c), c .before .before .before .before .before .put-header .ensures, header-length (c .before .before .before .before .before .before .before .before .before .before .before .args .protocol) (c .before .before .before .before .before .before .before .before .before .before .before .args .lsc) (c .before .before .before .before .before .before .before .before .before .before .before .args .lwc)))
 
-bytes-requires : tie.Need-bytes-requires
-bytes-requires c κs =
-    omega (arith, room _ _ _ _ _ _ _ (ready (c .before .before .before .before .before .before .before .before .before .before .before)), ap length (extension (c .before .before .before .before)), c .before .before .before .before .before .before .before .before .before .put-header .ensures, c .before .before .before .put-extension .ensures, header-length (c .before .before .before .before .before .before .before .before .before .before .before .before .before .before .before .args .protocol) (c .before .before .before .before .before .before .before .before .before .before .before .before .before .before .before .args .lsc) (c .before .before .before .before .before .before .before .before .before .before .before .before .before .before .before .args .lwc))
+symbol-requires : tie.Need-symbol-requires
+symbol-requires c κs =
+    let r = ready (c .before .before .before .before .before .before .before .before .before .before .before) in
+    (omega (arith, r .symbol, r .width .0), omega (arith, room _ _ _ _ _ _ _ r, ap length (extension (c .before .before .before .before)), c .before .before .before .before .before .before .before .before .before .put-header .ensures, c .before .before .before .put-extension .ensures, header-length (c .before .before .before .before .before .before .before .before .before .before .before .before .before .before .before .args .protocol) (c .before .before .before .before .before .before .before .before .before .before .before .before .before .before .before .args .lsc) (c .before .before .before .before .before .before .before .before .before .before .before .before .before .before .before .args .lwc)))
 
 same-length : tie.Need-same-length
 same-length c = search needs
@@ -62,7 +64,7 @@ returns-2 c =
     let a = c .before .before .before .before .before .before .before .before .before .before .before .before .before .before .before .before .before .before .args in
     let e = c .before .before .before .before .before .before .before .before .before .before .before .before .before .before .before .check-write .ensures in
     let z = c .before .before .before .before .before .before .before .before .before .before .before .before .before .before .if1 .left in
-    let u = then-put (then-put (c .before .before .before .before .before .before .before .before .before .before .before .before .put-header .ensures) (rw (extension (c .before .before .before .before .before .before .before)) at (c .before .before .before .before .before .before .put-extension .ensures))) (c .before .before .bytes .ensures) in
+    let u = then-put (then-put (c .before .before .before .before .before .before .before .before .before .before .before .before .put-header .ensures) (rw (extension (c .before .before .before .before .before .before .before)) at (c .before .before .before .before .before .before .put-extension .ensures))) (c .before .before .symbol .ensures) in
     let l = unit-length (codeOf (a .code)) (a .w) (a .protocol) (a .lsc) (a .lwc) (a .symbol .now) ∙ sym (room _ _ _ _ _ _ _ (ready (c .before .before .before .before .before .before .before .before .before .before .before .before .before .before))) in
     (answered-by _ _ e z tt, put-whole u l ∙ changed-by _ _ e z _ _)
 
@@ -76,6 +78,6 @@ write-spec =
     k-requires
     n-requires
     put-extension-requires
-    bytes-requires
+    symbol-requires
     same-length
     returns-2)

@@ -11,9 +11,9 @@ use Rattle.ccsds.specs.Tables.{codeOf}
 use Rattle.ccsds.specs.Refusals.{wrongCode, wrongWidth}
 use Rattle.ccsds.specs.Sdnv.{sdnvBytes}
 use Rattle.ccsds.specs.Writer.{valueBytes, unitLength, unitBytes}
-use Rattle.ccsds.proofs.Refusals.{width-right}
+use Rattle.ccsds.proofs.Refusals.{code-known, width-right}
 use Rattle.ccsds.proofs.SdnvRound.{most-five}
-use Rattle.ccsds.proofs.UnitLaws.{extension-length, value-most, unit-right}
+use Rattle.ccsds.proofs.UnitLaws.{extension-length, value-most, compact-of, unit-right}
 use borrow.Author.Needs.{needs}
 use Rattle.ccsds.proofs.code.Code.unit_bytes.Statement.{statement}
 use Rattle.ccsds.proofs.code.Code.unit_bytes.Tie as tie
@@ -57,10 +57,11 @@ n-requires : tie.Need-n-requires
 n-requires c κs = search needs
 
 value-bytes-requires : tie.Need-value-bytes-requires
-value-bytes-requires c κs = search needs
+value-bytes-requires c κs =
+    rw (c .n .ensures, c .before .k .ensures) (compact-of _ _ (code-known _ (code (c .before .before .before .before))) (width-right _ (width (c .before .before)) .1))
 
 sdnv-bytes-requires : tie.Need-sdnv-bytes-requires
-sdnv-bytes-requires c κs = search needs
+sdnv-bytes-requires c κs = omega (arith, value-most (c .before .before .before .before .before .before .before .args .w) (c .before .before .k .result) (c .before .n .result), c .value-bytes .ensures)
 
 add-result : tie.Need-add-result
 add-result c = omega (arith, few _ _ _ _ (value c) (c .sdnv-bytes .ensures))

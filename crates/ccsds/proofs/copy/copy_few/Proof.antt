@@ -1,0 +1,106 @@
+-- `ccsds::copy::copy_few` meets its contract: the last part reaches back over the first.
+-- Assumes nothing.
+use Prim.Native.Nat.{_+_, _-_, _/_}
+use native.Mathlib.Omega.{arith}
+use lib.ListN.{length}
+use Rattle.ccsds.proofs.PutLaws.{copied-first, copied-on, copied-all}
+use borrow.Author.Needs.{needs}
+use Rattle.ccsds.proofs.copy.copy_few.Statement.{statement}
+use Rattle.ccsds.proofs.copy.copy_few.Tie as tie
+use Rattle.ccsds.proofs.copy.copy_1.Reads as copy-1-reads
+use Rattle.ccsds.proofs.copy.copy_4.Reads as copy-4-reads
+use Rattle.ccsds.proofs.copy.copy_8.Reads as copy-8-reads
+
+copy-8-requires : tie.Need-copy-8-requires
+copy-8-requires c κs = search needs
+
+add-copy-8 : tie.Need-add-copy-8
+add-copy-8 c = search needs
+
+copy-8-requires-2 : tie.Need-copy-8-requires-2
+copy-8-requires-2 c κs = search needs
+
+same-length : tie.Need-same-length
+same-length c = search needs
+
+returns : tie.Need-returns
+returns c =
+    let a = c .before .before .before .before .before .before .before .before .before .before .before .args in
+    let s = a .s .now in
+    let p = copied-first (a .at) 8 s (c .before .before .before .before .before .before .copy-8 .ensures) (omega arith) in
+    copied-all (a .at) 8 (length s - 8) 8 s p (c .before .before .copy-82 .ensures) (omega arith) (omega arith) (omega arith)
+
+copy-4-requires : tie.Need-copy-4-requires
+copy-4-requires c κs = search needs
+
+add-copy-4 : tie.Need-add-copy-4
+add-copy-4 c = search needs
+
+copy-4-requires-2 : tie.Need-copy-4-requires-2
+copy-4-requires-2 c κs = search needs
+
+same-length-2 : tie.Need-same-length-2
+same-length-2 c = search needs
+
+returns-2 : tie.Need-returns-2
+returns-2 c =
+    let a = c .before .before .before .before .before .before .before .before .before .before .before .before .args in
+    let s = a .s .now in
+    let p = copied-first (a .at) 4 s (c .before .before .before .before .before .before .copy-4 .ensures) (omega arith) in
+    copied-all (a .at) 4 (length s - 4) 4 s p (c .before .before .copy-42 .ensures) (omega arith) (omega arith) (omega arith)
+
+copy-1-requires : tie.Need-copy-1-requires
+copy-1-requires c κs = search needs
+
+add-copy-1 : tie.Need-add-copy-1
+add-copy-1 c = search needs
+
+copy-1-requires-2 : tie.Need-copy-1-requires-2
+copy-1-requires-2 c κs = search needs
+
+sub-copy-1 : tie.Need-sub-copy-1
+sub-copy-1 c = search needs
+
+add-copy-1-2 : tie.Need-add-copy-1-2
+add-copy-1-2 c = search needs
+
+sub-copy-1-2 : tie.Need-sub-copy-1-2
+sub-copy-1-2 c = search needs
+
+copy-1-requires-3 : tie.Need-copy-1-requires-3
+copy-1-requires-3 c κs = search needs
+
+same-length-3 : tie.Need-same-length-3
+same-length-3 c = search needs
+
+returns-3 : tie.Need-returns-3
+returns-3 c =
+    let a = c .before .before .before .before .before .before .before .before .before .before .before .before .before .before .before .before .args in
+    let s = a .s .now in
+    let p = copied-first (a .at) 1 s (c .before .before .before .before .before .before .before .before .before .before .copy-1 .ensures) (omega arith) in
+    let q = copied-on (a .at) 1 (length s / 2) 1 s p (c .before .before .before .before .before .before .copy-12 .ensures) (omega arith) (omega arith) (omega arith) in
+    copied-all (a .at) (length s / 2 + 1) (length s - 1) 1 s q (c .before .before .copy-13 .ensures) (omega arith) (omega arith) (omega arith)
+
+pub copy-few-spec : {M : Type 1} → statement M
+copy-few-spec =
+    tie.close
+    (tie.spec
+    copy-8-requires
+    add-copy-8
+    copy-8-requires-2
+    same-length
+    returns
+    copy-4-requires
+    add-copy-4
+    copy-4-requires-2
+    same-length-2
+    returns-2
+    copy-1-requires
+    add-copy-1
+    copy-1-requires-2
+    sub-copy-1
+    add-copy-1-2
+    sub-copy-1-2
+    copy-1-requires-3
+    same-length-3
+    returns-3)
