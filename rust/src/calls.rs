@@ -168,10 +168,12 @@ pub struct UnitParts {
     pub coding: Option<Parameters>,
 }
 
+#[cold]
 fn refusal(number: u8) -> Refusal {
     Refusal::from_number(number).expect("the archive answers no other number")
 }
 
+#[inline]
 fn done(number: u8) -> Result<(), Refusal> {
     match number {
         0 => Ok(()),

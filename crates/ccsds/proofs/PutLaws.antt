@@ -48,8 +48,8 @@ then-part {l₀} {l₁} {l₂} {a} {b} {c} m n f s p e q h =
 abbrev pub Copied : List ℕ → List ℕ → ℕ → List ℕ → ℕ → Type 0
 Copied l₀ l at s i = Put l₀ l at (at + i) (take i s)
 
-pub copied-first : {l₀ l₁ : List ℕ} (at m : ℕ) (s : List ℕ) {e : ℕ} → Put l₀ l₁ at e (take m s) → m ≤ length s → Copied l₀ l₁ at s m
-copied-first {l₀} {l₁} at m s p h = subst (λ (n : ℕ). Put l₀ l₁ at n (take m s)) (p .to ∙ ap (λ (n : ℕ). at + n) (length-take-le m s h)) p
+pub copied-first : {l₀ l₁ : List ℕ} {at e : ℕ} (m : ℕ) (s : List ℕ) → Put l₀ l₁ at e (take m s) → m ≤ length s → Copied l₀ l₁ at s m
+copied-first {l₀} {l₁} {at} m s p h = subst (λ (n : ℕ). Put l₀ l₁ at n (take m s)) (p .to ∙ ap (λ (n : ℕ). at + n) (length-take-le m s h)) p
 
 -- what stood before them stands there still, so they may be put once more, or others in their place
 before : {l₀ l₁ : List ℕ} {at e : ℕ} {x : List ℕ} → Put l₀ l₁ at e x → at ≤ length l₀ → take at l₁ ≡ take at l₀
@@ -64,8 +64,8 @@ put-over {l₀} {l₁} {l₂} {at} {d} {e} {x} {y} p h q =
     record { to = q .to; front = q .front ∙ ap (λ (l : List ℕ). l ++ y) (before p h); kept = q .kept ∙ p .kept }
 
 -- so do fewer of them
-pub copied-less : {l₀ l₁ : List ℕ} (at i j : ℕ) (s : List ℕ) → Copied l₀ l₁ at s i → j ≤ i → j ≤ length s → at ≤ length l₀ → Copied l₀ l₁ at s j
-copied-less {l₀} {l₁} at i j s p h q r =
+pub copied-less : {l₀ l₁ : List ℕ} {at i : ℕ} (j : ℕ) (s : List ℕ) → Copied l₀ l₁ at s i → j ≤ i → j ≤ length s → at ≤ length l₀ → Copied l₀ l₁ at s j
+copied-less {l₀} {l₁} {at} {i} j s p h q r =
     record {
       to = ap (λ (n : ℕ). at + n) (sym (length-take-le j s q));
       front =
@@ -76,17 +76,17 @@ copied-less {l₀} {l₁} at i j s p h q r =
     }
 
 -- m bytes from index j on are put, where the first i stand already and j is not above i
-over : {l₀ l₁ l₂ : List ℕ} (at i j m : ℕ) (s : List ℕ) {e : ℕ} → Copied l₀ l₁ at s i → Put l₁ l₂ (at + j) e (take m (drop j s)) → j ≤ i → j + m ≤ length s
+over : {l₀ l₁ l₂ : List ℕ} {at i j e : ℕ} (m : ℕ) (s : List ℕ) → Copied l₀ l₁ at s i → Put l₁ l₂ (at + j) e (take m (drop j s)) → j ≤ i → j + m ≤ length s
     → at ≤ length l₀ → Put l₀ l₂ at e (take (j + m) s)
-over {l₀} {l₁} {l₂} at i j m s {e} p q h r a =
-    subst (λ (x : List ℕ). Put l₀ l₂ at e x) (sym (take-add j m s)) (then-put (copied-less at i j s p h (omega arith) a) q)
+over {l₀} {l₁} {l₂} {at} {i} {j} {e} m s p q h r a =
+    subst (λ (x : List ℕ). Put l₀ l₂ at e x) (sym (take-add j m s)) (then-put (copied-less j s p h (omega arith) a) q)
 
-pub copied-on : {l₀ l₁ l₂ : List ℕ} (at i j m : ℕ) (s : List ℕ) {e : ℕ} → Copied l₀ l₁ at s i → Put l₁ l₂ (at + j) e (take m (drop j s)) → j ≤ i
+pub copied-on : {l₀ l₁ l₂ : List ℕ} {at i j e : ℕ} (m : ℕ) (s : List ℕ) → Copied l₀ l₁ at s i → Put l₁ l₂ (at + j) e (take m (drop j s)) → j ≤ i
     → j + m ≤ length s → at ≤ length l₀ → Copied l₀ l₂ at s (j + m)
-copied-on at i j m s p q h r a = copied-first at (j + m) s (over at i j m s p q h r a) r
+copied-on {j = j} m s p q h r a = copied-first (j + m) s (over m s p q h r a) r
 
 -- the last of them
-pub copied-all : {l₀ l₁ l₂ : List ℕ} (at i j m : ℕ) (s : List ℕ) {e : ℕ} → Copied l₀ l₁ at s i → Put l₁ l₂ (at + j) e (take m (drop j s)) → j ≤ i
+pub copied-all : {l₀ l₁ l₂ : List ℕ} {at i j e : ℕ} (m : ℕ) (s : List ℕ) → Copied l₀ l₁ at s i → Put l₁ l₂ (at + j) e (take m (drop j s)) → j ≤ i
     → j + m ≡ length s → at ≤ length l₀ → Put l₀ l₂ at e s
-copied-all {l₀} {l₁} {l₂} at i j m s {e} p q h r a =
-    subst (λ (x : List ℕ). Put l₀ l₂ at e x) (ap (λ (n : ℕ). take n s) r ∙ take-length s) (over at i j m s p q h (omega arith) a)
+copied-all {l₀} {l₁} {l₂} {at} {i} {j} {e} m s p q h r a =
+    subst (λ (x : List ℕ). Put l₀ l₂ at e x) (ap (λ (n : ℕ). take n s) r ∙ take-length s) (over m s p q h (omega arith) a)

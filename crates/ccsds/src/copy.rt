@@ -20,7 +20,12 @@ fn read_four(s: &[u8], from: usize) -> Four
     requires { ⌜ from + 4 ≤ length (now s) ⌝ }
     ensures { λ r. ⌜ fourOf r ≡ take 4 (drop from (now (s .entry))) ⌝ }
 {
-    Four { a: s[from], b: s[from + 1], c: s[from + 2], d: s[from + 3] }
+    Four {
+        a: s[from],
+        b: s[from + 1],
+        c: s[from + 2],
+        d: s[from + 3],
+    }
 }
 
 fn put_four(out: &mut [u8], at: usize, x: Four) -> usize
@@ -97,15 +102,26 @@ fn copy_few(out: &mut [u8], at: usize, s: &[u8]) -> usize
     copy_1(out, at + (n - 1), s, n - 1)
 }
 
-// All of s, 16 bytes or more. After the first 16 it goes on where the output's index is a multiple of 16: in an output that begins on a 16-byte border
-// no store then crosses a cache line.
+// Where a copy of n bytes to position `at` goes on after its first 16. From 64 bytes on that is where the output's index is a multiple of 16: in an
+// output that begins on a 16-byte border no later store of 16 crosses a cache line, but for the last.
+fn second_part(at: usize, n: usize) -> usize
+    ensures { λ r. ⌜ r ≤ 16 ⌝ }
+{
+    if n < 64 {
+        return 16;
+    }
+    16 - at % 16
+}
+
+// All of s, 16 bytes or more.
 fn copy_many(out: &mut [u8], at: usize, s: &[u8]) -> usize
     requires { ⌜ (16 ≤ length (now s)) × (at + length (now s) ≤ length (now out)) ⌝ }
     ensures { λ r. ⌜ Put (now (out .entry)) (now (out .exit)) at r (now (s .entry)) ⌝ }
 {
-    let last = s.len() - 16;
+    let n = s.len();
+    let last = n - 16;
     copy_16(out, at, s, 0);
-    let mut i = 16 - at % 16;
+    let mut i = second_part(at, n);
     while i < last {
         copy_16(out, at + i, s, i);
         i += 16;

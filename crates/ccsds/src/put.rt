@@ -38,10 +38,10 @@ pub fn sdnv(out: &mut [u8], at: usize, v: usize) -> usize
     requires { ⌜ (at + length (sdnvBytes v) ≤ length (now out)) × (v < 16384) ⌝ }
     ensures { λ r. ⌜ Put (now (out .entry)) (now (out .exit)) at r (sdnvBytes v) ⌝ }
 {
-    if v < 128 {
-        return byte(out, at, v);
+    if v >= 128 {
+        return sdnv_2(out, at, v);
     }
-    sdnv_2(out, at, v)
+    byte(out, at, v)
 }
 
 // The length of that.

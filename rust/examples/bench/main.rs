@@ -60,20 +60,25 @@ fn alternate<S>(state: &mut S, each: Duration, before: Option<fn(&mut S)>, sides
     best
 }
 
-/// What is sent of one block.
+/// What is sent of one block. Its units stand one after the other, or each begins on a border of so many bytes.
 struct Sending {
     code: Code,
     w: usize,
     information: Vec<u8>,
     parity: Vec<u8>,
     units: Vec<u8>,
+    first: usize,
+    stride: usize,
 }
 
 impl Sending {
-    fn new(code: Code, w: usize) -> Sending {
+    fn new(code: Code, w: usize, border: usize) -> Sending {
         let mut information = vec![0; code.information_bytes(w)];
         Random::new(code.0 as u64 * 2048 + w as u64).fill(&mut information);
-        let mut all = Sending { code, w, information, parity: vec![0; code.parity_bytes(w)], units: vec![0; code.n() * code.unit_bytes(w)] };
+        let stride = code.unit_bytes(w).next_multiple_of(border);
+        let units = vec![0; code.n() * stride + border - 1];
+        let first = units.as_ptr().align_offset(border);
+        let mut all = Sending { code, w, information, parity: vec![0; code.parity_bytes(w)], units, first, stride };
         encode(&mut all);
         write(&mut all);
         all
@@ -91,9 +96,9 @@ impl Sending {
     /// Writes all units by one of the two writers.
     fn write_by(&mut self, writer: impl Fn(usize, &[u8], &mut [u8])) {
         let mut units = std::mem::take(&mut self.units);
-        let each = units.len() / (self.information.len() / self.w + self.parity.len() / self.w);
-        for (i, unit) in units.chunks_exact_mut(each).enumerate() {
-            writer(i + 1, self.symbol(i), unit);
+        let each = self.code.unit_bytes(self.w);
+        for (i, unit) in units[self.first..].chunks_exact_mut(self.stride).enumerate() {
+            writer(i + 1, self.symbol(i), &mut unit[..each]);
         }
         self.units = units;
     }
@@ -274,18 +279,22 @@ impl Bench {
         self.line(name, sent.information.len() as f64 / 1e6, "MB/s", &seconds);
     }
 
-    fn writing(&mut self, sent: &mut Sending) {
-        let name = format!("write/C{}/W{}", sent.code.0, sent.w);
+    /// Units one after the other, or each on a border of so many bytes.
+    fn writing(&mut self, code: Code, w: usize, border: usize) {
+        let place = if border > 1 { format!("/on{border}") } else { String::new() };
+        let name = format!("write/C{}/W{w}{place}", code.0);
         if !self.wants(&name) {
             return;
         }
+        let sent = &mut Sending::new(code, w, border);
+        sent.units.fill(0xA5);
         write(sent);
         let by_ours = sent.units.clone();
         sent.units.fill(0xA5);
         write_plain(sent);
         assert!(by_ours == sent.units, "{name}: ours and plain Rust's differ");
         let seconds = alternate(sent, self.each, None, &[write, write_plain]);
-        self.line(name, sent.code.n() as f64 / 1e6, "Munits/s", &seconds);
+        self.line(name, code.n() as f64 / 1e6, "Munits/s", &seconds);
     }
 
     fn taking(&mut self, sent: &Sending) {
@@ -365,15 +374,16 @@ fn main() {
     }
     let profile = if cfg!(debug_assertions) { "debug (not for comparison)" } else { "release, opt-level 3" };
     println!(
-        "plain Rust: {profile}, no unsafe code; both sides run in turn in short rounds, {} ms a side and case; best rounds; 1 MB = 10^6 bytes of information",
+        "plain Rust: {profile}, no unsafe code; both sides run in turn in short rounds, {} ms a side and case; best rounds; 1 MB = 10^6 bytes of information; 1 Munits = 10^6 units, one after the other in one buffer, or each on a border of 16 bytes (on16)",
         bench.each.as_millis()
     );
     for code in [Code::C1, Code::C2] {
-        bench.writing(&mut Sending::new(code, 1));
+        for (w, border) in [(1, 1), (16, 1), (1024, 1), (1024, 16)] {
+            bench.writing(code, w, border);
+        }
         for w in [16, 1024] {
-            let mut sent = Sending::new(code, w);
+            let mut sent = Sending::new(code, w, 1);
             bench.encoding(&mut sent);
-            bench.writing(&mut sent);
             bench.taking(&sent);
             for percent in [0, 10, 50, 90, 97, 120] {
                 bench.closing(&sent, percent);

@@ -2,20 +2,6 @@
 use crate::plain_tables::{check_block, check_code, check_label, check_length};
 use lipvezor::{Parameters, Refusal, Taken, UnitParts};
 
-fn sdnv_bytes(v: usize) -> usize {
-    match v {
-        0..=0x7F => 1,
-        0x80..=0x3FFF => 2,
-        0x4000..=0x1F_FFFF => 3,
-        0x20_0000..=0xFFF_FFFF => 4,
-        _ => 5,
-    }
-}
-
-fn value_bytes(w: usize, k: usize, n: usize) -> usize {
-    sdnv_bytes(w) + sdnv_bytes(k) + sdnv_bytes(n) + sdnv_bytes(0)
-}
-
 /// An output that is written from the front.
 struct Output<'a> {
     bytes: &'a mut [u8],
@@ -23,30 +9,29 @@ struct Output<'a> {
 }
 
 impl Output<'_> {
-    fn byte(&mut self, x: u8) {
-        self.bytes[self.at] = x;
+    fn byte(&mut self, x: usize) {
+        self.bytes[self.at] = x as u8;
         self.at += 1;
     }
 
-    fn pair(&mut self, x: u16) {
-        for byte in x.to_be_bytes() {
-            self.byte(byte);
-        }
+    fn pair(&mut self, x: usize) {
+        self.byte(x >> 8);
+        self.byte(x);
     }
 
+    /// A number from 128 to 16,383, in its two bytes.
+    fn sdnv_2(&mut self, v: usize) {
+        self.byte(128 | v >> 7);
+        self.byte(v & 127);
+    }
+
+    /// A number below 16,384.
     fn sdnv(&mut self, v: usize) {
-        for shift in [28, 21, 14, 7] {
-            let high = v >> shift;
-            if high != 0 {
-                self.byte(128 | (high & 127) as u8);
-            }
+        if v >= 128 {
+            self.sdnv_2(v);
+        } else {
+            self.byte(v);
         }
-        self.byte((v & 127) as u8);
-    }
-
-    fn slice(&mut self, s: &[u8]) {
-        self.bytes[self.at..self.at + s.len()].copy_from_slice(s);
-        self.at += s.len();
     }
 }
 
@@ -55,8 +40,8 @@ pub fn write(code: usize, w: usize, protocol: usize, lsc: usize, lwc: usize, sym
     let layout = check_code(code, w)?;
     check_label(protocol, lsc)?;
     let (k, n) = (layout.k, layout.n());
-    let value = value_bytes(w, k, n);
-    check_length(out.len(), 7 + sdnv_bytes(value) + value + w)?;
+    let value = if w >= 128 { 7 } else { 6 };
+    check_length(out.len(), 8 + value + w)?;
     if lwc == 0 || lwc > n {
         return Err(Refusal::Position);
     }
@@ -64,17 +49,17 @@ pub fn write(code: usize, w: usize, protocol: usize, lsc: usize, lwc: usize, sym
         return Err(Refusal::Symbol);
     }
     let mut out = Output { bytes: out, at: 0 };
-    out.byte((16 + protocol * 2) as u8);
+    out.byte(16 + protocol * 2);
     out.byte(1);
-    out.pair(lwc as u16);
-    out.pair(lsc as u16);
+    out.pair(lwc);
+    out.pair(lsc);
     out.byte(1);
-    out.sdnv(value_bytes(w, k, n));
+    out.byte(value);
     out.sdnv(w);
-    out.sdnv(k);
-    out.sdnv(n);
-    out.sdnv(0);
-    out.slice(symbol);
+    out.sdnv_2(k);
+    out.sdnv_2(n);
+    out.byte(0);
+    out.bytes[out.at..].copy_from_slice(symbol);
     Ok(())
 }
 

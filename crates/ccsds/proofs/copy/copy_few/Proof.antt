@@ -27,8 +27,8 @@ returns : tie.Need-returns
 returns c =
     let a = c .before .before .before .before .before .before .before .before .before .before .before .args in
     let s = a .s .now in
-    let p = copied-first (a .at) 8 s (c .before .before .before .before .before .before .copy-8 .ensures) (omega arith) in
-    copied-all (a .at) 8 (length s - 8) 8 s p (c .before .before .copy-82 .ensures) (omega arith) (omega arith) (omega arith)
+    let p = copied-first 8 s (c .before .before .before .before .before .before .copy-8 .ensures) (omega arith) in
+    copied-all 8 s p (c .before .before .copy-82 .ensures) (omega arith) (omega arith) (omega arith)
 
 copy-4-requires : tie.Need-copy-4-requires
 copy-4-requires c κs = search needs
@@ -46,8 +46,8 @@ returns-2 : tie.Need-returns-2
 returns-2 c =
     let a = c .before .before .before .before .before .before .before .before .before .before .before .before .args in
     let s = a .s .now in
-    let p = copied-first (a .at) 4 s (c .before .before .before .before .before .before .copy-4 .ensures) (omega arith) in
-    copied-all (a .at) 4 (length s - 4) 4 s p (c .before .before .copy-42 .ensures) (omega arith) (omega arith) (omega arith)
+    let p = copied-first 4 s (c .before .before .before .before .before .before .copy-4 .ensures) (omega arith) in
+    copied-all 4 s p (c .before .before .copy-42 .ensures) (omega arith) (omega arith) (omega arith)
 
 copy-1-requires : tie.Need-copy-1-requires
 copy-1-requires c κs = search needs
@@ -77,9 +77,9 @@ returns-3 : tie.Need-returns-3
 returns-3 c =
     let a = c .before .before .before .before .before .before .before .before .before .before .before .before .before .before .before .before .args in
     let s = a .s .now in
-    let p = copied-first (a .at) 1 s (c .before .before .before .before .before .before .before .before .before .before .copy-1 .ensures) (omega arith) in
-    let q = copied-on (a .at) 1 (length s / 2) 1 s p (c .before .before .before .before .before .before .copy-12 .ensures) (omega arith) (omega arith) (omega arith) in
-    copied-all (a .at) (length s / 2 + 1) (length s - 1) 1 s q (c .before .before .copy-13 .ensures) (omega arith) (omega arith) (omega arith)
+    let p = copied-first 1 s (c .before .before .before .before .before .before .before .before .before .before .copy-1 .ensures) (omega arith) in
+    let q = copied-on 1 s p (c .before .before .before .before .before .before .copy-12 .ensures) (omega arith) (omega arith) (omega arith) in
+    copied-all 1 s q (c .before .before .copy-13 .ensures) (omega arith) (omega arith) (omega arith)
 
 pub copy-few-spec : {M : Type 1} → statement M
 copy-few-spec =
