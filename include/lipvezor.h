@@ -137,7 +137,8 @@ size_t lipvezor_show(size_t code, size_t w,
                      uint8_t *output, size_t output_length);
 
 /*
- * The unit of one symbol of W bytes, into an output of lipvezor_unit_bytes bytes.
+ * The unit of one symbol of W bytes, into an output of lipvezor_unit_bytes bytes. It may begin at any address; wide symbols are written fastest
+ * where it is a multiple of 16, as malloc's are.
  * Answers LIPVEZOR_DONE, or a refusal: code, width, label, length (of the output), position, symbol.
  */
 uint8_t lipvezor_write(size_t code, size_t w, size_t protocol, size_t lsc, size_t lwc,

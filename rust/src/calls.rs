@@ -196,7 +196,8 @@ pub fn show(code: Code, w: usize, information: &[u8], parity: &[u8], lwc: usize,
     ffi::show(code.0, w, information, parity, lwc, out)
 }
 
-/// The unit of one symbol of `w` bytes, into an output of `code.unit_bytes(w)` bytes.
+/// The unit of one symbol of `w` bytes, into an output of `code.unit_bytes(w)` bytes. The output may begin at any address; wide symbols are written
+/// fastest where it is a multiple of 16, as a `Vec`'s is.
 ///
 /// Refusals: code, width, label, length (of the output), position, symbol.
 #[inline]

@@ -42,6 +42,22 @@ pub then-part : {l₀ l₁ l₂ : List ℕ} {a b c : ℕ} (m n f : ℕ) (s : Lis
 then-part {l₀} {l₁} {l₂} {a} {b} {c} m n f s p e q h =
     subst (λ (x : List ℕ). Put l₀ l₂ a c x) (ap₂ (λ (x y : List ℕ). x ++ y) e h ∙ joined m n f s) (then-put p q)
 
+-- ---- two puts at one position
+
+-- what stood before position `at` stands there still
+before : {l₀ l₁ : List ℕ} {at e : ℕ} {x : List ℕ} → Put l₀ l₁ at e x → at ≤ length l₀ → take at l₁ ≡ take at l₀
+before {l₀} {l₁} {at} {e} {x} p h =
+    sym (take-take at e l₁ (omega (arith, p .to))) ∙ ap (take at) (p .front) ∙ take-at (take at l₀) x at (length-take-le at l₀ h)
+
+-- the bytes stand since then
+pub put-since : {l₀ l₁ : List ℕ} {at e : ℕ} {x : List ℕ} → Put l₀ l₁ at e x → at ≤ length l₀ → Put l₁ l₁ at e x
+put-since {l₀} {l₁} {at} {e} {x} p h = record { to = p .to; front = p .front ∙ ap (λ (l : List ℕ). l ++ x) (sym (before p h)); kept = refl }
+
+-- others are put over them
+pub put-over : {l₀ l₁ l₂ : List ℕ} {at d e : ℕ} {x y : List ℕ} → Put l₀ l₁ at d x → at ≤ length l₀ → Put l₁ l₂ at e y → Put l₀ l₂ at e y
+put-over {l₀} {l₁} {l₂} {at} {d} {e} {x} {y} p h q =
+    record { to = q .to; front = q .front ∙ ap (λ (l : List ℕ). l ++ y) (before p h); kept = q .kept ∙ p .kept }
+
 -- ---- a list put from a position on, in parts that may overlap
 
 -- the first i bytes of s stand from position `at` on
@@ -51,19 +67,7 @@ Copied l₀ l at s i = Put l₀ l at (at + i) (take i s)
 pub copied-first : {l₀ l₁ : List ℕ} {at e : ℕ} (m : ℕ) (s : List ℕ) → Put l₀ l₁ at e (take m s) → m ≤ length s → Copied l₀ l₁ at s m
 copied-first {l₀} {l₁} {at} m s p h = subst (λ (n : ℕ). Put l₀ l₁ at n (take m s)) (p .to ∙ ap (λ (n : ℕ). at + n) (length-take-le m s h)) p
 
--- what stood before them stands there still, so they may be put once more, or others in their place
-before : {l₀ l₁ : List ℕ} {at e : ℕ} {x : List ℕ} → Put l₀ l₁ at e x → at ≤ length l₀ → take at l₁ ≡ take at l₀
-before {l₀} {l₁} {at} {e} {x} p h =
-    sym (take-take at e l₁ (omega (arith, p .to))) ∙ ap (take at) (p .front) ∙ take-at (take at l₀) x at (length-take-le at l₀ h)
-
-pub put-since : {l₀ l₁ : List ℕ} {at e : ℕ} {x : List ℕ} → Put l₀ l₁ at e x → at ≤ length l₀ → Put l₁ l₁ at e x
-put-since {l₀} {l₁} {at} {e} {x} p h = record { to = p .to; front = p .front ∙ ap (λ (l : List ℕ). l ++ x) (sym (before p h)); kept = refl }
-
-pub put-over : {l₀ l₁ l₂ : List ℕ} {at d e : ℕ} {x y : List ℕ} → Put l₀ l₁ at d x → at ≤ length l₀ → Put l₁ l₂ at e y → Put l₀ l₂ at e y
-put-over {l₀} {l₁} {l₂} {at} {d} {e} {x} {y} p h q =
-    record { to = q .to; front = q .front ∙ ap (λ (l : List ℕ). l ++ y) (before p h); kept = q .kept ∙ p .kept }
-
--- so do fewer of them
+-- then so do the first j, for a smaller j
 pub copied-less : {l₀ l₁ : List ℕ} {at i : ℕ} (j : ℕ) (s : List ℕ) → Copied l₀ l₁ at s i → j ≤ i → j ≤ length s → at ≤ length l₀ → Copied l₀ l₁ at s j
 copied-less {l₀} {l₁} {at} {i} j s p h q r =
     record {

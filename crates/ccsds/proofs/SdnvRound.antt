@@ -36,10 +36,7 @@ alone h z = rw (ne-eqb _ _ z)
 none : (h : ℕ) → h ≡ 0 → length (group h) ≡ 0
 none h z = ap length (nothing h z)
 
-one : (h : ℕ) → (h ≡ 0 → ⊥) → length (group h) ≡ 1
-one h z = ap length (alone h z)
-
-pub bytes-length : (v : ℕ) → length (sdnvBytes v)
+bytes-length : (v : ℕ) → length (sdnvBytes v)
     ≡ length (group (v / 268435456)) + length (group (v / 2097152)) + length (group (v / 16384)) + length (group (v / 128)) + 1
 unfolding sdnvBytes
 bytes-length v = simp length-append

@@ -4,8 +4,6 @@ use Rattle.ccsds.proofs.PutLaws.{then-part}
 use borrow.Author.Needs.{needs}
 use Rattle.ccsds.proofs.copy.copy_8.Statement.{statement}
 use Rattle.ccsds.proofs.copy.copy_8.Tie as tie
-use Rattle.ccsds.proofs.copy.put_four.Reads as put-four-reads
-use Rattle.ccsds.proofs.copy.read_four.Reads as read-four-reads
 
 read-four-requires : tie.Need-read-four-requires
 read-four-requires c κs = search needs

@@ -1,15 +1,10 @@
 -- `ccsds::copy::copy_few` meets its contract: the last part reaches back over the first.
 -- Assumes nothing.
-use Prim.Native.Nat.{_+_, _-_, _/_}
 use native.Mathlib.Omega.{arith}
-use lib.ListN.{length}
 use Rattle.ccsds.proofs.PutLaws.{copied-first, copied-on, copied-all}
 use borrow.Author.Needs.{needs}
 use Rattle.ccsds.proofs.copy.copy_few.Statement.{statement}
 use Rattle.ccsds.proofs.copy.copy_few.Tie as tie
-use Rattle.ccsds.proofs.copy.copy_1.Reads as copy-1-reads
-use Rattle.ccsds.proofs.copy.copy_4.Reads as copy-4-reads
-use Rattle.ccsds.proofs.copy.copy_8.Reads as copy-8-reads
 
 copy-8-requires : tie.Need-copy-8-requires
 copy-8-requires c κs = search needs

@@ -1,13 +1,12 @@
 -- `ccsds::copy::copy_many` meets its contract: at the loop the first i bytes stand, and after it all but 16 at most.
 -- Assumes nothing.
 use mathlib.Core.Path.{_∙_}
-use Prim.Native.Nat.{_+_, _-_, _%_, _≤_}
+use Prim.Native.Nat.{_-_, _≤_}
 use native.Mathlib.Omega.{arith}
 use lib.ListN.{length}
 use Rattle.ccsds.proofs.PutLaws.{Copied, put-since, put-over, copied-first, copied-less, copied-on, copied-all}
 use Rattle.ccsds.proofs.copy.copy_many.Statement.{statement}
 use Rattle.ccsds.proofs.copy.copy_many.Tie as tie
-use Rattle.ccsds.proofs.copy.copy_16.Reads as copy-16-reads
 
 abbrev Inv-loop : tie.InvT-loop
 Inv-loop out₀ at s n last i₀ out i = (i ≤ length s) × Copied out₀ out at s i

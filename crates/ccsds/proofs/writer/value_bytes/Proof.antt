@@ -3,7 +3,6 @@
 use native.Mathlib.Omega.{arith}
 use Rattle.ccsds.proofs.SdnvRound.{most-five}
 use Rattle.ccsds.proofs.UnitLaws.{value-compact}
-use borrow.Author.Needs.{needs}
 use Rattle.ccsds.proofs.writer.value_bytes.Statement.{statement}
 use Rattle.ccsds.proofs.writer.value_bytes.Tie as tie
 
