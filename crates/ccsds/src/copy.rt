@@ -83,12 +83,16 @@ fn copy_16(out: &mut [u8], at: usize, s: &[u8], from: usize) -> usize
     put_four(out, d, t)
 }
 
-// All of s, from 1 byte to 15.
+// All of s, from 1 byte to 32: the first part and the last, which may overlap.
 fn copy_few(out: &mut [u8], at: usize, s: &[u8]) -> usize
-    requires { ⌜ (0 < length (now s)) × (length (now s) < 16) × (at + length (now s) ≤ length (now out)) ⌝ }
+    requires { ⌜ (0 < length (now s)) × (length (now s) ≤ 32) × (at + length (now s) ≤ length (now out)) ⌝ }
     ensures { λ r. ⌜ Put (now (out .entry)) (now (out .exit)) at r (now (s .entry)) ⌝ }
 {
     let n = s.len();
+    if n >= 16 {
+        copy_16(out, at, s, 0);
+        return copy_16(out, at + (n - 16), s, n - 16);
+    }
     if n >= 8 {
         copy_8(out, at, s, 0);
         return copy_8(out, at + (n - 8), s, n - 8);
@@ -102,18 +106,8 @@ fn copy_few(out: &mut [u8], at: usize, s: &[u8]) -> usize
     copy_1(out, at + (n - 1), s, n - 1)
 }
 
-// Where a copy of n bytes to position `at` goes on after its first 16. From 64 bytes on that is where the output's index is a multiple of 16: in an
-// output that begins on a 16-byte border no later store of 16 crosses a cache line, but for the last.
-fn second_part(at: usize, n: usize) -> usize
-    ensures { λ r. ⌜ r ≤ 16 ⌝ }
-{
-    if n < 64 {
-        return 16;
-    }
-    16 - at % 16
-}
-
-// All of s, 16 bytes or more.
+// All of s, 16 bytes or more. After the first 16 it goes on where the output's index is a multiple of 16: in an output that begins on a 16-byte
+// border no store but the first and the last crosses a cache line.
 fn copy_many(out: &mut [u8], at: usize, s: &[u8]) -> usize
     requires { ⌜ (16 ≤ length (now s)) × (at + length (now s) ≤ length (now out)) ⌝ }
     ensures { λ r. ⌜ Put (now (out .entry)) (now (out .exit)) at r (now (s .entry)) ⌝ }
@@ -121,7 +115,7 @@ fn copy_many(out: &mut [u8], at: usize, s: &[u8]) -> usize
     let n = s.len();
     let last = n - 16;
     copy_16(out, at, s, 0);
-    let mut i = second_part(at, n);
+    let mut i = 16 - at % 16;
     while i < last {
         copy_16(out, at + i, s, i);
         i += 16;
@@ -134,7 +128,7 @@ pub fn symbol(out: &mut [u8], at: usize, s: &[u8]) -> usize
     requires { ⌜ (0 < length (now s)) × (at + length (now s) ≤ length (now out)) ⌝ }
     ensures { λ r. ⌜ Put (now (out .entry)) (now (out .exit)) at r (now (s .entry)) ⌝ }
 {
-    if s.len() < 16 {
+    if s.len() <= 32 {
         return copy_few(out, at, s);
     }
     copy_many(out, at, s)
