@@ -106,8 +106,18 @@ fn copy_few(out: &mut [u8], at: usize, s: &[u8]) -> usize
     copy_1(out, at + (n - 1), s, n - 1)
 }
 
-// All of s, 16 bytes or more. After the first 16 it goes on where the output's index is a multiple of 16: in an output that begins on a 16-byte
-// border no store but the first and the last crosses a cache line.
+// Where a copy of n bytes to position `at` goes on after its first 16. From 64 bytes on that is where the output's index is a multiple of 16: in an
+// output that begins on a 16-byte border no store but the first and the last then crosses a cache line.
+fn second_part(at: usize, n: usize) -> usize
+    ensures { λ r. ⌜ r ≤ 16 ⌝ }
+{
+    if n < 64 {
+        return 16;
+    }
+    16 - at % 16
+}
+
+// All of s, 16 bytes or more.
 fn copy_many(out: &mut [u8], at: usize, s: &[u8]) -> usize
     requires { ⌜ (16 ≤ length (now s)) × (at + length (now s) ≤ length (now out)) ⌝ }
     ensures { λ r. ⌜ Put (now (out .entry)) (now (out .exit)) at r (now (s .entry)) ⌝ }
@@ -115,7 +125,7 @@ fn copy_many(out: &mut [u8], at: usize, s: &[u8]) -> usize
     let n = s.len();
     let last = n - 16;
     copy_16(out, at, s, 0);
-    let mut i = 16 - at % 16;
+    let mut i = second_part(at, n);
     while i < last {
         copy_16(out, at + i, s, i);
         i += 16;
