@@ -29,7 +29,7 @@ value-compact w k n c =
 pub compact-of : (number w : ℕ) → Known number → w ≤ 1024 → Compact w (codeOf number .k) (nOf (codeOf number))
 compact-of number w h l =
     let v = valid-of number h in
-    record { few-w = omega arith; two-k = (v .some-k, omega (arith, v .few)); two-n = (omega (arith, v .some-k), omega (arith, v .few)) }
+    record { few-w = omega arith; two-k = (v .large-k, omega (arith, v .few)); two-n = (omega (arith, v .large-k), omega (arith, v .few)) }
 
 pub value-most : (w k n : ℕ) → length (valueBytes w k n) ≤ 20
 value-most w k n = omega (arith, value-length w k n, most-five w, most-five k, most-five n, most-five 0)

@@ -39,7 +39,7 @@ pub record Valid (c : Params) : Type 0 where
   pub some-q : 0 < c .q
   pub whole : length (c .rows) * c .q ≡ c .k
   pub step : c .q * c .a ≡ c .m
-  pub some-k : 128 ≤ c .k
+  pub large-k : 128 ≤ c .k
   pub few : nOf c ≤ 3072
   pub packed : 64 * (nOf c / 64) ≡ nOf c
   pub few-rows : c .m ≤ 1024
@@ -61,7 +61,7 @@ valid c t =
       some-q = ltb→lt 0 (c .q) (one 1 (lit< tt));
       whole = eqb→eq (length (c .rows) * c .q) (c .k) (one 2 (lit< tt));
       step = eqb→eq (c .q * c .a) (c .m) (one 3 (lit< tt));
-      some-k = leb→le 128 (c .k) (one 4 (lit< tt));
+      large-k = leb→le 128 (c .k) (one 4 (lit< tt));
       few = leb→le (c .k + c .m) 3072 (one 5 (lit< tt));
       packed = eqb→eq (64 * (nOf c / 64)) (nOf c) (one 6 (lit< tt));
       few-rows = leb→le (c .m) 1024 (one 7 (lit< tt));
