@@ -1,5 +1,5 @@
-//! Each error seen elsewhere and each wrong reading of extensions, put into the model, is found by the comparisons; without one they find
-//! nothing.
+//! Each error seen elsewhere, each wrong reading of extensions and each wrong writing of units, put into the model, is found by the comparisons;
+//! without one they find nothing.
 mod compare;
 mod model;
 
@@ -91,6 +91,12 @@ static READINGS: [Comparison; 6] = [
     Comparison { name: "edge bytes as lengths", run: all_strings::lengths, finds: &Fault::MISREAD },
 ];
 
+/// For the wrong writings.
+static WRITINGS: [Comparison; 2] = [
+    Comparison { name: "written units of C1", run: |fault| units::written(&codes::C1, fault, &mut random()), finds: &Fault::MISWRITTEN },
+    Comparison { name: "written units of C2", run: |fault| units::written(&codes::C2, fault, &mut random()), finds: &Fault::MISWRITTEN },
+];
+
 fn random() -> Random {
     Random::new(1)
 }
@@ -177,4 +183,19 @@ fn second_type_1_read() {
 #[test]
 fn fifth_number_read() {
     check(&READINGS, Fault::FifthNumberRead);
+}
+
+#[test]
+fn symbol_from_its_second_byte() {
+    check(&WRITINGS, Fault::SymbolFromSecondByte);
+}
+
+#[test]
+fn last_byte_of_an_odd_width_left_out() {
+    check(&WRITINGS, Fault::OddWidthCut);
+}
+
+#[test]
+fn length_of_the_value_one_too_large() {
+    check(&WRITINGS, Fault::ValueLengthOneMore);
 }

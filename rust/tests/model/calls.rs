@@ -29,7 +29,15 @@ pub fn write(record: Record, lwc: usize, symbol: &[u8], out: &mut [u8], fault: F
     refuse_if(out.len() != sample.len(), 4)?;
     code.position(lwc, fault).ok_or(9)?;
     refuse_if(symbol.len() != record.w, 10)?;
-    out.copy_from_slice(&units::write(code, record.w, record.protocol, record.lsc, lwc, symbol));
+    let mut unit = units::write(code, record.w, record.protocol, record.lsc, lwc, symbol);
+    let last = unit.len() - 1;
+    match fault {
+        Fault::SymbolFromSecondByte => unit[last + 1 - record.w..].copy_within(1.., 0),
+        Fault::OddWidthCut if record.w % 2 == 1 => unit[last] = out[last],
+        Fault::ValueLengthOneMore => unit[7] += 1,
+        _ => {}
+    }
+    out.copy_from_slice(&unit);
     Ok(())
 }
 

@@ -1,4 +1,4 @@
-//! The errors seen elsewhere and wrong readings of extensions, each of which the model can be given on purpose.
+//! The errors seen elsewhere, wrong readings of extensions and wrong writings of units, each of which the model can be given on purpose.
 
 #[derive(Clone, Copy, Debug, Default, PartialEq, Eq)]
 pub enum Fault {
@@ -28,6 +28,12 @@ pub enum Fault {
     SecondType1Read,
     /// A fifth number is read, then refused.
     FifthNumberRead,
+    /// A symbol of two bytes or more is written from its second byte on, and its last byte again.
+    SymbolFromSecondByte,
+    /// The last byte of an odd width isn't written.
+    OddWidthCut,
+    /// The length of type 1's value is written one too large.
+    ValueLengthOneMore,
 }
 
 impl Fault {
@@ -45,4 +51,7 @@ impl Fault {
         Fault::SecondType1Read,
         Fault::FifthNumberRead,
     ];
+
+    /// The wrong writings.
+    pub const MISWRITTEN: [Fault; 3] = [Fault::SymbolFromSecondByte, Fault::OddWidthCut, Fault::ValueLengthOneMore];
 }
