@@ -197,7 +197,7 @@ pub fn show(code: Code, w: usize, information: &[u8], parity: &[u8], lwc: usize,
 }
 
 /// The unit of one symbol of `w` bytes, into an output of `code.unit_bytes(w)` bytes. The output may begin at any address; wide symbols are written
-/// fastest where it is a multiple of 16, as a `Vec`'s is.
+/// fastest where it is a multiple of 16, as a `Vec`'s mostly is.
 ///
 /// Refusals: code, width, label, length (of the output), position, symbol.
 #[inline]

@@ -1,16 +1,13 @@
--- Bytes put into an output: one, several one after the other, and a whole output.
+-- Bytes put into an output: one, several one after the other, a whole output, and a list in parts that may overlap.
 -- Assumes nothing.
 use mathlib.Core.Path.{_≡_, _∙_, sym, ap, ap₂, refl, subst}
-use mathlib.Core.List.{List, [], _∷_, _++_, append-assoc, append-nil}
+use mathlib.Core.List.{List, [], _∷_, _++_, append-assoc}
 use Prim.Native.Nat.{ℕ, _+_, _<_, _≤_}
 use native.Mathlib.Numerals.{add-one}
 use native.Mathlib.Omega.{arith}
 use lib.ListN.{length, take, drop, getD, set, length-append, length-set}
 use lib.Seq.{take-all, take-length, take-suc-set, take-take, take-add, take-append-add, take-at, length-take-le, drop-cons, drop-drop}
 use Rattle.ccsds.specs.Put.{Put}
-
-pub put-none : (l : List ℕ) (at : ℕ) → Put l l at at []
-put-none l at = record { to = omega arith; front = sym (append-nil (take at l)); kept = refl }
 
 pub put-one : (l : List ℕ) (at e x : ℕ) → e ≡ at + 1 → at < length l → Put l (set l at x) at e (x ∷ [])
 put-one l at e x z h = record { to = z; front = rw (z, add-one) (take-suc-set l at x h); kept = length-set l at x }

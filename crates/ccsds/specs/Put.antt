@@ -1,4 +1,5 @@
--- What stands in an output after bytes were put into it, one after the other. Internal: no public contract cites it.
+-- What stands in an output after bytes were put into it, one after the other, and what the unit writer's inner functions ask of the numbers that they
+-- put. Internal: no public contract cites it.
 -- Assumes nothing.
 use mathlib.Core.Path.{_≡_}
 use mathlib.Core.List.{List, [], _∷_, _++_}

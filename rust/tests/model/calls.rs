@@ -30,9 +30,9 @@ pub fn write(record: Record, lwc: usize, symbol: &[u8], out: &mut [u8], fault: F
     code.position(lwc, fault).ok_or(9)?;
     refuse_if(symbol.len() != record.w, 10)?;
     let mut unit = units::write(code, record.w, record.protocol, record.lsc, lwc, symbol);
-    let last = unit.len() - 1;
+    let (start, last) = (unit.len() - record.w, unit.len() - 1);
     match fault {
-        Fault::SymbolFromSecondByte => unit[last + 1 - record.w..].copy_within(1.., 0),
+        Fault::SymbolFromSecondByte => unit[start..].copy_within(1.., 0),
         Fault::OddWidthCut if record.w % 2 == 1 => unit[last] = out[last],
         Fault::ValueLengthOneMore => unit[7] += 1,
         _ => {}
