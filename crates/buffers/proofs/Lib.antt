@@ -5,4 +5,5 @@ pub mod Places
 pub mod Put
 pub mod Rows
 pub mod Sums
+pub mod Symbols
 pub mod Zeros

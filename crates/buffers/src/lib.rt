@@ -1,4 +1,6 @@
 // Sums and copies on parts of lent byte buffers, and clearing. The loops go by index, so that they are compiled to vector instructions.
+pub mod gather;
+
 ghost use mathlib.Core.Path.{_≡_};
 ghost use Prim.Native.Nat.{_≤_, _+_};
 ghost use lib.ListN.{length, replicate, take};
