@@ -2,14 +2,14 @@
 -- Assumes nothing.
 use mathlib.Core.Path.{_≡_, sym, ap, ap₂, _∙_, subst, subst⁻¹}
 use mathlib.Core.List.{List, []}
-use Prim.Native.Nat.{ℕ, zero, suc, _+_, _-_, _*_, _%_, _<_, _≤_}
-use native.Mathlib.Nat.{mod-eq-of-lt, mod-eq-sub-mod, mul-zero}
+use Prim.Native.Nat.{ℕ, _+_, _-_, _*_, _%_, _<_, _≤_}
+use native.Mathlib.Nat.{mod-eq-of-lt, mod-eq-sub-mod}
 use native.Mathlib.Omega.{arith}
 use lib.Arith.{digits-div, digits-mod, digits-lt}
 use lib.ListN.{length, getD}
 use Rattle.algebra.proofs.Codeword.{slot}
 use Rattle.ccsds.specs.Codes.{Params, place, rowOf}
-use Rattle.ccsds.proofs.Valid.{Valid, row-below}
+use Rattle.ccsds.proofs.Valid.{Valid, some-a, row-below}
 
 module _ (c : Params) (v : Valid c) (row step : ℕ) (hr : row < length (c .rows)) (hs : step < c .q) where
   pub symbol-lt : row * c .q + step < c .k
@@ -24,13 +24,8 @@ module _ (c : Params) (v : Valid c) (row step : ℕ) (hr : row < length (c .rows
       subst (λ (l : List ℕ). getD l i 0 < c .m) row-is
       (row-below c v (row * c .q + step) symbol-lt i (subst⁻¹ (λ (l : List ℕ). i < length l) row-is h))
 
-  -- a is not 0, since q * a is m
-  some-a : (a : ℕ) → c .q * a ≡ c .m → 0 < a
-  some-a zero e = let h : c .m ≡ 0 = sym e ∙ mul-zero (c .q) in absurd (omega (arith, v .some-m))
-  some-a (suc a) e = omega arith
-
   pub step-lt : step * c .a < c .m
-  step-lt = omega (arith, slot step (c .q) (c .a) hs, v .step, some-a (c .a) (v .step))
+  step-lt = omega (arith, slot step (c .q) (c .a) hs, v .step, some-a c v)
 
   place-mod : (y : ℕ) → place c (row * c .q + step) y ≡ (y + step * c .a) % c .m
   unfolding place

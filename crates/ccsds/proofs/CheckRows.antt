@@ -1,24 +1,19 @@
 -- The check rows of information symbol row * q + step, at the front of an array.
 -- Assumes nothing.
-use mathlib.Core.Path.{_≡_, refl, sym, ap, _∙_, subst⁻¹}
-use mathlib.Core.List.{List, [], _∷_, map}
-use Prim.Native.Nat.{ℕ, zero, suc, _+_, _*_, _<_}
-use native.Mathlib.Nat.{not-suc-le-zero, le-of-suc-le-suc}
+use mathlib.Core.Path.{_≡_, sym, ap, _∙_, subst⁻¹}
+use mathlib.Core.List.{List, [], map}
+use Prim.Native.Nat.{ℕ, _+_, _*_, _<_}
 use native.Mathlib.Omega.{arith}
 use lib.ListN.{length, getD, take, length-map}
+use Rattle.algebra.proofs.Codeword.{slot}
 use Rattle.buffers.specs.Parts.{Within}
 use Rattle.buffers.proofs.Fronts.{take-front}
 use Rattle.ccsds.specs.Codes.{Params, rowOf, place}
 use Rattle.ccsds.specs.Layout.{Front}
 use Rattle.ccsds.specs.Steps.{checkRows}
+use Rattle.ccsds.proofs.Table.{getD-map}
 use Rattle.ccsds.proofs.Valid.{Valid, place-lt}
 use Rattle.ccsds.proofs.Address.{row-is}
-use Rattle.ccsds.proofs.Turns.{here}
-
-getD-map : (f : ℕ → ℕ) (l : List ℕ) (i : ℕ) → i < length l → getD (map f l) i 0 ≡ f (getD l i 0)
-getD-map f [] i h = absurd (not-suc-le-zero h)
-getD-map f (x ∷ l) zero h = refl
-getD-map f (x ∷ l) (suc i) h = getD-map f l i (le-of-suc-le-suc h)
 
 module _ (c : Params) (v : Valid c) (row step : ℕ) (hr : row < length (c .rows)) (hs : step < c .q) where
   -- as many as the table row has addresses
@@ -30,7 +25,7 @@ module _ (c : Params) (v : Valid c) (row step : ℕ) (hr : row < length (c .rows
       → getD (checkRows c (row * c .q + step)) i 0 ≡ place c (row * c .q + step) (getD (getD (c .rows) row []) i 0)
   rows-each i h =
       ap (λ (l : List ℕ). getD (map (place c (row * c .q + step)) l) i 0) (row-is c v row step hr hs)
-      ∙ getD-map (place c (row * c .q + step)) (getD (c .rows) row []) i h
+      ∙ getD-map (place c (row * c .q + step)) 0 (getD (c .rows) row []) i h
 
   module _ {js : List ℕ} (f : Front (checkRows c (row * c .q + step)) js) {n : ℕ} (e : n ≡ length (getD (c .rows) row [])) where
     pub rows-taken : take n js ≡ checkRows c (row * c .q + step)
@@ -44,6 +39,9 @@ module _ (c : Params) (v : Valid c) (row step : ℕ) (hr : row < length (c .rows
       each = λ i g.
           let k : i < length (getD (c .rows) row []) = omega arith in
           let l : i < length (checkRows c (row * c .q + step)) = omega (arith, rows-length) in
-          here (c .m) w (getD js i 0) bytes
-          (subst⁻¹ (λ (j : ℕ). j < c .m) (f .each i l ∙ rows-each i k) (place-lt c v (row * c .q + step) (getD (getD (c .rows) row []) i 0))) h;
+          omega (
+            arith,
+            slot (getD js i 0) (c .m) w
+                (subst⁻¹ (λ (j : ℕ). j < c .m) (f .each i l ∙ rows-each i k) (place-lt c v (row * c .q + step) (getD (getD (c .rows) row []) i 0))),
+          );
     }

@@ -4,8 +4,12 @@ pub mod FlatTable
 pub mod Refusals
 pub mod Address
 pub mod Columns
-pub mod Turns
 pub mod CheckRows
+pub mod Cycle
+pub mod Touched
+pub mod Arrays
+pub mod WholeRow
+pub mod Parity
 pub mod EncodeRefusal
 pub mod Claims
 pub mod Samples

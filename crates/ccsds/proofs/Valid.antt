@@ -6,7 +6,7 @@ use mathlib.Core.Bool.{Bool, true, false, xor, not, _&&_, _||_, cond, false≢tr
 use mathlib.Core.Logic.{_⊎_, inl, inr, ⊎-elim}
 use mathlib.Core.List.{List, [], _∷_}
 use Prim.Native.Nat.{ℕ, zero, suc, _+_, _-_, _*_, _/_, _%_, _<_, _≤_}
-use native.Mathlib.Nat.{not-suc-le-zero, le-of-suc-le-suc, mod-lt, mod-eq-of-lt, mod-eq-sub-mod, add-mod-mod, div-lt-iff-lt-mul}
+use native.Mathlib.Nat.{not-suc-le-zero, le-of-suc-le-suc, mod-lt, mod-eq-of-lt, mod-eq-sub-mod, add-mod-mod, div-lt-iff-lt-mul, mul-zero}
 use native.Mathlib.Decide.{decLt}
 use native.Mathlib.Omega.{arith}
 use lib.Dec.{T, lit<, lit≤, eqb, eqb→eq, ltb, ltb→lt, leb, leb→le, leb·suc-suc}
@@ -76,20 +76,24 @@ all-pass : T (every (λ i p. passes (p .1)) 0 codes)
 unfolding codes c1 c2 rows1 rows2 hits
 all-pass = tt
 
-valid-in : (ps : List (ℕ × Params)) (i n : ℕ) → T (every (λ j p. passes (p .1)) i ps) → numberIn ps n ≡ true → Valid (codeIn ps n)
+-- a test that every code passes
+in-each : (f : Params → Bool) (ps : List (ℕ × Params)) (i n : ℕ) → T (every (λ j p. f (p .1)) i ps) → numberIn ps n ≡ true → T (f (codeIn ps n))
 unfolding numberIn codeIn
-valid-in [] i n t h = absurd (false≢true h)
-valid-in (p ∷ ps) i n t h =
-    go (eqb n (p .0)) (valid (p .1) (both-left (passes (p .1)) (every (λ j r. passes (r .1)) (suc i) ps) t))
-    (valid-in ps (suc i) n (both-right (passes (p .1)) (every (λ j r. passes (r .1)) (suc i) ps) t)) h
+in-each f [] i n t h = absurd (false≢true h)
+in-each f (p ∷ ps) i n t h =
+    go (eqb n (p .0)) (both-left (f (p .1)) (every (λ j r. f (r .1)) (suc i) ps) t)
+    (in-each f ps (suc i) n (both-right (f (p .1)) (every (λ j r. f (r .1)) (suc i) ps) t)) h
   where
-    go : (b : Bool) → Valid (p .1) → (numberIn ps n ≡ true → Valid (codeIn ps n)) → (b || numberIn ps n) ≡ true → Valid (cond b (p .1) (codeIn ps n))
+    go : (b : Bool) → T (f (p .1)) → (numberIn ps n ≡ true → T (f (codeIn ps n))) → (b || numberIn ps n) ≡ true → T (f (cond b (p .1) (codeIn ps n)))
     go true v r h = v
     go false v r h = r h
 
-pub valid-of : (n : ℕ) → Known n → Valid (codeOf n)
+pub each-of : (f : Params → Bool) → T (every (λ j p. f (p .1)) 0 codes) → (n : ℕ) → Known n → T (f (codeOf n))
 unfolding codeOf isCode
-valid-of n h = valid-in codes 0 n all-pass h
+each-of f t n h = in-each f codes 0 n t h
+
+pub valid-of : (n : ℕ) → Known n → Valid (codeOf n)
+valid-of n h = valid (codeOf n) (each-of passes all-pass n h)
 
 -- a code has no more than 3,072 symbols, and no code has none
 few-in : (ps : List (ℕ × Params)) (i n : ℕ) → T (every (λ j p. passes (p .1)) i ps) → codeIn ps n .k + codeIn ps n .m ≤ 3072
@@ -108,9 +112,17 @@ pub few-of : (n : ℕ) → nOf (codeOf n) ≤ 3072
 unfolding codeOf
 few-of n = few-in codes 0 n all-pass
 
+-- a is not 0, since q * a is m
+pub some-a : (c : Params) → Valid c → 0 < c .a
+some-a c v = go (c .a) (v .step)
+  where
+    go : (a : ℕ) → c .q * a ≡ c .m → 0 < a
+    go zero e = let h : c .m ≡ 0 = sym e ∙ mul-zero (c .q) in absurd (omega (arith, v .some-m))
+    go (suc a) e = omega arith
+
 -- ---- a shift by s, modulo m, keeps numbers below m apart
 
-wrapped : (m n : ℕ) → n < m + m → ((n < m) × (n % m ≡ n)) ⊎ ((m ≤ n) × (n % m + m ≡ n))
+pub wrapped : (m n : ℕ) → n < m + m → ((n < m) × (n % m ≡ n)) ⊎ ((m ≤ n) × (n % m + m ≡ n))
 wrapped m n h = go (decLt n m)
   where
     go : Dec (n < m) → ((n < m) × (n % m ≡ n)) ⊎ ((m ≤ n) × (n % m + m ≡ n))

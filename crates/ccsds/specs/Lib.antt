@@ -10,5 +10,6 @@ pub mod Writer
 pub mod Show
 pub mod UnitClaims
 pub mod Layout
+pub mod Positions
 pub mod Steps
 pub mod Put

@@ -1,5 +1,5 @@
-// A symbol added at every check row that it touches: what encoding and closing a block have in common. Internal: the crates of this repository
-// call what is here, and a user of the layer has no need to.
+// A symbol added at every check row that it touches, as closing a block does. Internal: the crates of this repository call what is here, and a
+// user of the layer has no need to.
 use crate::tables;
 use crate::tables::Layout;
 ghost use mathlib.Core.Path.{_≡_};

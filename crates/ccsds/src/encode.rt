@@ -1,17 +1,18 @@
 // The encoder: parity bytes from information bytes.
-use crate::accumulate;
 use crate::code::Code;
+use crate::positions;
 use crate::tables;
 use crate::tables::Layout;
 ghost use mathlib.Core.Path.{_≡_};
-ghost use Prim.Native.Nat.{_<_, _+_, _*_, _-_};
+ghost use Prim.Native.Nat.{_<_, _+_, _*_};
 ghost use lib.ListN.{length};
 ghost use Rattle.ccsds.specs.Codes.{encodeOf};
 ghost use Rattle.ccsds.specs.Tables.{codeOf, Known};
 ghost use Rattle.ccsds.specs.Layout.{Given};
 ghost use Rattle.ccsds.specs.Refusals.{outcome, afterwards};
 ghost use Rattle.ccsds.specs.Encode.{encodeRefusal, encodedAs};
-ghost use Rattle.ccsds.specs.Steps.{accumulated, carried, Sized};
+ghost use Rattle.ccsds.specs.Positions.{Laid, Counted};
+ghost use Rattle.ccsds.specs.Steps.{Sized, Done};
 
 // What encode answers: that it is done, or the number of the refusal.
 pub enum Encoded {
@@ -19,45 +20,54 @@ pub enum Encoded {
     Refused(u8),
 }
 
-// Adds the q information symbols of a table row.
-fn add_row(number: usize, l: Layout, w: usize, row: usize, info: &[u8], parity: &mut [u8])
-    requires { ⌜ Known number × Given (codeOf number) l ⌝ }
-    requires { ⌜ row < length (codeOf number .rows) ⌝ }
-    requires { ⌜ Sized (codeOf number) w (length (now info)) (length (now parity)) ⌝ }
-    ensures { λ _. ⌜ now (parity .exit) ≡ accumulated (codeOf number) w (now (info .entry)) (row * codeOf number .q) (codeOf number .q) (now (parity .entry)) ⌝ }
+// Parity symbol s * a + r.
+fn put_row(
+    number: usize,
+    l: Layout,
+    w: usize,
+    s: usize,
+    r: usize,
+    firsts: &[usize; 512],
+    ends: &[usize; 512],
+    counts: &[usize; 8],
+    xs: &mut [usize; 64],
+    info: &[u8],
+    parity: &mut [u8],
+)
+    requires { ⌜ Known number × Given (codeOf number) l × (r < codeOf number .a) × (s < codeOf number .q) ⌝ }
+    requires { ⌜ Laid (codeOf number) (now firsts) (now ends) × Counted (codeOf number) (now counts) × (length (now xs) ≡ 64) ⌝ }
+    requires { ⌜ (length (now info) ≡ codeOf number .k * w) × Done (codeOf number) w (now info) (s * codeOf number .a + r) (now parity) ⌝ }
+    ensures { λ _. ⌜ (length (now (xs .exit)) ≡ 64) × Done (codeOf number) w (now (info .entry)) (s * codeOf number .a + r + 1) (now (parity .exit)) ⌝ }
 {
-    let ys = tables::addresses(number, l, row);
-    let q = l.q;
-    let mut step = 0;
-    while step < q {
-        accumulate::add_symbol(number, l, w, row, &ys, step, info, parity);
-        step += 1;
-    }
+    let n = counts[r];
+    let j = s * l.a + r;
+    positions::information(number, l.q, firsts, ends, n, r, s, xs);
+    buffers::gather::put_sum(w, j, j, xs, n, info, parity);
 }
 
-// Adds every information symbol.
-fn add_information(number: usize, l: Layout, w: usize, info: &[u8], parity: &mut [u8])
-    requires { ⌜ Known number × Given (codeOf number) l ⌝ }
-    requires { ⌜ Sized (codeOf number) w (length (now info)) (length (now parity)) ⌝ }
-    ensures { λ _. ⌜ now (parity .exit) ≡ accumulated (codeOf number) w (now (info .entry)) 0 (codeOf number .k) (now (parity .entry)) ⌝ }
+// Parity symbols s * a to s * a + a - 1.
+fn put_rows(
+    number: usize,
+    l: Layout,
+    w: usize,
+    s: usize,
+    firsts: &[usize; 512],
+    ends: &[usize; 512],
+    counts: &[usize; 8],
+    xs: &mut [usize; 64],
+    info: &[u8],
+    parity: &mut [u8],
+)
+    requires { ⌜ Known number × Given (codeOf number) l × (s < codeOf number .q) ⌝ }
+    requires { ⌜ Laid (codeOf number) (now firsts) (now ends) × Counted (codeOf number) (now counts) × (length (now xs) ≡ 64) ⌝ }
+    requires { ⌜ (length (now info) ≡ codeOf number .k * w) × Done (codeOf number) w (now info) (s * codeOf number .a) (now parity) ⌝ }
+    ensures { λ _. ⌜ (length (now (xs .exit)) ≡ 64) × Done (codeOf number) w (now (info .entry)) (s * codeOf number .a + codeOf number .a) (now (parity .exit)) ⌝ }
 {
-    let rows = l.rows;
-    let mut row = 0;
-    while row < rows {
-        add_row(number, l, w, row, info, parity);
-        row += 1;
-    }
-}
-
-// Adds to each parity symbol but the first the one before it.
-fn carry(m: usize, w: usize, parity: &mut [u8])
-    requires { ⌜ (0 < m) × (length (now parity) ≡ m * w) ⌝ }
-    ensures { λ _. ⌜ now (parity .exit) ≡ carried w (m - 1) (now (parity .entry)) ⌝ }
-{
-    let mut j = 1;
-    while j < m {
-        buffers::add_within(parity, j * w, (j - 1) * w, w);
-        j += 1;
+    let a = l.a;
+    let mut r = 0;
+    while r < a {
+        put_row(number, l, w, s, r, firsts, ends, counts, xs, info, parity);
+        r += 1;
     }
 }
 
@@ -68,10 +78,28 @@ fn encode_sized(number: usize, w: usize, info: &[u8], parity: &mut [u8])
     ensures { λ _. ⌜ now (parity .exit) ≡ encodeOf (codeOf number) w (now (info .entry)) ⌝ }
 {
     let l = tables::layout_of(number);
-    let m = l.m;
-    buffers::clear(parity);
-    add_information(number, l, w, info, parity);
-    carry(m, w, parity);
+    let q = l.q;
+    let mut firsts = [0usize; 512];
+    let mut ends = [0usize; 512];
+    let mut counts = [0usize; 8];
+    let mut xs = [0usize; 64];
+    positions::lay(number, l, &mut firsts, &mut ends, &mut counts);
+    let mut s = 0;
+    while s < q {
+        put_rows(
+            number,
+            l,
+            w,
+            s,
+            &firsts,
+            &ends,
+            &counts,
+            &mut xs,
+            info,
+            parity,
+        );
+        s += 1;
+    }
 }
 
 // The number of encode's refusal, or 0.

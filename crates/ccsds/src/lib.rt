@@ -5,6 +5,7 @@ pub mod checks;
 pub mod code;
 mod copy;
 pub mod encode;
+pub mod positions;
 mod put;
 pub mod reader;
 mod sdnv;

@@ -1,6 +1,7 @@
 -- `ccsds::encode::encode` meets its contract.
 -- Assumes nothing.
-use mathlib.Core.Path.{_∙_}
+use mathlib.Core.Path.{_≡_, _∙_}
+use native.Mathlib.Omega.{arith}
 use borrow.Author.Needs.{needs}
 use Rattle.ccsds.proofs.Refusals.{refused-by, kept-by, not-refused, answered-by, changed-by}
 use Rattle.ccsds.proofs.EncodeRefusal.{ready}
@@ -13,7 +14,8 @@ check-encode-requires c κs = search needs
 returns : tie.Need-returns
 returns c =
     let e = c .before .check-encode .ensures in
-    (refused-by _ _ e (c .if1 .taken) tt, kept-by _ _ e (c .if1 .taken) _ _)
+    let n : c .before .check-encode .result ≡ 0 → ⊥ = λ z. omega arith in
+    (refused-by _ _ e n tt, kept-by _ _ e n _ _)
 
 encode-sized-requires : tie.Need-encode-sized-requires
 encode-sized-requires c κs =
