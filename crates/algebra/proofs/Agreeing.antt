@@ -1,27 +1,21 @@
--- The agreeing codewords in logical form, and as the solutions of a system of equations for each byte column.
--- Column b has right-hand sides of its own, and all columns share the coefficients.
+-- The agreeing codewords in logical form, the verdict by them, and what close puts at a position.
 -- Assumes nothing.
-use mathlib.Core.Path.{_≡_, refl, sym, ap, ap₂, _∙_, subst}
+use mathlib.Core.Path.{_≡_, refl, sym, ap, ap₂, _∙_}
 use mathlib.Core.Logic.{_↔_, _≢_, _⊎_, inl, inr}
-use mathlib.Core.Bool.{Bool, true, false, not, _&&_, _||_, cond, false≢true}
+use mathlib.Core.Bool.{Bool, true, false, not, _&&_, _||_, false≢true}
 use mathlib.Core.List.{List, [], _∷_, List·Memᴰ, List·Memᴰ·head, List·Memᴰ·tail, List·Memᴰ·not-nil, List·Memᴰ·cases-cons, List·Memᴰ·eq-of-singleton}
-use Prim.Native.Nat.{ℕ, _+_, _*_, _/_, _%_, _≤_, _<_}
-use native.Mathlib.Decide.{decLt}
+use Prim.Native.Nat.{ℕ, _+_, _*_, _/_, _%_, _<_}
 use native.Mathlib.Omega.{arith}
 use lib.Arith.{digits-div, digits-mod, digits-lt}
-use lib.Dec.{eqb, lit<}
-use lib.ListN.{length, getD, List·getD-eq-default}
-use Rattle.algebra.specs.Sums.{_⊕_, sum}
-use Rattle.algebra.specs.Lists.{tab}
-use Rattle.algebra.specs.Codeword.{Checks, byteAt, rowSum, codeword}
+use lib.Dec.{eqb}
+use lib.ListN.{length, getD}
+use Rattle.algebra.specs.Codeword.{Checks, byteAt, codeword}
 use Rattle.algebra.specs.Words.{words}
 use Rattle.algebra.specs.Closing.{whole, ambiguous, inconsistent, heard, sameSymbol, agrees, agreeing, verdictOf, allSame, settled, first, markAfter, byteAfter, marksAfter, symbolsAfter}
 use Rattle.algebra.specs.Demand.{Agreeing}
-use Rattle.algebra.proofs.Sums.{self, eq-of-add, sum-cong, sum-split}
 use Rattle.algebra.proofs.Lists.{every-iff, and-iff, eqb-iff, length-tab, getD-tab}
 use Rattle.algebra.proofs.Codeword.{ext-byteAt, codeword-iff}
 use Rattle.algebra.proofs.Words.{mem-filter, Once, once-filter, mem-words, once-words}
-use Rattle.algebra.proofs.Systems.{System, Solves}
 
 -- ---- lists of words
 
@@ -69,29 +63,6 @@ settled-same w (z ∷ l) i e = (List·Memᴰ·head refl, λ y m b h. go y b h (L
     go : (y : List ℕ) (b : ℕ) → b < w → (y ≡ z) ⊎ List·Memᴰ y l → byteAt w z b i ≡ byteAt w y b i
     go y b h (inl q) = ap (λ (x : List ℕ). byteAt w x b i) (sym q)
     go y b h (inr m) = allSame-iff w z l i .0 e y m b h
-
--- two members differ
-pub settled-false : (w : ℕ) (L : List (List ℕ)) (i : ℕ) (x y : List ℕ) (b : ℕ) → b < w → List·Memᴰ x L → List·Memᴰ y L
-    → byteAt w x b i ≢ byteAt w y b i → settled w L i ≡ false
-settled-false w L i x y b h mx my d = go (settled w L i) refl
-  where
-    go : (a : Bool) → settled w L i ≡ a → a ≡ false
-    go true e = let f = settled-same w L i e .1 in absurd (d (sym (f x mx b h) ∙ f y my b h))
-    go false e = refl
-
--- no member
-pub settled-none : (w : ℕ) (L : List (List ℕ)) (i : ℕ) → L ≡ [] → settled w L i ≡ false
-unfolding settled
-settled-none w L i e = ap (λ (l : List (List ℕ)). settled w l i) e
-
-pub first-in : (L : List (List ℕ)) → L ≢ [] → List·Memᴰ (first L) L
-unfolding first
-first-in [] d = absurd (d refl)
-first-in (x ∷ l) d = List·Memᴰ·head refl
-
-pub none-in : (L : List (List ℕ)) → ((x : List ℕ) → ¬ List·Memᴰ x L) → L ≡ []
-none-in [] h = refl
-none-in (x ∷ l) h = absurd (h x (List·Memᴰ·head refl))
 
 -- ---- the verdict, by the members of the list
 
@@ -219,74 +190,3 @@ module _ (c : Checks) (w : ℕ) (s marks : List ℕ) where
       go : (i b : ℕ) → i < c .n → b < w → (a : Bool) → heard marks i ≡ a → byteAt w x b i ≡ byteAt w y b i
       go i b hi hb true e = ax .same i hi e b hb ∙ sym (ay .same i hi e b hb)
       go i b hi hb false e = h i hi e b hb
-
--- ---- the system of a column: the rows over the missing positions, with the heard symbols' sums on the right
-
-unfoldable pub startRhs : Checks → ℕ → List ℕ → List ℕ → ℕ → ℕ → ℕ
-startRhs c w s marks b j = sum (λ p. c .has j p && heard marks p) (byteAt w s b) (c .n)
-
-abbrev pub start : Checks → ℕ → List ℕ → List ℕ → ℕ → System
-start c w s marks b = record { coef = λ j p. c .has j p && not (heard marks p); rhs = startRhs c w s marks b }
-
--- the word with the heard symbols of s, and z's bytes elsewhere
-unfoldable pub fill : Checks → ℕ → List ℕ → List ℕ → (ℕ → ℕ → ℕ) → List ℕ
-fill c w s marks z = tab (c .n * w) (λ t. cond (heard marks (t / w)) (byteAt w s (t % w) (t / w)) (z (t % w) (t / w)))
-
-module _ (c : Checks) (w : ℕ) (s marks : List ℕ) where
-  -- an agreeing word solves each column
-  pub agreeing-solves : (x : List ℕ) → Agreeing c w s marks x → (b : ℕ) → b < w → Solves (c .m) (c .n) (start c w s marks b) (byteAt w x b)
-  unfolding startRhs rowSum
-  agreeing-solves x a b hb j hj =
-      let has : ℕ → Bool = c .has j in
-      let open-sum : ℕ = sum (λ p. has p && not (heard marks p)) (byteAt w x b) (c .n) in
-      let heard-sum : ℕ = sum (λ p. has p && heard marks p) (byteAt w x b) (c .n) in
-      eq-of-add open-sum heard-sum (sym (sum-split has (heard marks) (byteAt w x b) (c .n)) ∙ a .rows j hj b hb)
-      ∙ sum-cong (λ p. has p && heard marks p) (λ p. has p && heard marks p) (byteAt w x b) (byteAt w s b) (c .n) (λ p h. refl)
-      (λ p h t. a .same p h (and-iff (has p) (heard marks p) .0 t .1) b hb)
-
-  module _ (bs : (t : ℕ) → getD s t 0 < 256) (z : ℕ → ℕ → ℕ) (bz : (b i : ℕ) → z b i < 256) where
-    pub fill-at : (i b : ℕ) → i < c .n → b < w → byteAt w (fill c w s marks z) b i ≡ cond (heard marks i) (byteAt w s b i) (z b i)
-    unfolding fill
-    fill-at i b hi hb =
-        getD-tab (c .n * w) (λ t. cond (heard marks (t / w)) (byteAt w s (t % w) (t / w)) (z (t % w) (t / w))) 0 (i * w + b) (digits-lt hi hb)
-        ∙ ap₂ (λ (p d : ℕ). cond (heard marks p) (byteAt w s d p) (z d p)) (digits-div i hb) (digits-mod i hb)
-
-    fill-bytes : (t : ℕ) → getD (fill c w s marks z) t 0 < 256
-    unfolding fill
-    fill-bytes t = go (decLt t (c .n * w))
-      where
-        f : ℕ → ℕ
-        f u = cond (heard marks (u / w)) (byteAt w s (u % w) (u / w)) (z (u % w) (u / w))
-
-        small : (a : Bool) (d p : ℕ) → cond a (byteAt w s d p) (z d p) < 256
-        small true d p = bs (p * w + d)
-        small false d p = bz d p
-
-        go : Dec (t < c .n * w) → getD (tab (c .n * w) f) t 0 < 256
-        go (yes h) = subst (λ (v : ℕ). v < 256) (sym (getD-tab (c .n * w) f 0 t h)) (small (heard marks (t / w)) (t % w) (t / w))
-        go (no h) =
-            subst (λ (v : ℕ). v < 256)
-            (sym (List·getD-eq-default (tab (c .n * w) f) 0 {n = t} (subst (λ (v : ℕ). v ≤ t) (sym (length-tab (c .n * w) f)) (omega arith)))) (lit< tt)
-
-    -- and a solution of each column makes an agreeing word
-    pub fill-agreeing : ((b : ℕ) → b < w → Solves (c .m) (c .n) (start c w s marks b) (z b)) → Agreeing c w s marks (fill c w s marks z)
-    unfolding startRhs fill rowSum
-    fill-agreeing sol = record {
-      size = length-tab (c .n * w) (λ t. cond (heard marks (t / w)) (byteAt w s (t % w) (t / w)) (z (t % w) (t / w)));
-      bytes = fill-bytes;
-      rows = λ j hj b hb.
-          let has : ℕ → Bool = c .has j in
-          sum-split has (heard marks) (byteAt w (fill c w s marks z) b) (c .n)
-          ∙ ap₂ _⊕_
-          (sum-cong (λ p. has p && not (heard marks p)) (λ p. has p && not (heard marks p)) (byteAt w (fill c w s marks z) b) (z b) (c .n) (λ p h. refl)
-          (λ p h t. fill-at p b h hb ∙ clear p b (heard marks p) (and-iff (has p) (not (heard marks p)) .0 t .1))
-          ∙ sol b hb j hj)
-          (sum-cong (λ p. has p && heard marks p) (λ p. has p && heard marks p) (byteAt w (fill c w s marks z) b) (byteAt w s b) (c .n) (λ p h. refl)
-          (λ p h t. fill-at p b h hb ∙ ap (λ (a : Bool). cond a (byteAt w s b p) (z b p)) (and-iff (has p) (heard marks p) .0 t .1)))
-          ∙ self (startRhs c w s marks b j);
-      same = λ i hi t b hb. fill-at i b hi hb ∙ ap (λ (a : Bool). cond a (byteAt w s b i) (z b i)) t;
-    }
-      where
-        clear : (p b : ℕ) (a : Bool) → not a ≡ true → cond a (byteAt w s b p) (z b p) ≡ z b p
-        clear p b true e = absurd (false≢true e)
-        clear p b false e = refl

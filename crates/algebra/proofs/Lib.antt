@@ -2,11 +2,8 @@ pub mod Sums
 pub mod Lists
 pub mod Codeword
 pub mod Staircase
-pub mod Systems
-pub mod Reduced
 pub mod Words
 pub mod Agreeing
-pub mod Closing
 pub mod SameHeard
 pub mod Demand
 pub mod Counts

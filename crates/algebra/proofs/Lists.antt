@@ -9,7 +9,6 @@ use native.Mathlib.Decide.{ℕ-discrete}
 use native.Mathlib.Omega.{arith}
 use lib.Dec.{T, eqb, eqb→eq, eqb-refl}
 use lib.ListN.{length, getD}
-use lib.Seq.{ext-getD}
 use Rattle.algebra.specs.Lists.{every, tab}
 
 and-left : (a b : Bool) → a && b ≡ true → a ≡ true
@@ -54,9 +53,3 @@ unfolding tab
 getD-tab zero f d i h = absurd (not-suc-le-zero h)
 getD-tab (suc n) f d zero h = refl
 getD-tab (suc n) f d (suc i) h = getD-tab n (λ j. f (suc j)) d i (le-of-suc-le-suc h)
-
-pub tab-cong : (n : ℕ) (f g : ℕ → ℕ) → ((i : ℕ) → i < n → f i ≡ g i) → tab n f ≡ tab n g
-tab-cong n f g h =
-    ext-getD 0 (tab n f) (tab n g) (length-tab n f ∙ sym (length-tab n g)) (λ i l.
-    let r : i < n = subst (λ (m : ℕ). i < m) (length-tab n f) l in
-    getD-tab n f 0 i r ∙ h i r ∙ sym (getD-tab n g 0 i r))

@@ -224,18 +224,6 @@ sum-append a x k (suc m) =
     ∙ ap (λ (v : ℕ). v ⊕ pick (a (k + m)) (x (k + m))) (sum-append a x k m)
     ∙ assoc (sum a x k) (sum (λ i. a (k + i)) (λ i. x (k + i)) m) (pick (a (k + m)) (x (k + m)))
 
--- ---- a property of numbers that sums keep, as being a byte
-
-module _ (Ok : ℕ → Type 0) (o : Ok 0) (c : (a b : ℕ) → Ok a → Ok b → Ok (a ⊕ b)) where
-  pick-ok : (b : Bool) (v : ℕ) → Ok v → Ok (pick b v)
-  pick-ok true v h = h
-  pick-ok false v h = o
-
-  pub sum-ok : (a : ℕ → Bool) (x : ℕ → ℕ) → ((p : ℕ) → Ok (x p)) → (n : ℕ) → Ok (sum a x n)
-  unfolding sum
-  sum-ok a x h zero = o
-  sum-ok a x h (suc n) = c (sum a x n) (pick (a n) (x n)) (sum-ok a x h n) (pick-ok (a n) (x n) (h n))
-
 -- ---- how many of n tests hold, modulo 2
 
 unfoldable pub odd : ℕ → (ℕ → Bool) → Bool

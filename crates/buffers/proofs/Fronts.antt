@@ -1,12 +1,12 @@
 -- Arrays that are filled from the front.
 -- Assumes nothing.
-use mathlib.Core.Path.{_≡_, refl, sym, ap, ap₂, _∙_}
-use mathlib.Core.List.{List, [], _∷_}
-use Prim.Native.Nat.{ℕ, suc, _+_, _<_, _≤_}
-use native.Mathlib.Nat.{not-suc-le-zero, le-of-suc-le-suc}
+use mathlib.Core.Path.{_≡_, sym, ap, _∙_}
+use mathlib.Core.List.{List}
+use Prim.Native.Nat.{ℕ, _+_, _<_, _≤_}
+use native.Mathlib.Nat.{not-suc-le-zero}
 use native.Mathlib.Decide.{decLt}
 use native.Mathlib.Omega.{arith}
-use lib.ListN.{length, getD, set, take, length-set}
+use lib.ListN.{length, getD, set, length-set}
 use lib.Seq.{getD-set-same, getD-set-other}
 
 -- element i is written after those before it, each of which is what f says
@@ -19,13 +19,6 @@ front-more f l i v h each e k g = go (decLt k i)
     go (no b) =
         let q : i ≡ k = omega arith in
         ap (λ (j : ℕ). getD (set l i v) j 0) (sym q) ∙ getD-set-same l i v 0 h ∙ e ∙ ap f q
-
--- an array that begins with the elements of l
-pub take-front : (l t : List ℕ) → length l ≤ length t → ((i : ℕ) → i < length l → getD t i 0 ≡ getD l i 0) → take (length l) t ≡ l
-take-front [] t h e = refl
-take-front (x ∷ l) [] h e = absurd (not-suc-le-zero h)
-take-front (x ∷ l) (y ∷ t) h e =
-    ap₂ (λ (z : ℕ) (r : List ℕ). z ∷ r) (e 0 (omega arith)) (take-front l t (le-of-suc-le-suc h) (λ i g. e (suc i) (omega arith)))
 
 -- t has room for n elements, and its first i are what f says
 pub record Filled (f : ℕ → ℕ) (n i : ℕ) (t : List ℕ) : Type 0 where

@@ -1,9 +1,9 @@
-pub mod Laid
 pub mod Added
+pub mod AllZeroLaws
 pub mod Fronts
-pub mod Places
+pub mod Laid
 pub mod Put
-pub mod Rows
 pub mod Sums
 pub mod Symbols
+pub mod ZeroTests
 pub mod Zeros

@@ -1,10 +1,11 @@
 -- Sums of symbols that stand anywhere in a buffer.
 -- Assumes nothing.
 use mathlib.Core.Path.{_≡_}
-use mathlib.Core.Logic.{_⊎_}
-use mathlib.Core.Bool.{true}
+use mathlib.Core.Logic.{_⊎_, _≢_}
+use mathlib.Core.Bool.{Bool, true, false}
 use mathlib.Core.List.{List}
 use Prim.Native.Nat.{ℕ, _+_, _*_, _<_, _≤_}
+use lib.Bits.{bitOr}
 use lib.ListN.{length, getD}
 use Rattle.algebra.specs.Sums.{_⊕_, sum}
 use Rattle.algebra.specs.Codeword.{byteAt}
@@ -26,6 +27,11 @@ pub record Replaced (f : ℕ → ℕ) (w j : ℕ) (p p′ : List ℕ) : Type 0 w
   pub size : length p′ ≡ length p
   pub outside : (t : ℕ) → (t < j * w) ⊎ (j * w + w ≤ t) → getD p′ t 0 ≡ getD p t 0
   pub each : (b : ℕ) → b < w → byteAt w p′ b j ≡ f b
+
+-- r is the answer to: do the first n symbols xs of src add up to zero?
+abbrev pub CancelIs : ℕ → List ℕ → List ℕ → ℕ → Bool → Type 0
+CancelIs w src xs n true = (b : ℕ) → b < w → gathered (byteAt w src b) xs n ≡ 0
+CancelIs w src xs n false = (b : ℕ) × ((b < w) × (gathered (byteAt w src b) xs n ≢ 0))
 
 -- inner steps
 
@@ -77,3 +83,13 @@ pub record Written (f : ℕ → ℕ) (at c n : ℕ) (p p′ : List ℕ) : Type 0
   pub size : length p′ ≡ length p
   pub outside : (t : ℕ) → (t < at + c) ⊎ (at + (c + n) ≤ t) → getD p′ t 0 ≡ getD p t 0
   pub each : (b : ℕ) → b < n → getD p′ (at + (c + b)) 0 ≡ f (c + b)
+
+-- t is the bitwise or of s and u
+pub record Joined (s u t : List ℕ) : Type 0 where
+  pub size : length t ≡ 16
+  pub each : (b : ℕ) → b < 16 → getD t b 0 ≡ bitOr (getD s b 0) (getD u b 0)
+
+-- r is the answer to: is f zero at from, .., to - 1?
+abbrev pub ZeroIs : (ℕ → ℕ) → ℕ → ℕ → Bool → Type 0
+ZeroIs f from to true = (b : ℕ) → from ≤ b → b < to → f b ≡ 0
+ZeroIs f from to false = (b : ℕ) × ((from ≤ b) × ((b < to) × (f b ≢ 0)))

@@ -2,8 +2,8 @@
 -- Assumes nothing.
 use mathlib.Core.Path.{_≡_}
 use mathlib.Core.Logic.{_⊎_}
-use mathlib.Core.List.{List, [], _∷_}
-use Prim.Native.Nat.{ℕ, zero, suc, _+_, _*_, _<_, _≤_}
+use mathlib.Core.List.{List}
+use Prim.Native.Nat.{ℕ, zero, suc, _+_, _<_, _≤_}
 use lib.ListN.{length, getD, set}
 use Rattle.algebra.specs.Sums.{_⊕_}
 
@@ -11,11 +11,6 @@ use Rattle.algebra.specs.Sums.{_⊕_}
 unfoldable pub added : List ℕ → ℕ → List ℕ → ℕ → ℕ → List ℕ
 added d at s from zero = d
 added d at s from (suc n) = set (added d at s from n) (at + n) (getD d (at + n) 0 ⊕ getD s (from + n) 0)
-
--- d, where the w bytes of s from index `from` on are added at each row of the list; row j is the w bytes from index j * w on
-unfoldable pub addedEach : List ℕ → ℕ → List ℕ → ℕ → List ℕ → List ℕ
-addedEach [] w s from d = d
-addedEach (j ∷ js) w s from d = addedEach js w s from (added d (j * w) s from w)
 
 -- d, where the n elements of s from index `from` on stand from index `at` on
 unfoldable pub put : List ℕ → ℕ → List ℕ → ℕ → ℕ → List ℕ
@@ -35,9 +30,3 @@ pub record Sum (d : List ℕ) (at : ℕ) (s : List ℕ) (from n : ℕ) (t : List
 -- the n elements from index `at` on and the n from index `from` on have none in common
 pub record Apart (at from n : ℕ) : Type 0 where
   pub either : (from + n ≤ at) ⊎ (at + n ≤ from)
-
--- js has 8 elements, and its first n are rows, of w bytes each, of a buffer of `bytes` bytes
-pub record Within (js : List ℕ) (n w bytes : ℕ) : Type 0 where
-  pub size : length js ≡ 8
-  pub few : n ≤ 8
-  pub each : (i : ℕ) → i < n → getD js i 0 * w + w ≤ bytes

@@ -6,7 +6,8 @@ ghost use lib.ListN.{length, getD};
 ghost use Rattle.algebra.specs.Sums.{_⊕_};
 ghost use Rattle.algebra.specs.Codeword.{byteAt};
 ghost use Rattle.algebra.specs.Staircase.{before};
-ghost use Rattle.buffers.specs.Gather.{gathered, Inside, Replaced, summed, byteBefore, Bytes, Bytes64, Full, Plus, Plus64, putFour, Written};
+ghost use Rattle.buffers.specs.Gather.{gathered, Inside, Replaced, summed, byteBefore, Bytes, Bytes64, Full, Plus, Plus64, putFour, Written, CancelIs, Joined, ZeroIs};
+use crate::all_zero;
 use crate::part_16;
 use crate::put_16;
 use crate::sum_16;
@@ -380,4 +381,90 @@ pub fn restore(w: usize, p: usize, xs: &[usize; 64], n: usize, buf: &mut [u8])
         return;
     }
     restore_chunks(w, p, xs, n, buf);
+}
+
+// The bitwise or of two chunks.
+fn join<'a>(t: &'a [u8; 16], u: &'a [u8; 16]) -> [u8; 16]
+    requires { ⌜ (length (now t) ≡ 16) × (length (now u) ≡ 16) ⌝ }
+    ensures { λ r. ⌜ Joined (now (t .entry)) (now (u .entry)) r ⌝ }
+{
+    let mut r = [0u8; 16];
+    let mut i = 0;
+    while i < 16 {
+        r[i] = t[i] | u[i];
+        i += 1;
+    }
+    r
+}
+
+// Bytes c to c + 63 of the n symbols xs of src add up to zero.
+fn cancels_64(w: usize, c: usize, xs: &[usize; 64], n: usize, src: &[u8]) -> bool
+    requires { ⌜ c + 64 ≤ w ⌝ }
+    requires { ⌜ Inside (now xs) n w (length (now src)) ⌝ }
+    ensures { λ r. ⌜ ZeroIs (summed (λ b. 0) w (now (src .entry)) (now (xs .entry)) n) c (c + 64) r ⌝ }
+{
+    let s = gather_64(zeros(), w, c, xs, n, src);
+    let x = join(&s.a, &s.b);
+    let y = join(&s.c, &s.d);
+    all_zero(&join(&x, &y), 0, 16)
+}
+
+// Bytes c to c + 15.
+fn cancels_16(w: usize, c: usize, xs: &[usize; 64], n: usize, src: &[u8]) -> bool
+    requires { ⌜ c + 16 ≤ w ⌝ }
+    requires { ⌜ Inside (now xs) n w (length (now src)) ⌝ }
+    ensures { λ r. ⌜ ZeroIs (summed (λ b. 0) w (now (src .entry)) (now (xs .entry)) n) c (c + 16) r ⌝ }
+{
+    all_zero(&gather_16(&[0u8; 16], w, c, xs, n, src), 0, 16)
+}
+
+// cancels for symbols of at least 16 bytes. Where the width is no multiple of 16, some bytes are added twice.
+fn cancels_chunks(w: usize, xs: &[usize; 64], n: usize, src: &[u8]) -> bool
+    requires { ⌜ 16 ≤ w ⌝ }
+    requires { ⌜ Inside (now xs) n w (length (now src)) ⌝ }
+    ensures { λ r. ⌜ ZeroIs (summed (λ b. 0) w (now (src .entry)) (now (xs .entry)) n) 0 w r ⌝ }
+{
+    let mut c = 0;
+    while w - c >= 64 {
+        if !cancels_64(w, c, xs, n, src) {
+            return false;
+        }
+        c += 64;
+    }
+    while w - c > 16 {
+        if !cancels_16(w, c, xs, n, src) {
+            return false;
+        }
+        c += 16;
+    }
+    if c == w {
+        return true;
+    }
+    cancels_16(w, w - 16, xs, n, src)
+}
+
+// cancels byte by byte.
+fn cancels_bytes(w: usize, xs: &[usize; 64], n: usize, src: &[u8]) -> bool
+    requires { ⌜ Inside (now xs) n w (length (now src)) ⌝ }
+    ensures { λ r. ⌜ ZeroIs (summed (λ b. 0) w (now (src .entry)) (now (xs .entry)) n) 0 w r ⌝ }
+{
+    let mut c = 0;
+    while c < w {
+        if gather_byte(0, w, c, xs, n, src) != 0 {
+            return false;
+        }
+        c += 1;
+    }
+    true
+}
+
+// The n symbols xs of src add up to zero.
+pub fn cancels(w: usize, xs: &[usize; 64], n: usize, src: &[u8]) -> bool
+    requires { ⌜ Inside (now xs) n w (length (now src)) ⌝ }
+    ensures { λ r. ⌜ CancelIs w (now (src .entry)) (now (xs .entry)) n r ⌝ }
+{
+    if w < 16 {
+        return cancels_bytes(w, xs, n, src);
+    }
+    cancels_chunks(w, xs, n, src)
 }

@@ -3,8 +3,9 @@ pub mod gather;
 
 ghost use mathlib.Core.Path.{_≡_};
 ghost use Prim.Native.Nat.{_≤_, _+_};
-ghost use lib.ListN.{length, replicate, take};
-ghost use Rattle.buffers.specs.Parts.{added, addedEach, put, Sum, Part, Apart, Within};
+ghost use lib.ListN.{length, replicate};
+ghost use Rattle.buffers.specs.Parts.{added, put, Sum, Part, Apart};
+ghost use Rattle.buffers.specs.AllZero.{AllZeroIs};
 
 // The 16 bytes of dst from index `at` on, each with the byte of src added that stands as far from index `from`. An array of its own overlaps with
 // nothing, and so short a loop is compiled to one vector instruction, without a test of whether dst and src overlap.
@@ -33,27 +34,7 @@ fn put_16(dst: &mut [u8], at: usize, t: &[u8; 16])
     }
 }
 
-// Adds 16 bytes of src.
-fn add_16(dst: &mut [u8], at: usize, src: &[u8], from: usize)
-    requires { ⌜ (at + 16 ≤ length (now dst)) × (from + 16 ≤ length (now src)) ⌝ }
-    ensures { λ _. ⌜ now (dst .exit) ≡ added (now (dst .entry)) at (now (src .entry)) from 16 ⌝ }
-{
-    let t = sum_16(dst, at, src, from);
-    put_16(dst, at, &t);
-}
-
-// The same with 64 bytes.
-fn add_64(dst: &mut [u8], at: usize, src: &[u8], from: usize)
-    requires { ⌜ (at + 64 ≤ length (now dst)) × (from + 64 ≤ length (now src)) ⌝ }
-    ensures { λ _. ⌜ now (dst .exit) ≡ added (now (dst .entry)) at (now (src .entry)) from 64 ⌝ }
-{
-    add_16(dst, at, src, from);
-    add_16(dst, at + 16, src, from + 16);
-    add_16(dst, at + 32, src, from + 32);
-    add_16(dst, at + 48, src, from + 48);
-}
-
-// Adds 16 bytes of the same buffer.
+// Adds the 16 bytes of a buffer from index `from` on to those from index `at` on.
 fn add_within_16(buf: &mut [u8], at: usize, from: usize)
     requires { ⌜ (at + 16 ≤ length (now buf)) × (from + 16 ≤ length (now buf)) ⌝ }
     ensures { λ _. ⌜ now (buf .exit) ≡ added (now (buf .entry)) at (now (buf .entry)) from 16 ⌝ }
@@ -86,87 +67,6 @@ fn part_16(src: &[u8], from: usize) -> [u8; 16]
         i += 1;
     }
     t
-}
-
-// Adds 16 bytes of src in two places of dst. They are read once.
-fn add_16_at_both(dst: &mut [u8], at: usize, to: usize, src: &[u8], from: usize)
-    requires { ⌜ (at + 16 ≤ length (now dst)) × (to + 16 ≤ length (now dst)) × (from + 16 ≤ length (now src)) ⌝ }
-    ensures { λ _. ⌜ now (dst .exit) ≡ added (added (now (dst .entry)) at (now (src .entry)) from 16) to (now (src .entry)) from 16 ⌝ }
-{
-    let s = part_16(src, from);
-    add_16(dst, at, &s, 0);
-    add_16(dst, to, &s, 0);
-}
-
-// The same with 32 bytes.
-fn add_32_at_both(dst: &mut [u8], at: usize, to: usize, src: &[u8], from: usize)
-    requires { ⌜ (at + 32 ≤ length (now dst)) × (to + 32 ≤ length (now dst)) × (from + 32 ≤ length (now src)) ⌝ }
-    ensures { λ _. ⌜ now (dst .exit) ≡ added (added (now (dst .entry)) at (now (src .entry)) from 32) to (now (src .entry)) from 32 ⌝ }
-{
-    let s = part_16(src, from);
-    let t = part_16(src, from + 16);
-    add_16(dst, at, &s, 0);
-    add_16(dst, at + 16, &t, 0);
-    add_16(dst, to, &s, 0);
-    add_16(dst, to + 16, &t, 0);
-}
-
-// Adds len bytes of src, from index `from` on, to those of dst from index `at` on.
-fn add_from(dst: &mut [u8], at: usize, src: &[u8], from: usize, len: usize)
-    requires { ⌜ (at + len ≤ length (now dst)) × (from + len ≤ length (now src)) ⌝ }
-    ensures { λ _. ⌜ now (dst .exit) ≡ added (now (dst .entry)) at (now (src .entry)) from len ⌝ }
-{
-    let mut i = 0;
-    while len - i >= 64 {
-        add_64(dst, at + i, src, from + i);
-        i += 64;
-    }
-    while len - i >= 16 {
-        add_16(dst, at + i, src, from + i);
-        i += 16;
-    }
-    while i < len {
-        dst[at + i] = dst[at + i] ^ src[from + i];
-        i += 1;
-    }
-}
-
-// Adds len bytes of src, from index `from` on, in two places of dst: from index `at` on, and from index `to` on. The places may overlap.
-fn add_at_both(dst: &mut [u8], at: usize, to: usize, src: &[u8], from: usize, len: usize)
-    requires { ⌜ (at + len ≤ length (now dst)) × (to + len ≤ length (now dst)) × (from + len ≤ length (now src)) ⌝ }
-    ensures { λ _. ⌜ now (dst .exit) ≡ added (added (now (dst .entry)) at (now (src .entry)) from len) to (now (src .entry)) from len ⌝ }
-{
-    let mut i = 0;
-    while len - i >= 32 {
-        add_32_at_both(dst, at + i, to + i, src, from + i);
-        i += 32;
-    }
-    while len - i >= 16 {
-        add_16_at_both(dst, at + i, to + i, src, from + i);
-        i += 16;
-    }
-    while i < len {
-        dst[at + i] = dst[at + i] ^ src[from + i];
-        dst[to + i] = dst[to + i] ^ src[from + i];
-        i += 1;
-    }
-}
-
-// Adds the w bytes of src from index `from` on at each of the first n rows of js, two rows at a time. It is the one caller of the two sums, so
-// that they are inlined.
-pub fn add_at(dst: &mut [u8], js: &[usize; 8], n: usize, w: usize, src: &[u8], from: usize)
-    requires { ⌜ Within (now js) n w (length (now dst)) ⌝ }
-    requires { ⌜ from + w ≤ length (now src) ⌝ }
-    ensures { λ _. ⌜ now (dst .exit) ≡ addedEach (take n (now (js .entry))) w (now (src .entry)) from (now (dst .entry)) ⌝ }
-{
-    let mut i = 0;
-    while n - i >= 2 {
-        add_at_both(dst, js[i] * w, js[i + 1] * w, src, from, w);
-        i += 2;
-    }
-    if i < n {
-        add_from(dst, js[i] * w, src, from, w);
-    }
 }
 
 // Adds len bytes of a buffer, from index `from` on, to those of the same buffer from index `at` on, which are apart from them.
@@ -227,4 +127,19 @@ pub fn clear_words(buf: &mut [u64])
         buf[i] = 0;
         i += 1;
     }
+}
+
+// The len bytes from index `from` are all 0. All of them are read: a loop that may end early is not compiled to vector instructions.
+pub fn all_zero(s: &[u8], from: usize, len: usize) -> bool
+    requires { ⌜ from + len ≤ length (now s) ⌝ }
+    ensures { λ r. ⌜ AllZeroIs (now (s .entry)) from len r ⌝ }
+{
+    let mut all: u8 = 0;
+    let mut i = 0;
+    while i < len {
+        let k = from + i;
+        all = all | s[k];
+        i += 1;
+    }
+    all == 0
 }

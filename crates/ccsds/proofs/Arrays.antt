@@ -14,8 +14,7 @@ use Rattle.algebra.proofs.Codeword.{slot}
 use Rattle.ccsds.specs.Codes.{Params}
 use Rattle.ccsds.specs.Tables.{codeOf, codes, Known, c1, c2, rows1, rows2}
 use Rattle.ccsds.proofs.Table.{every, at, upTo, in-range, both-left, both-right}
-use Rattle.ccsds.proofs.Valid.{Valid, each-of, some-a}
-use Rattle.ccsds.proofs.Address.{address-lt}
+use Rattle.ccsds.proofs.Valid.{Valid, each-of, some-a, address-lt}
 use Rattle.ccsds.specs.Positions.{Entry, classIn, classFrom, classOf, Lists, lists, entered, rowEntered, tableEntered, Is, Place, Laid, Counted}
 use Rattle.ccsds.proofs.Touched.{quotient-lt}
 
@@ -102,7 +101,7 @@ address-fits c v row i q a y few hr hi eq ea ey =
       omega (arith, some-a c v),
       omega arith,
       omega (arith, slot row (length (c .rows)) (c .q) hr, v .whole, v .few),
-      omega (arith, quotient-lt c v (getD (getD (c .rows) row []) i 0) (address-lt c v row 0 hr (v .some-q) i hi)),
+      omega (arith, quotient-lt c v (getD (getD (c .rows) row []) i 0) (address-lt c v row hr i hi)),
     )
 
 -- ---- the test

@@ -84,7 +84,7 @@ six (a ∷ b ∷ c ∷ d ∷ []) h = absurd (omega arith)
 six (a ∷ b ∷ c ∷ d ∷ e ∷ []) h = absurd (omega arith)
 six (a ∷ b ∷ c ∷ d ∷ e ∷ f ∷ t) h = refl
 
-header-is : (s : List ℕ) → OfBytes s → Header s → getD s 1 0 ≡ 1 → s ≡ headerOf (getD s 0 0 / 2 % 8) (pairAt s 4) (pairAt s 2) ++ drop 6 s
+pub header-is : (s : List ℕ) → OfBytes s → Header s → getD s 1 0 ≡ 1 → s ≡ headerOf (getD s 0 0 / 2 % 8) (pairAt s 4) (pairAt s 2) ++ drop 6 s
 unfolding headerOf
 header-is s bytes h n =
     let b : 16 + getD s 0 0 / 2 % 8 * 2 ≡ getD s 0 0 = omega (arith, bytes 0, h .version, h .reserved) in

@@ -2,9 +2,6 @@ pub mod Table
 pub mod Valid
 pub mod FlatTable
 pub mod Refusals
-pub mod Address
-pub mod Columns
-pub mod CheckRows
 pub mod Cycle
 pub mod Touched
 pub mod Arrays
@@ -22,5 +19,6 @@ pub mod UnitLaws
 pub mod ShowLaws
 pub mod UnitClaims
 pub mod CanonicalUnit
+pub mod ExpectedUnit
 pub mod FirstByte
 pub mod EndsEarly

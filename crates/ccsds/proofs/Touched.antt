@@ -17,8 +17,7 @@ use Rattle.algebra.proofs.Sums as sums
 use Rattle.algebra.proofs.Codeword.{slot}
 use Rattle.ccsds.specs.Codes.{Params, rowOf, place, hits, touches}
 use Rattle.ccsds.proofs.Table.{getD-map}
-use Rattle.ccsds.proofs.Valid.{Valid, Apart, some-a, row-apart, hit-once}
-use Rattle.ccsds.proofs.Address.{address-lt}
+use Rattle.ccsds.proofs.Valid.{Valid, Apart, some-a, row-apart, hit-once, address-lt}
 use Rattle.ccsds.specs.Positions.{Entry, entryIf, classIn, classFrom, classOf, positionAt, positions, Place}
 use Rattle.ccsds.proofs.Cycle.{there, back, blocks}
 
@@ -132,7 +131,7 @@ good-at n q (e ∷ l) g (suc i) h = good-at n q l (g .1) i (le-of-suc-le-suc h)
 module _ (c : Params) (v : Valid c) where
   -- every address is below m
   table-below : (row : ℕ) → row < length (c .rows) → Below (c .m) (getD (c .rows) row [])
-  table-below row h = below-of (c .m) (getD (c .rows) row []) (λ i g. address-lt c v row 0 h (v .some-q) i g)
+  table-below row h = below-of (c .m) (getD (c .rows) row []) (address-lt c v row h)
 
   module _ (r : ℕ) where
     classIn-good : (n row : ℕ) (ys : List ℕ) → row < n → Below (c .m) ys → Good n (c .q) (classIn (c .a) r row ys)

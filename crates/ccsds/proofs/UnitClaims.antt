@@ -23,7 +23,7 @@ use Rattle.ccsds.specs.Sdnv.{finished, numberAt, sdnvBytes}
 use Rattle.ccsds.specs.Reader.{part, lengthAt, codingOf, valueOf, wrongType, extensionAt, extensionsOf, wrongHeader, readUnit}
 use Rattle.ccsds.specs.Writer.{lwcOf, headerOf, valueBytes, extensionOf, unitOf, symbolStart, unitBytes, writeRefusal}
 use Rattle.ccsds.specs.Show.{Slice, showRefusal, showOf}
-use Rattle.ccsds.specs.UnitClaims.{RoundTrip, symbolAt, SendsCodeword}
+use Rattle.ccsds.specs.UnitClaims.{partsOf, ReadsAs, RoundTrip, symbolAt, SendsCodeword}
 use Rattle.ccsds.proofs.Valid.{few-of}
 use Rattle.ccsds.proofs.Refusals.{length-same, position-is-right, symbol-same}
 use Rattle.ccsds.proofs.SdnvRound.{reads-back}
@@ -81,28 +81,31 @@ extension-reads w k n hw hk hn s before after at q l =
     from-value s false at (omega arith) y ln
     ∙ rw (t, d, value-reads w k n hw hk hn, x)
 
--- the unit
-pub round-trip : RoundTrip
+-- the unit, of any code's numbers that an SDNV can hold
+pub unit-reads : (c : Params) (w protocol lsc lwc : ℕ) (symbol : List ℕ) → w < 4294967296 → nOf c < 4294967296 → protocol ≤ 7
+    → ReadsAs (unitOf c w protocol lsc lwc symbol) (partsOf c w protocol lsc lwc) symbol
 unfolding unitOf readUnit wrongHeader headerOf extensionsOf
-round-trip number w protocol lsc lwc symbol outs z =
-    let r = writable number w protocol lsc lwc (length symbol) outs z in
-    let c = codeOf number in
+unit-reads c w protocol lsc lwc symbol hw hn hp =
     let e = extensionOf w (c .k) (nOf c) in
     let h = headerOf protocol lsc lwc in
     let u = h ++ e ++ symbol in
-    let f = few-of number in
-    let x = extension-reads w (c .k) (nOf c) (omega (arith, r .width)) (omega arith) (omega arith) u h symbol 6 (append-assoc h e symbol) refl in
+    let x = extension-reads w (c .k) (nOf c) hw (omega arith) hn u h symbol 6 (append-assoc h e symbol) refl in
     let l : 6 ≤ length u = omega (arith, unit-length c w protocol lsc lwc symbol) in
-    let version : (16 + protocol * 2) / 16 ≡ 1 = omega (arith, r .label) in
+    let version : (16 + protocol * 2) / 16 ≡ 1 = omega arith in
     let reserved : (16 + protocol * 2) % 2 ≡ 0 = add-mul-mod-self-right 16 protocol 2 in
     let half : (16 + protocol * 2) / 2 ≡ 8 + protocol = add-mul-div-right 16 protocol (lit< tt) in
-    let p : (16 + protocol * 2) / 2 % 8 ≡ protocol = rw half (omega (arith, r .label)) in
+    let p : (16 + protocol * 2) / 2 % 8 ≡ protocol = rw half (omega arith) in
     let a : lwc / 256 * 256 + lwc % 256 ≡ lwc = omega arith in
     let b : lsc / 256 * 256 + lsc % 256 ≡ lsc = omega arith in
     record {
       read = rw (le-ltb _ _ l, version, reserved, x, p, a, b);
       rest = drop-at (h ++ e) symbol (symbolStart c w) (length-append h e);
     }
+
+pub round-trip : RoundTrip
+round-trip number w protocol lsc lwc symbol outs z =
+    let r = writable number w protocol lsc lwc (length symbol) outs z in
+    unit-reads (codeOf number) w protocol lsc lwc symbol (omega (arith, r .width)) (omega (arith, few-of number)) (r .label .1)
 
 -- ---- sending
 

@@ -145,10 +145,6 @@ place-apart : (c : Params) (x y z : ℕ) → y < c .m → z < c .m → place c x
 unfolding place
 place-apart c x y z = shift-apart (c .m) (x % c .q * c .a) y z
 
-pub place-lt : (c : Params) → Valid c → (x y : ℕ) → place c x y < c .m
-unfolding place
-place-lt c v x y = mod-lt _ (v .some-m)
-
 -- ---- so the addresses of a row touch different check rows
 
 -- no entry of the list goes where another does
@@ -197,9 +193,12 @@ below-at m [] t i h = absurd (not-suc-le-zero h)
 below-at m (y ∷ ys) t zero h = ltb→lt y m (both-left (ltb y m) (below m ys) t)
 below-at m (y ∷ ys) t (suc i) h = below-at m ys (both-right (ltb y m) (below m ys) t) i (le-of-suc-le-suc h)
 
-pub row-below : (c : Params) (v : Valid c) (x : ℕ) → x < c .k → (i : ℕ) → i < length (rowOf c x) → getD (rowOf c x) i 0 < c .m
-row-below c v x h i g =
-    below-at (c .m) (rowOf c x) (both-left (below (c .m) (rowOf c x)) (distinct (rowOf c x)) (row-good c v x h)) i g
+-- every address of the table is below m
+pub address-lt : (c : Params) (v : Valid c) (row : ℕ) → row < length (c .rows)
+    → (i : ℕ) → i < length (getD (c .rows) row []) → getD (getD (c .rows) row []) i 0 < c .m
+address-lt c v row h i g =
+    let ys = getD (c .rows) row [] in
+    below-at (c .m) ys (both-left (below (c .m) ys) (distinct ys) (at (good (c .m)) [] (c .rows) (v .table) row h)) i g
 
 -- ---- how many of the check rows 0 .. j a symbol touches, modulo 2: from its addresses alone
 

@@ -13,3 +13,4 @@ pub mod Layout
 pub mod Positions
 pub mod Steps
 pub mod Put
+pub mod Expected

@@ -1,16 +1,12 @@
 -- What the inner functions of the encoder have in their buffers. Internal: no public contract cites it.
 -- Assumes nothing.
 use mathlib.Core.Path.{_≡_}
-use mathlib.Core.List.{List, map}
+use mathlib.Core.List.{List}
 use Prim.Native.Nat.{ℕ, _*_, _<_}
 use lib.ListN.{length}
 use Rattle.algebra.specs.Codeword.{byteAt}
 use Rattle.algebra.specs.Staircase.{parity}
-use Rattle.ccsds.specs.Codes.{Params, rowOf, place, touches}
-
--- the check rows that information symbol x touches, one for each address of its table row
-abbrev pub checkRows : Params → ℕ → List ℕ
-checkRows c x = map (place c x) (rowOf c x)
+use Rattle.ccsds.specs.Codes.{Params, touches}
 
 -- buffers of i and p bytes hold the information and the parity symbols of the code, of w bytes each
 pub record Sized (c : Params) (w i p : ℕ) : Type 0 where

@@ -27,8 +27,8 @@ fn put_row(
     w: usize,
     s: usize,
     r: usize,
-    firsts: &[usize; 512],
-    ends: &[usize; 512],
+    firsts: &[u16; 512],
+    ends: &[u16; 512],
     counts: &[usize; 8],
     xs: &mut [usize; 64],
     info: &[u8],
@@ -51,8 +51,8 @@ fn put_rows(
     l: Layout,
     w: usize,
     s: usize,
-    firsts: &[usize; 512],
-    ends: &[usize; 512],
+    firsts: &[u16; 512],
+    ends: &[u16; 512],
     counts: &[usize; 8],
     xs: &mut [usize; 64],
     info: &[u8],
@@ -79,8 +79,8 @@ fn encode_sized(number: usize, w: usize, info: &[u8], parity: &mut [u8])
 {
     let l = tables::layout_of(number);
     let q = l.q;
-    let mut firsts = [0usize; 512];
-    let mut ends = [0usize; 512];
+    let mut firsts = [0u16; 512];
+    let mut ends = [0u16; 512];
     let mut counts = [0usize; 8];
     let mut xs = [0usize; 64];
     positions::lay(number, l, &mut firsts, &mut ends, &mut counts);

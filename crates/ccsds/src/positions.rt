@@ -18,8 +18,8 @@ fn enter(
     a: usize,
     row: usize,
     y: usize,
-    firsts: &mut [usize; 512],
-    ends: &mut [usize; 512],
+    firsts: &mut [u16; 512],
+    ends: &mut [u16; 512],
     counts: &mut [usize; 8],
 )
     requires { ⌜ (0 < a) × (a ≤ 8) × (row * q + q ≤ 3072) × (y / a ≤ q) ⌝ }
@@ -32,8 +32,8 @@ fn enter(
         return;
     }
     let end = row * q + q;
-    firsts[r * 64 + n] = end - y / a;
-    ends[r * 64 + n] = end;
+    firsts[r * 64 + n] = (end - y / a) as u16;
+    ends[r * 64 + n] = end as u16;
     counts[r] = n + 1;
 }
 
@@ -42,8 +42,8 @@ fn enter_row(
     number: usize,
     l: Layout,
     row: usize,
-    firsts: &mut [usize; 512],
-    ends: &mut [usize; 512],
+    firsts: &mut [u16; 512],
+    ends: &mut [u16; 512],
     counts: &mut [usize; 8],
 )
     requires { ⌜ Known number × Given (codeOf number) l ⌝ }
@@ -66,8 +66,8 @@ fn enter_row(
 pub fn lay(
     number: usize,
     l: Layout,
-    firsts: &mut [usize; 512],
-    ends: &mut [usize; 512],
+    firsts: &mut [u16; 512],
+    ends: &mut [u16; 512],
     counts: &mut [usize; 8],
 )
     requires { ⌜ Known number × Given (codeOf number) l ⌝ }
@@ -83,20 +83,20 @@ pub fn lay(
 }
 
 // A position s steps further in its table row, which ends at `end`; after the last position comes the first.
-fn further(first: usize, end: usize, q: usize, s: usize) -> usize
+fn further(first: u16, end: u16, q: usize, s: usize) -> usize
     requires { ⌜ (first ≤ end) × (end ≤ first + q) × (q ≤ end) × (end ≤ 4096) × (s < q) ⌝ }
     ensures { λ r. ⌜ r ≡ end - q + (first + q - end + s) % q ⌝ }
 {
-    let x = first + s;
-    if x < end { x } else { x - q }
+    let x = first as usize + s;
+    if x < end as usize { x } else { x - q }
 }
 
 // The n information positions of check row s * a + r, at the front of xs.
 pub fn information(
     number: usize,
     q: usize,
-    firsts: &[usize; 512],
-    ends: &[usize; 512],
+    firsts: &[u16; 512],
+    ends: &[u16; 512],
     n: usize,
     r: usize,
     s: usize,
@@ -120,8 +120,8 @@ pub fn information(
 pub fn of_row(
     number: usize,
     l: Layout,
-    firsts: &[usize; 512],
-    ends: &[usize; 512],
+    firsts: &[u16; 512],
+    ends: &[u16; 512],
     counts: &[usize; 8],
     j: usize,
     xs: &mut [usize; 64],

@@ -1,11 +1,10 @@
-// Tables 4-1, 4-2 and 4-3 as constant data, and the address rule. Internal: the crates of this repository call what is here, and a
-// user of the layer has no need to.
+// Tables 4-1, 4-2 and 4-3 as constant data. Internal: the crates of this repository call what is here, and a user of the layer has no
+// need to.
 ghost use mathlib.Core.Path.{_≡_};
 ghost use mathlib.Core.List.{[]};
-ghost use Prim.Native.Nat.{_<_, _≤_, _+_, _*_};
+ghost use Prim.Native.Nat.{_<_, _≤_};
 ghost use lib.ListN.{length, getD};
-ghost use Rattle.ccsds.specs.Codes.{place};
-ghost use Rattle.ccsds.specs.Tables.{codeOf, Known};
+ghost use Rattle.ccsds.specs.Tables.{codeOf};
 ghost use Rattle.ccsds.specs.Layout.{Given, Front, startIn};
 
 // Table 4-2, row by row.
@@ -129,27 +128,4 @@ pub fn addresses(number: usize, l: Layout, row: usize) -> [usize; 8]
         i += 1;
     }
     ys
-}
-
-// The check row that information symbol row * q + step touches by address i of its table row, whose addresses are ys. Address and step are
-// below m, so one subtraction does for the remainder.
-pub fn check_row(
-    number: usize,
-    l: Layout,
-    row: usize,
-    step: usize,
-    ys: &[usize; 8],
-    i: usize,
-) -> usize
-    requires { ⌜ Known number ⌝ }
-    requires { ⌜ Given (codeOf number) l ⌝ }
-    requires { ⌜ row < length (codeOf number .rows) ⌝ }
-    requires { ⌜ step < codeOf number .q ⌝ }
-    requires { ⌜ Front (getD (codeOf number .rows) row []) (now ys) ⌝ }
-    requires { ⌜ i < length (getD (codeOf number .rows) row []) ⌝ }
-    ensures { λ r. ⌜ r ≡ place (codeOf number) (row * codeOf number .q + step) (getD (getD (codeOf number .rows) row []) i 0) ⌝ }
-{
-    let m = l.m;
-    let j = ys[i] + step * l.a;
-    if j < m { j } else { j - m }
 }

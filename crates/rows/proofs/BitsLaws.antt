@@ -1,7 +1,7 @@
 -- Laws of specs/Bits.antt.
 -- Assumes nothing.
 use mathlib.Core.Path.{_≡_, refl, sym, ap, ap₂, _∙_}
-use mathlib.Core.Bool.{Bool, true, false, _||_, or-false}
+use mathlib.Core.Bool.{Bool, true, false}
 use mathlib.Core.List.{List}
 use mathlib.Core.Logic.{_≢_, ⊎-elim}
 use Prim.Native.Nat.{ℕ, _+_, _-_, _*_, _/_, _%_, _^_, _≤_, _<_}
@@ -9,16 +9,12 @@ use native.Mathlib.Nat.{one-mul, mod-lt, zero-lt-suc}
 use native.Mathlib.Omega.{arith}
 use lib.Pow.{shl-exact, pow-lt}
 use lib.Count.{trailingZeros}
-use lib.ListN.{length, getD, set, length-set}
-use lib.Seq.{getD-set-same, getD-set-other}
-use lib.Bits.{bitOr}
-use lib.Dec.{eqb}
+use lib.ListN.{getD}
 use borrow.Author.Tests.{eq-eqb, ne-eqb}
-use Rattle.rows.proofs.Order.{lt-or-le, eq-or-ne}
-use Rattle.rows.proofs.Digits.{testBit-none, testBit-or, testBit-pow, testBit-differ, LowestSet, trailing-lowest}
-use Rattle.rows.proofs.SweepLaws.{rows-apart}
+use Rattle.rows.proofs.Order.{lt-or-le}
+use Rattle.rows.proofs.Digits.{testBit-none, testBit-pow, testBit-differ, LowestSet, trailing-lowest}
 use Rattle.rows.specs.declared.bits.Found.the-variants.{At}
-use Rattle.rows.specs.Bits.{testBit, rowBit, setRowBit, LowestIs, OnlyIs}
+use Rattle.rows.specs.Bits.{testBit, rowBit, LowestIs, OnlyIs}
 
 -- ---- what the code needs
 
@@ -98,47 +94,3 @@ module _ (l : List ℕ) (base p i : ℕ) where
       let apart : j ≡ p % 64 → ⊥ =
       λ k. r .1 .1 (ap (testBit word) k ∙ here ∙ sym (testBit-pow (p % 64) j ∙ eq-eqb j (p % 64) k)) in
       other words j hi (r .1 .0) (λ k. apart (omega (arith, r .1 .0))) (not-false (testBit word j) (λ k. r .1 .1 (k ∙ sym (testBit-pow (p % 64) j ∙ ne-eqb j (p % 64) apart))))
-
--- ---- an unknown is put into a row
-
-module _ (l : List ℕ) (base p : ℕ) where
-  -- an unknown in another word
-  pub rowBit-set-else : (base′ q : ℕ) → (base′ + q / 64 ≡ base + p / 64 → ⊥) → rowBit (setRowBit l base p) base′ q ≡ rowBit l base′ q
-  unfolding rowBit setRowBit
-  rowBit-set-else base′ q ne = ap (λ (x : ℕ). testBit x (q % 64)) (getD-set-other l (base + p / 64) (base′ + q / 64) _ 0 ne)
-
-  -- an unknown of the same row
-  pub rowBit-set : base + p / 64 < length l → (q : ℕ) → rowBit (setRowBit l base p) base q ≡ (rowBit l base q || eqb q p)
-  unfolding rowBit setRowBit
-  rowBit-set fit q = ⊎-elim (λ e. here e ∙ ap (λ (b : Bool). rowBit l base q || b) (same e)) (λ ne. there ne) (eq-or-ne (q / 64) (p / 64))
-    where
-      here : q / 64 ≡ p / 64 → rowBit (setRowBit l base p) base q ≡ (rowBit l base q || eqb (q % 64) (p % 64))
-      here e =
-          ap (λ (x : ℕ). testBit (getD (set l (base + p / 64) (bitOr (getD l (base + p / 64) 0) (2 ^ (p % 64)))) (base + x) 0) (q % 64)) e
-          ∙ ap (λ (x : ℕ). testBit x (q % 64)) (getD-set-same l (base + p / 64) _ 0 fit)
-          ∙ testBit-or (getD l (base + p / 64) 0) (2 ^ (p % 64)) (q % 64)
-          ∙ ap₂ (λ (x : ℕ) (b : Bool). testBit (getD l (base + x) 0) (q % 64) || b) (sym e) (testBit-pow (p % 64) (q % 64))
-
-      same : q / 64 ≡ p / 64 → eqb (q % 64) (p % 64) ≡ eqb q p
-      same e =
-          ⊎-elim (λ s. eq-eqb (q % 64) (p % 64) (ap (λ (x : ℕ). x % 64) s) ∙ sym (eq-eqb q p s)) (λ ne. ne-eqb (q % 64) (p % 64) (λ s. ne (omega arith)) ∙ sym (ne-eqb q p ne))
-          (eq-or-ne q p)
-
-      there : (q / 64 ≡ p / 64 → ⊥) → rowBit (setRowBit l base p) base q ≡ (rowBit l base q || eqb q p)
-      there ne =
-          rowBit-set-else base q (λ e. ne (omega arith)) ∙ sym (or-false (rowBit l base q))
-          ∙ ap (λ (b : Bool). rowBit l base q || b) (sym (ne-eqb q p (λ s. ne (ap (λ (x : ℕ). x / 64) s))))
-
-pub length-setRowBit : (l : List ℕ) (base p : ℕ) → length (setRowBit l base p) ≡ length l
-unfolding setRowBit
-length-setRowBit l base p = simp length-set
-
--- the same where unknown q is put into row j: what row j has then, and what the other rows have
-pub set-bit : (l : List ℕ) (words j q : ℕ) → j * (words + 1) + (words + 1) ≤ length l → q < 64 * words
-    → (p : ℕ) → rowBit (setRowBit l (j * (words + 1)) q) (j * (words + 1)) p ≡ (rowBit l (j * (words + 1)) p || eqb p q)
-set-bit l words j q fit within p = rowBit-set l (j * (words + 1)) q (omega arith) p
-
-pub set-bit-else : (l : List ℕ) (words j q : ℕ) → q < 64 * words
-    → (i p : ℕ) → i ≢ j → p < 64 * words → rowBit (setRowBit l (j * (words + 1)) q) (i * (words + 1)) p ≡ rowBit l (i * (words + 1)) p
-set-bit-else l words j q within i p ne h =
-    rowBit-set-else l (j * (words + 1)) q (i * (words + 1)) p (λ e. rows-apart i j (words + 1) ne (p / 64) (q / 64) (omega arith) (omega arith) e)

@@ -1,5 +1,4 @@
 pub mod Order
-pub mod AllZeroLaws
 pub mod Digits
 pub mod BitsLaws
 pub mod SweepLaws

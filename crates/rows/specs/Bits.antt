@@ -5,9 +5,8 @@ use mathlib.Core.Logic.{_≢_}
 use mathlib.Core.Bool.{Bool, true, false}
 use mathlib.Core.List.{List}
 use Prim.Native.Nat.{ℕ, _+_, _/_, _%_, _^_, _<_}
-use lib.Bits.{bitOr}
 use lib.Dec.{eqb}
-use lib.ListN.{getD, set}
+use lib.ListN.{getD}
 use Rattle.rows.specs.declared.bits.Found.{Found}
 use Rattle.rows.specs.declared.bits.Found.the-variants.{At, Nothing}
 
@@ -18,10 +17,6 @@ testBit a i = eqb (a / 2 ^ i % 2) 1
 -- the row at `base` has unknown p
 unfoldable pub rowBit : List ℕ → ℕ → ℕ → Bool
 rowBit l base p = testBit (getD l (base + p / 64) 0) (p % 64)
-
--- l with unknown p put into the row at `base`
-unfoldable pub setRowBit : List ℕ → ℕ → ℕ → List ℕ
-setRowBit l base p = set l (base + p / 64) (bitOr (getD l (base + p / 64) 0) (2 ^ (p % 64)))
 
 -- f is the answer to: which is the lowest of the numbers below n at which b is true?
 abbrev pub LowestIs : (ℕ → Bool) → ℕ → Found → Type 0

@@ -1,4 +1,3 @@
-pub mod AllZero
 pub mod Bits
 pub mod Sweep
 pub mod System

@@ -3,7 +3,7 @@ ghost use mathlib.Core.Path.{_≡_};
 ghost use mathlib.Core.Bool.{true};
 ghost use Prim.Native.Nat.{_+_, _*_, _/_, _≤_, _<_};
 ghost use lib.ListN.{length};
-ghost use Rattle.rows.specs.Bits.{rowBit, setRowBit, LowestIs, OnlyIs};
+ghost use Rattle.rows.specs.Bits.{rowBit, LowestIs, OnlyIs};
 
 pub enum Found {
     At(usize),
@@ -17,15 +17,6 @@ pub fn bit_at(rows: &[u64], base: usize, p: usize) -> bool
 {
     let k = base + p / 64;
     (rows[k] >> (p % 64)) % 2 == 1
-}
-
-// Puts unknown p into the row at `base`.
-pub fn set_bit(rows: &mut [u64], base: usize, p: usize)
-    requires { ⌜ base + p / 64 < length (now rows) ⌝ }
-    ensures { λ _. ⌜ now (rows .exit) ≡ setRowBit (now (rows .entry)) base p ⌝ }
-{
-    let k = base + p / 64;
-    rows[k] = rows[k] | 1 << (p % 64);
 }
 
 // The lowest unknown of the row of `words` words at `base`.

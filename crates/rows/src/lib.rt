@@ -1,7 +1,7 @@
 // Linear equations over packed rows, and Gauss-Jordan elimination on them, in place. There are m equations. Equation j is a row of words + 1
 // words and `width` bytes of a right-hand side: the row's first words hold 64 unknowns each, and its last word, the pivot word, holds the
 // number of the unknown that is the row's pivot + 1, or 0. The words and the bytes are lent by the caller. What an unknown stands for is the
-// caller's matter: `solution::fill` is told in `places` which position of the caller's symbols each unknown is.
+// caller's matter.
 use alone::finish_all_alone;
 use finish::finish_next;
 use finish::finish_row;
@@ -11,9 +11,9 @@ ghost use lib.ListN.{length};
 ghost use Rattle.rows.specs.System.{Same};
 ghost use Rattle.rows.specs.Reduced.{Reduced};
 
-pub mod parts; // parts of a buffer: exclusive or, all zero
+pub mod parts; // parts of a buffer: exclusive or
 pub mod bits; // unknowns of a row
-pub mod solution; // what is read off the reduced form
+pub mod solution; // whether the reduced form has a solution
 mod sweep; // one row added to others
 mod prepare; // elimination, first part: fewer additions
 mod alone; // second part: pivots that stand in no other row

@@ -36,6 +36,9 @@ div-firsts c = search needs
 sub-firsts : tie.Need-sub-firsts
 sub-firsts c = search needs
 
+cast-firsts : tie.Need-cast-firsts
+cast-firsts c = omega arith
+
 mul-firsts : tie.Need-mul-firsts
 mul-firsts c = omega (arith, class-lt (c .before .before))
 
@@ -47,6 +50,9 @@ mul-firsts-2 c = omega (arith, class-lt (c .before .before))
 
 element-write-firsts : tie.Need-element-write-firsts
 element-write-firsts c = omega (arith, class-lt (c .before .before))
+
+cast-ends : tie.Need-cast-ends
+cast-ends c = omega arith
 
 mul-ends : tie.Need-mul-ends
 mul-ends c = omega (arith, class-lt (c .before .before))
@@ -84,10 +90,12 @@ enter-spec =
     add-end
     div-firsts
     sub-firsts
+    cast-firsts
     mul-firsts
     add-firsts
     mul-firsts-2
     element-write-firsts
+    cast-ends
     mul-ends
     add-ends
     mul-ends-2

@@ -7,7 +7,7 @@ use native.Mathlib.Nat.{le-trans}
 use native.Mathlib.Omega.{arith}
 use lib.ListN.{length, getD}
 use Rattle.algebra.proofs.Codeword.{slot}
-use Rattle.rows.specs.AllZero.{AllZeroIs}
+use Rattle.buffers.specs.AllZero.{AllZeroIs}
 use Rattle.rows.specs.Reduced.{pivotWord}
 use Rattle.rows.proofs.FillLaws.{word-empty, zeros-more, zero-at}
 use Rattle.rows.proofs.solution.consistent.Statement.{statement}
