@@ -1,0 +1,194 @@
+-- A word that has the heard symbols and for which the steps' rows hold agrees just when its pivots solve the rows of the check rows that no step used.
+-- Assumes nothing.
+use mathlib.Core.Path.{_≡_, refl, sym, ap, ap₂, _∙_, subst}
+use mathlib.Core.Logic.{_⊎_, inl, inr, _↔_}
+use mathlib.Core.Bool.{Bool, true, false, cond}
+use mathlib.Core.List.{List}
+use Prim.Native.Nat.{ℕ, zero, suc, _+_, _*_, _-_, _<_, _≤_}
+use native.Mathlib.Nat.{not-suc-le-zero}
+use native.Mathlib.Decide.{ℕ-discrete}
+use native.Mathlib.Omega.{arith}
+use lib.Dec.{eqb}
+use lib.ListN.{length, getD}
+use borrow.Author.Tests.{lt-ltb, le-ltb, eq-eqb, ne-eqb, eqb-true}
+use Rattle.algebra.specs.Sums.{_⊕_, pick, sum}
+use Rattle.algebra.specs.Codeword.{Checks, byteAt, rowSum}
+use Rattle.algebra.specs.Closing.{heard}
+use Rattle.algebra.specs.Demand.{Agreeing}
+use Rattle.algebra.proofs.Sums.{unit, unit-l, self, eq-of-add, sum-ext, sum-none, sum-only, sum-tests, sum-zeros}
+use Rattle.rows.specs.Bits.{rowBit}
+use Rattle.rows.specs.System.{leftSide, Solves}
+use Rattle.decoder.specs.Plan.{Plan, Closed, Unsolved, kindOf, rowOf, pivotOf, usedBy, free}
+use Rattle.decoder.specs.Values.{Values, StepsHold, Sides}
+use Rattle.decoder.specs.Express.{hangs, hang, StepsExpressed}
+use Rattle.decoder.proofs.Triangle.{vanishes, expressed, exchange, sum-add, pick-one, plan-triangular}
+
+-- lr are the packed rows of the check rows that no step used, one after the other, and d their right-hand sides
+pub record System (c : Checks) (w : ℕ) (plan y l : List ℕ) (words early rest : ℕ) (lr d : List ℕ) : Type 0 where
+  pub count : rest ≡ free plan (c .m)
+  pub bits : (j i : ℕ) → j < c .m → usedBy plan j ≡ 0 → i < 64 * words
+      → pick (rowBit lr (free plan j * (words + 1)) i) 1 ≡ sum (c .has j) (λ x. hang plan l words early x i) (c .n)
+  pub sides : Sides c w plan y d
+
+-- x has the heard symbols, and the steps' rows hold
+pub record Along (c : Checks) (w : ℕ) (block marks plan x : List ℕ) (steps : ℕ) : Type 0 where
+  pub size : length x ≡ c .n * w
+  pub bytes : (t : ℕ) → getD x t 0 < 256
+  pub heard-byte : (p b : ℕ) → p < c .n → b < w → heard marks p ≡ true → byteAt w x b p ≡ byteAt w block b p
+  pub holds : StepsHold c w plan x steps
+
+-- ---- the check rows that no step used, by number
+
+-- the one with number i is among the first m check rows
+abbrev pub Unused : List ℕ → ℕ → ℕ → Type 0
+Unused plan m i = (j : ℕ) × ((j < m) × ((usedBy plan j ≡ 0) × (free plan j ≡ i)))
+
+free-suc : (plan : List ℕ) (m : ℕ) → usedBy plan m ≡ 0 → free plan (suc m) ≡ suc (free plan m)
+unfolding free
+free-suc plan m e = ap (λ (b : Bool). cond b (suc (free plan m)) (free plan m)) (eq-eqb (usedBy plan m) 0 e)
+
+free-same : (plan : List ℕ) (m : ℕ) → (usedBy plan m ≡ 0 → ⊥) → free plan (suc m) ≡ free plan m
+unfolding free
+free-same plan m e = ap (λ (b : Bool). cond b (suc (free plan m)) (free plan m)) (ne-eqb (usedBy plan m) 0 e)
+
+-- row j's number is below how many there are
+pub free-below : (plan : List ℕ) (m j : ℕ) → j < m → usedBy plan j ≡ 0 → free plan j < free plan m
+free-below plan zero j h e = absurd (not-suc-le-zero h)
+free-below plan (suc m) j h e = go (ℕ-discrete j m) (ℕ-discrete (usedBy plan m) 0) (λ l. free-below plan m j l e)
+  where
+    go : Dec (j ≡ m) → Dec (usedBy plan m ≡ 0) → (j < m → free plan j < free plan m) → free plan j < free plan (suc m)
+    go (yes k) u ih = omega (arith, ap (free plan) k, free-suc plan m (ap (usedBy plan) (sym k) ∙ e))
+    go (no k) (yes u) ih = omega (arith, ih (omega arith), free-suc plan m u)
+    go (no k) (no u) ih = omega (arith, ih (omega arith), free-same plan m u)
+
+-- and every number below that is some row's
+pub free-row : (plan : List ℕ) (m i : ℕ) → i < free plan m → Unused plan m i
+unfolding free
+free-row plan zero i h = absurd (not-suc-le-zero h)
+free-row plan (suc m) i h = go (ℕ-discrete (usedBy plan m) 0) (ℕ-discrete (free plan m) i) (free-row plan m i)
+  where
+    up : Unused plan m i → Unused plan (suc m) i
+    up (j, (l, e)) = (j, (omega arith, e))
+
+    go : Dec (usedBy plan m ≡ 0) → Dec (free plan m ≡ i) → (i < free plan m → Unused plan m i) → Unused plan (suc m) i
+    go (yes u) (yes e) ih = (m, (omega arith, (u, e)))
+    go (yes u) (no e) ih = up (ih (omega (arith, free-suc plan m u)))
+    go (no u) e ih = up (ih (omega (arith, free-same plan m u)))
+
+-- ---- what a position hangs on
+
+-- a known position hangs on nothing
+pub hangs-known : (l : List ℕ) (words early kind i : ℕ) → kind ≡ 0 → hangs l words early kind i ≡ false
+unfolding hangs
+hangs-known l words early kind i e = rw (le-ltb early kind (omega arith), hangs)
+
+-- a pivot on itself alone
+pub hangs-pivot : (l : List ℕ) (words early kind u i : ℕ) → early ≤ 1024 → u < 3072 → kind ≡ 1025 + u → hangs l words early kind i ≡ eqb i u
+unfolding hangs
+hangs-pivot l words early kind u i he hu e =
+    let k : kind - 1025 ≡ u = omega arith in
+    rw (lt-ltb early kind (omega arith), lt-ltb 1024 kind (omega arith), le-ltb 4096 kind (omega arith), k, hangs)
+
+module _ {c : Checks} {marks plan : List ℕ} {early steps pivots : ℕ} (P : Plan c marks plan early steps pivots) (closed : Closed c plan) (U : Unsolved plan pivots)
+    (l : List ℕ) (words : ℕ) (X : StepsExpressed c plan l words early steps) where
+  known-none : (p i : ℕ) → p < c .n → heard marks p ≡ true → hangs l words early (kindOf plan p) i ≡ false
+  known-none p i h e = hangs-known l words early (kindOf plan p) i (P .known p h e)
+
+  pivot-own : (u i : ℕ) → u < pivots → hangs l words early (kindOf plan (pivotOf plan u)) i ≡ eqb i u
+  pivot-own u i h =
+      hangs-pivot l words early (kindOf plan (pivotOf plan u)) u i (omega (arith, P .early-steps, P .steps-free, P .rows))
+      (omega (arith, P .pivots-few, P .positions)) (U u h)
+
+  -- no position hangs on a pivot that there is not
+  pub high-hangs : (u : ℕ) → pivots ≤ u → u < 64 * words → (p : ℕ) → p < c .n → hangs l words early (kindOf plan p) u ≡ false
+  high-hangs u lo hi p h =
+      pick-one (hangs l words early (kindOf plan p) u) false
+      (vanishes (plan-triangular P closed) (λ q. hang plan l words early q u)
+      (λ q k e. ap (λ (b : Bool). pick b 1) (known-none q u k e))
+      (λ t k. ap (λ (b : Bool). pick b 1) (pivot-own t u k ∙ ne-eqb u t (λ e. omega arith)))
+      (λ t k. X t u k hi) p h)
+
+  -- a word along the plan is y plus the pivots that each position hangs on
+  pub along-expressed : {w : ℕ} {block y x : List ℕ} → Values c w block marks plan y steps pivots → Along c w block marks plan x steps → pivots ≤ 64 * words
+      → (p b : ℕ) → p < c .n → b < w
+      → byteAt w x b p ≡ byteAt w y b p ⊕ sum (hangs l words early (kindOf plan p)) (λ u. byteAt w x b (pivotOf plan u)) pivots
+  along-expressed {w} {block} {y} {x} Y A room p b h hb =
+      expressed (plan-triangular P closed) (byteAt w x b) (byteAt w y b) (λ q i. hangs l words early (kindOf plan q) i) v pivots
+      (λ q k e. A .heard-byte q b k hb e ∙ sym (Y .heard-byte q b k hb e) ∙ sym (unit (byteAt w y b q))
+      ∙ ap (_⊕_ (byteAt w y b q)) (sym (sum-none (hangs l words early (kindOf plan q)) v pivots (λ i m. known-none q i k e))))
+      (λ u k. sym (unit-l (v u))
+      ∙ ap₂ _⊕_ (sym (Y .pivot-byte u b k hb))
+      (sym (sum-tests (hangs l words early (kindOf plan (pivotOf plan u))) (λ i. eqb i u) v pivots (λ i m. pivot-own u i k)
+      ∙ sum-only (λ i. eqb i u) v u pivots k (eq-eqb u u refl) (λ i m e. eqb-true i u e))))
+      (λ t k. A .holds t b k hb) (λ t k. Y .holds t b k hb) (λ t i k m. X t i k (omega arith)) p h
+    where
+      v : ℕ → ℕ
+      v u = byteAt w x b (pivotOf plan u)
+
+-- ---- the check rows
+
+pub agreeing-along : {c : Checks} {w : ℕ} {block marks plan x : List ℕ} {early steps pivots : ℕ} → Plan c marks plan early steps pivots → Agreeing c w block marks x
+    → Along c w block marks plan x steps
+unfolding rowSum
+agreeing-along {plan = plan} P A = record {
+  size = A .size;
+  bytes = A .bytes;
+  heard-byte = λ p b h hb e. A .same p h e b hb;
+  holds = λ t b h hb. A .rows (rowOf plan t) (P .step t h .row) b hb;
+}
+
+module _ {c : Checks} {w : ℕ} {block marks plan y l lr d : List ℕ} {words early rest steps pivots : ℕ}
+    (P : Plan c marks plan early steps pivots) (closed : Closed c plan) (U : Unsolved plan pivots) (Y : Values c w block marks plan y steps pivots)
+    (X : StepsExpressed c plan l words early steps) (S : System c w plan y l words early rest lr d) (room : pivots ≤ 64 * words) where
+  -- the check row that row i of lr is of
+  row-of : (i : ℕ) → i < rest → Unused plan (c .m) i
+  row-of i h = free-row plan (c .m) i (subst (λ (k : ℕ). i < k) (S .count) h)
+
+  -- no row has a pivot that there is not
+  pub high-absent : (u : ℕ) → pivots ≤ u → u < 64 * words → (i : ℕ) → i < rest → rowBit lr (i * (words + 1)) u ≡ false
+  high-absent u lo hi i h = go (row-of i h)
+    where
+      go : Unused plan (c .m) i → rowBit lr (i * (words + 1)) u ≡ false
+      go (j, (hj, (un, e))) =
+          ap (λ (k : ℕ). rowBit lr (k * (words + 1)) u) (sym e)
+          ∙ pick-one (rowBit lr (free plan j * (words + 1)) u) false
+          (S .bits j u hj un hi
+          ∙ sum-ext (c .has j) (λ q. hang plan l words early q u) (λ q. 0) (c .n)
+          (λ q k. ap (λ (b : Bool). pick b 1) (high-hangs P closed U l words X u lo hi q k))
+          ∙ sum-zeros (c .has j) (c .n))
+
+  module _ {x : List ℕ} (A : Along c w block marks plan x steps) where
+    abbrev v : ℕ → ℕ → ℕ
+    v u b = byteAt w x b (pivotOf plan u)
+
+    -- an unused row's sum over x is its sum over y, plus its pivots
+    unused-sum : (j b : ℕ) → j < c .m → usedBy plan j ≡ 0 → b < w
+        → rowSum c w x j b ≡ getD d (free plan j * w + b) 0 ⊕ leftSide lr words pivots v (free plan j) b
+    unfolding rowSum
+    unused-sum j b hj un hb =
+        sum-ext (c .has j) (byteAt w x b) (λ p. byteAt w y b p ⊕ sum (hangs l words early (kindOf plan p)) (λ u. v u b) pivots) (c .n)
+        (λ p h. along-expressed P closed U l words X Y A room p b h hb)
+        ∙ sum-add (c .has j) (byteAt w y b) (λ p. sum (hangs l words early (kindOf plan p)) (λ u. v u b) pivots) (c .n)
+        ∙ ap₂ _⊕_ (sym (S .sides j b hj un hb))
+        (exchange (c .has j) (λ p i. hangs l words early (kindOf plan p) i) (rowBit lr (free plan j * (words + 1))) (λ u. v u b) (c .n) pivots
+        (λ i h. sym (S .bits j i hj un (omega arith))))
+
+    pub agrees-iff : Agreeing c w block marks x ↔ Solves lr d rest words w pivots (λ u b. byteAt w x b (pivotOf plan u))
+    unfolding rowSum
+    agrees-iff = (
+      λ G i b h hb. solves G i b hb (row-of i h),
+      λ s. record { size = A .size; bytes = A .bytes; rows = λ j hj b hb. row s j hj b hb (P .used j hj); same = λ p h e b hb. A .heard-byte p b h hb e },
+    )
+      where
+        solves : Agreeing c w block marks x → (i b : ℕ) → b < w → Unused plan (c .m) i → leftSide lr words pivots v i b ≡ getD d (i * w + b) 0
+        solves G i b hb (j, (hj, (un, e))) =
+            subst (λ (k : ℕ). leftSide lr words pivots v k b ≡ getD d (k * w + b) 0) e
+            (sym (eq-of-add (getD d (free plan j * w + b) 0) (leftSide lr words pivots v (free plan j) b) (sym (unused-sum j b hj un hb) ∙ G .rows j hj b hb)))
+
+        row : Solves lr d rest words w pivots v → (j : ℕ) → j < c .m → (b : ℕ) → b < w → (usedBy plan j ≡ 0) ⊎ ((t : ℕ) × ((t < steps) × (rowOf plan t ≡ j)))
+            → rowSum c w x j b ≡ 0
+        row s j hj b hb (inl un) =
+            unused-sum j b hj un hb
+            ∙ ap (_⊕_ (getD d (free plan j * w + b) 0)) (s (free plan j) b (subst (λ (k : ℕ). free plan j < k) (sym (S .count)) (free-below plan (c .m) j hj un)) hb)
+            ∙ self (getD d (free plan j * w + b) 0)
+        row s j hj b hb (inr (t, (l, e))) = ap (λ (k : ℕ). rowSum c w x k b) (sym e) ∙ A .holds t b l hb

@@ -1,0 +1,69 @@
+-- `decoder::marks::fill_determined` meets its contract. The invariant: the first i positions are filled.
+-- Assumes nothing.
+use mathlib.Core.Path.{_≡_, refl, sym, ap, _∙_}
+use Prim.Native.Nat.{ℕ, _-_, _*_, _≤_, _<_}
+use native.Mathlib.Omega.{arith}
+use lib.ListN.{length}
+use Rattle.decoder.proofs.Filling.{room-same, same-heard, FilledTo, filled-none, filled-more}
+use Rattle.decoder.proofs.marks.fill_determined.Statement.{statement}
+use Rattle.decoder.proofs.marks.fill_determined.Tie as tie
+
+abbrev Inv-loop : tie.InvT-loop
+Inv-loop w early packed rows plan words symbols₀ marks₀ i₀ symbols marks i =
+    (i ≤ length marks₀) × (length symbols ≡ length symbols₀) × (length marks ≡ length marks₀) × FilledTo w early packed words plan symbols₀ marks₀ symbols marks i
+
+abbrev μ-loop : tie.MeasureT-loop
+μ-loop w early packed rows plan words symbols₀ marks₀ i₀ symbols marks i = length marks₀ - i
+
+loop-holds : tie.Need-loop-holds Inv-loop μ-loop
+loop-holds c = (omega arith, refl, refl, filled-none _ _ _ _ _ _ _)
+
+fill-at-requires : tie.Need-fill-at-requires Inv-loop μ-loop
+fill-at-requires c κs =
+    let l = c .before .before .before .loop in
+    let s = c .before .before .before .before .before .before .before .before in
+    let h : l .i < length (s .args .marks .now) = omega arith in (
+      room-same (s .pre .0) (l .inv .2),
+      (
+        (omega arith, l .inv .1 ∙ s .pre .1 .0 ∙ ap (λ (n : ℕ). n * s .args .w) (sym (l .inv .2))),
+        λ e. s .pre .1 .1 (l .i) h (sym (same-heard (l .inv .3 .rest (l .i) (omega arith))) ∙ e),
+      ),
+    )
+
+add-i : tie.Need-add-i Inv-loop μ-loop
+add-i c = omega arith
+
+loop-less : tie.Need-loop-less Inv-loop μ-loop
+loop-less c = omega arith
+
+loop-again : tie.Need-loop-again Inv-loop μ-loop
+loop-again c =
+    let k = c .before .before .before .before .fill-at in
+    let l = c .before .before .before .before .before .before .before .before .loop in
+    (omega arith, k .kept .1 .1 .1 .1 .1 .1 .1 .0 ∙ l .inv .1, k .kept .1 .1 .1 .1 .1 .1 .1 .1 .0 ∙ l .inv .2, filled-more _ _ _ _ _ _ _ _ _ _ _ _ (l .inv .3) (k .ensures))
+
+same-length : tie.Need-same-length Inv-loop μ-loop
+same-length c = c .before .loop .inv .1
+
+same-length-2 : tie.Need-same-length-2 Inv-loop μ-loop
+same-length-2 c = c .before .loop .inv .2
+
+returns : tie.Need-returns Inv-loop μ-loop
+returns c =
+    let l = c .before .loop in
+    record { symbols-size = l .inv .1; marks-size = l .inv .2; each = λ i h. l .inv .3 .done i (omega arith) }
+
+pub fill-determined-spec : {M : Type 1} → statement M
+fill-determined-spec =
+    tie.close
+    (tie.spec
+    Inv-loop
+    μ-loop
+    loop-holds
+    fill-at-requires
+    add-i
+    loop-less
+    loop-again
+    same-length
+    same-length-2
+    returns)

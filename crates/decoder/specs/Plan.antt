@@ -1,0 +1,82 @@
+-- The plan of a decoding: every missing position is settled by a check row, a step, in which all other positions are closed before it, or is put
+-- off as a pivot. The plan stands in one array of 9,216 numbers: the kind of each position, then the pivots' positions, then each step's row and
+-- position, then for each row whether a step used it. Internal: no public contract cites it.
+-- Assumes nothing.
+use mathlib.Core.Path.{_≡_}
+use mathlib.Core.Logic.{_⊎_, _≢_}
+use mathlib.Core.Bool.{true, false, cond}
+use mathlib.Core.List.{List}
+use Prim.Native.Nat.{ℕ, zero, suc, _+_, _<_, _≤_}
+use lib.Dec.{eqb}
+use lib.ListN.{length, getD}
+use Rattle.algebra.specs.Codeword.{Checks}
+use Rattle.algebra.specs.Closing.{heard}
+
+-- what position p is: 0 known, t + 1 settled by step t, 1025 + u pivot u, 4097 + h a pivot that row h of the reduced rows has, 65535 open
+abbrev pub kindOf : List ℕ → ℕ → ℕ
+kindOf plan p = getD plan p 0
+
+-- the position of pivot u
+abbrev pub pivotOf : List ℕ → ℕ → ℕ
+pivotOf plan u = getD plan (3072 + u) 0
+
+-- the check row of step t
+abbrev pub rowOf : List ℕ → ℕ → ℕ
+rowOf plan t = getD plan (6144 + t) 0
+
+-- and the position that it settles
+abbrev pub positionOf : List ℕ → ℕ → ℕ
+positionOf plan t = getD plan (7168 + t) 0
+
+-- not 0 where a step used check row j
+abbrev pub usedBy : List ℕ → ℕ → ℕ
+usedBy plan j = getD plan (8192 + j) 0
+
+-- how many of the check rows below j no step used; of an unused row, its number among these
+unfoldable pub free : List ℕ → ℕ → ℕ
+free plan zero = 0
+free plan (suc j) = cond (eqb (usedBy plan j) 0) (suc (free plan j)) (free plan j)
+
+-- position p is closed before step t: known, settled by an earlier step, or, from step `early` on, a pivot
+abbrev pub Before : List ℕ → ℕ → ℕ → ℕ → Type 0
+Before plan early t p = (kindOf plan p ≤ t) ⊎ ((early ≤ t) × ((1024 < kindOf plan p) × (kindOf plan p < 65535)))
+
+pub record Step (c : Checks) (marks plan : List ℕ) (early t : ℕ) : Type 0 where
+  pub row : rowOf plan t < c .m
+  pub position : positionOf plan t < c .n
+  pub missing : heard marks (positionOf plan t) ≡ false
+  pub kind : kindOf plan (positionOf plan t) ≡ t + 1
+  pub has : c .has (rowOf plan t) (positionOf plan t) ≡ true
+  pub others : (p : ℕ) → p < c .n → c .has (rowOf plan t) p ≡ true → p ≢ positionOf plan t → Before plan early t p
+
+pub record PutOff (c : Checks) (marks plan : List ℕ) (u : ℕ) : Type 0 where
+  pub position : pivotOf plan u < c .n
+  pub missing : heard marks (pivotOf plan u) ≡ false
+  pub kind : (1024 < kindOf plan (pivotOf plan u)) × (kindOf plan (pivotOf plan u) < 65535)
+
+-- missing position p is open, settled or put off
+abbrev pub Sort : List ℕ → ℕ → ℕ → ℕ → Type 0
+Sort plan steps pivots p =
+    (kindOf plan p ≡ 65535) ⊎ (((t : ℕ) × ((t < steps) × (positionOf plan t ≡ p))) ⊎ ((u : ℕ) × ((u < pivots) × (pivotOf plan u ≡ p))))
+
+-- no pivot was put off before step `early`
+pub record Plan (c : Checks) (marks plan : List ℕ) (early steps pivots : ℕ) : Type 0 where
+  pub size : length plan ≡ 9216
+  pub positions : c .n ≤ 3072
+  pub rows : c .m ≤ 1024
+  pub early-steps : early ≤ steps
+  pub pivots-few : pivots ≤ c .n
+  pub steps-free : steps + free plan (c .m) ≡ c .m
+  pub known : (p : ℕ) → p < c .n → heard marks p ≡ true → kindOf plan p ≡ 0
+  pub sort : (p : ℕ) → p < c .n → heard marks p ≡ false → Sort plan steps pivots p
+  pub step : (t : ℕ) → t < steps → Step c marks plan early t
+  pub pivot : (u : ℕ) → u < pivots → PutOff c marks plan u
+  pub used : (j : ℕ) → j < c .m → (usedBy plan j ≡ 0) ⊎ ((t : ℕ) × ((t < steps) × (rowOf plan t ≡ j)))
+
+-- no position is open
+abbrev pub Closed : Checks → List ℕ → Type 0
+Closed c plan = (p : ℕ) → p < c .n → kindOf plan p ≢ 65535
+
+-- no pivot is solved yet: each has its number
+abbrev pub Unsolved : List ℕ → ℕ → Type 0
+Unsolved plan pivots = (u : ℕ) → u < pivots → kindOf plan (pivotOf plan u) ≡ 1025 + u

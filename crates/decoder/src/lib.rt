@@ -1,0 +1,9 @@
+// The decoder.
+mod again;
+mod express;
+mod hints;
+mod marks;
+mod peel;
+mod pivots;
+mod remaining;
+pub mod solve;
