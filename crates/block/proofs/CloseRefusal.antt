@@ -3,18 +3,16 @@
 use mathlib.Core.Path.{_≡_, refl, sym, ap, ap₂, _∙_}
 use mathlib.Core.Bool.{Bool, true, false, _||_, cond}
 use mathlib.Core.List.{List, [], _∷_}
-use Prim.Native.Nat.{ℕ, zero, suc, _+_, _*_, _/_, _≤_}
-use native.Mathlib.Omega.{arith}
+use Prim.Native.Nat.{ℕ, zero, suc, _+_, _*_, _/_}
 use lib.ListN.{length}
 use Rattle.algebra.specs.Staircase.{staircase}
 use Rattle.ccsds.specs.Codes.{nOf}
-use Rattle.ccsds.specs.Tables.{codeOf, Known}
+use Rattle.ccsds.specs.Tables.{codeOf}
 use Rattle.ccsds.specs.Refusals.{firstOf, wrongCode, wrongWidth, wrongLabel, wrongLength, bytesOf}
 use Rattle.ccsds.proofs.Refusals.{or-false, code-known, width-right, length-right, length-same, length-wrong, bytes-right, first-is, first-on, first-end, first-none}
-use Rattle.ccsds.proofs.Valid.{valid-of}
 use Rattle.block.specs.Block.{checks, wrongBuffers, blockRefusal}
 use Rattle.block.specs.Close.{wrongWork, wrongMarks, closeRefusal}
-use Rattle.block.specs.Solving.{Ready}
+use Rattle.block.specs.Ready.{Ready}
 use Rattle.block.specs.declared.Block.{Block}
 use Rattle.block.proofs.BlockRefusal.{block-right}
 
@@ -83,12 +81,8 @@ module _ (b : Block) (symbols marks words bytes : List ℕ) where
         pub none-refused : wrongMarks marks ≡ false → 0 ≡ closeRefusal b symbols marks words bytes
         none-refused h = sym (on ∙ first-on _ _ _ work-right ∙ first-on _ _ _ h ∙ first-end)
 
-  few-words : Known (b .code) → checks b .n / 64 ≤ 48
-  unfolding checks staircase
-  few-words k = let h : nOf (codeOf (b .code)) ≤ 3072 = valid-of (b .code) k .few in omega arith
-
   -- where none applies
-  pub ready : closeRefusal b symbols marks words bytes ≡ 0 → Ready b (checks b .n / 64) (length symbols) (length marks) (length words) (length bytes)
+  pub ready : closeRefusal b symbols marks words bytes ≡ 0 → Ready b (length symbols) (length marks) (length words) (length bytes)
   unfolding closeRefusal wrongBuffers wrongWork
   ready z =
       let a1 = first-none (wrongCode (b .code)) 0 _ z in
@@ -101,10 +95,8 @@ module _ (b : Block) (symbols marks words bytes : List ℕ) where
       record {
         known = code-known (b .code) (a1 .0);
         some = width-right (b .w) (a2 .0) .0;
-        most = width-right (b .w) (a2 .0) .1;
         symbols-size = length-right _ _ (l .0);
         marks-size = length-right _ _ (l .1);
         words-size = length-right _ _ (r .0);
         bytes-size = length-right _ _ (r .1);
-        few = few-words (code-known (b .code) (a1 .0));
       }

@@ -3,12 +3,6 @@ pub mod BlockRefusal
 pub mod Taking
 pub mod FromTheList
 pub mod Demand3
-pub mod Unknowns
-pub mod Solved
-pub mod Clearing
 pub mod Marks
 pub mod CloseRefusal
 pub mod Closing
-pub mod Ranks
-pub mod Placing
-pub mod SystemLaws

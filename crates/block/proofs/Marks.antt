@@ -1,17 +1,22 @@
--- Marks one after the other: how many are v, and whether one is above 2.
+-- Marks one after the other: how many are v, and the highest of them, against 2.
 -- Assumes nothing.
-use mathlib.Core.Path.{_≡_, sym, ap, _∙_}
-use mathlib.Core.Bool.{true, false}
+use mathlib.Core.Path.{_≡_, refl, sym, ap, _∙_}
+use mathlib.Core.Bool.{Bool, true, false, _||_}
 use mathlib.Core.List.{List, _∷_}
 use Prim.Native.Nat.{ℕ, suc, _+_, _≤_, _<_}
 use native.Mathlib.Numerals.{add-one}
 use native.Mathlib.Omega.{arith}
 use lib.ListN.{length, getD, drop}
 use lib.Seq.{drop-cons, drop-length}
-use borrow.Author.Tests.{lt-ltb, le-ltb, eq-eqb, ne-eqb}
+use lib.Dec.{ltb}
+use borrow.Author.Tests.{ltb-true, ltb-false, lt-ltb, le-ltb, eq-eqb, ne-eqb}
 use Rattle.algebra.specs.Closing.{count}
 use Rattle.block.specs.Block.{wrongMark}
 use Rattle.block.specs.Close.{wrongMarks}
+
+or-false : (a : Bool) → a || false ≡ a
+or-false true = refl
+or-false false = refl
 
 module _ (l : List ℕ) where
   -- past the end there is none
@@ -21,9 +26,11 @@ module _ (l : List ℕ) where
       let z : count v (drop i l) ≡ 0 = ap (λ (j : ℕ). count v (drop j l)) h ∙ ap (count v) (drop-length l) in
       omega arith
 
-  pub wrong-end : (i : ℕ) → i ≡ length l → wrongMarks (drop i l) ≡ wrongMarks l → false ≡ wrongMarks l
+  -- a highest mark so far, and those still to come
+  pub wrong-end : (i top : ℕ) → i ≡ length l → ltb 2 top || wrongMarks (drop i l) ≡ wrongMarks l → ltb 2 top ≡ wrongMarks l
   unfolding wrongMarks
-  wrong-end i h e = sym (ap wrongMarks (drop-length l)) ∙ ap (λ (j : ℕ). wrongMarks (drop j l)) (sym h) ∙ e
+  wrong-end i top h e =
+      sym (or-false (ltb 2 top)) ∙ ap (λ (b : Bool). ltb 2 top || b) (sym (ap wrongMarks (drop-length l)) ∙ ap (λ (j : ℕ). wrongMarks (drop j l)) (sym h)) ∙ e
 
   module _ (i : ℕ) (h : i < length l) where
     one-off : drop i l ≡ getD l i 0 ∷ drop (i + 1) l
@@ -42,11 +49,21 @@ module _ (l : List ℕ) where
         let z : count v (drop i l) ≡ count v (drop (i + 1) l) = ap (count v) one-off ∙ rw (ne-eqb (getD l i 0) v q) in
         omega arith
 
-    -- one that is above 2, and one that is not
-    pub wrong-one : 2 < getD l i 0 → wrongMarks (drop i l) ≡ wrongMarks l → true ≡ wrongMarks l
+    -- one that is higher, and one that is not
+    pub wrong-higher : (top top′ : ℕ) → top < getD l i 0 → top′ ≡ getD l i 0 → ltb 2 top || wrongMarks (drop i l) ≡ wrongMarks l
+        → ltb 2 top′ || wrongMarks (drop (i + 1) l) ≡ wrongMarks l
     unfolding wrongMarks wrongMark
-    wrong-one q e = sym (ap wrongMarks one-off ∙ rw (lt-ltb 2 (getD l i 0) q)) ∙ e
+    wrong-higher top top′ q f e = ap (λ (t : ℕ). ltb 2 t || wrongMarks (drop (i + 1) l)) f ∙ go (ltb 2 top) refl ∙ ap (λ (b : Bool). ltb 2 top || b) (sym (ap wrongMarks one-off)) ∙ e
+      where
+        go : (b : Bool) → ltb 2 top ≡ b → ltb 2 (getD l i 0) || wrongMarks (drop (i + 1) l) ≡ b || (ltb 2 (getD l i 0) || wrongMarks (drop (i + 1) l))
+        go true t = let r : 2 < top = ltb-true 2 top t in rw (lt-ltb 2 (getD l i 0) (omega arith))
+        go false t = refl
 
-    pub wrong-other : getD l i 0 ≤ 2 → wrongMarks (drop i l) ≡ wrongMarks l → wrongMarks (drop (i + 1) l) ≡ wrongMarks l
+    pub wrong-lower : (top top′ : ℕ) → getD l i 0 ≤ top → top′ ≡ top → ltb 2 top || wrongMarks (drop i l) ≡ wrongMarks l
+        → ltb 2 top′ || wrongMarks (drop (i + 1) l) ≡ wrongMarks l
     unfolding wrongMarks wrongMark
-    wrong-other q e = sym (ap wrongMarks one-off ∙ rw (le-ltb 2 (getD l i 0) q)) ∙ e
+    wrong-lower top top′ q f e = ap (λ (t : ℕ). ltb 2 t || wrongMarks (drop (i + 1) l)) f ∙ go (ltb 2 top) refl ∙ ap (λ (b : Bool). ltb 2 top || b) (sym (ap wrongMarks one-off)) ∙ e
+      where
+        go : (b : Bool) → ltb 2 top ≡ b → b || wrongMarks (drop (i + 1) l) ≡ b || (ltb 2 (getD l i 0) || wrongMarks (drop (i + 1) l))
+        go true t = refl
+        go false t = let r : top ≤ 2 = ltb-false 2 top t in rw (le-ltb 2 (getD l i 0) (omega arith))

@@ -5,5 +5,4 @@ pub mod Close
 pub mod Calls
 pub mod Demand3
 pub mod Steps
-pub mod System
-pub mod Solving
+pub mod Ready

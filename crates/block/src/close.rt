@@ -1,18 +1,13 @@
 // Close.
 use crate::Block;
 use crate::checks;
-use crate::system;
 use ccsds::code::Code;
 ghost use mathlib.Core.Path.{_≡_};
-ghost use mathlib.Core.Bool.{cond};
-ghost use Prim.Native.Nat.{_<_, _≤_, _+_, _*_, _/_};
-ghost use lib.ListN.{length, replicate, set};
-ghost use Rattle.algebra.specs.Closing.{heard, count};
-ghost use Rattle.block.specs.Block.{checks};
-ghost use Rattle.block.specs.Take.{stored};
+ghost use Prim.Native.Nat.{ℕ, _<_, _≤_};
+ghost use lib.ListN.{length, getD};
+ghost use Rattle.algebra.specs.Closing.{count};
+ghost use Rattle.decoder.specs.Outcome.{verdictBy};
 ghost use Rattle.block.specs.Close.{wrongMarks, reportOf, closeRefusal, closeOf, verdictAs, reportAs, closedAs};
-ghost use Rattle.block.specs.System.{rank};
-ghost use Rattle.block.specs.Solving.{Ready, Solved, Cleared, verdictBy, Settled};
 
 pub enum Verdict {
     Whole,
@@ -34,18 +29,20 @@ pub enum Closed {
     Refused(u8),
 }
 
-// 11, mark.
+// 11, mark. The highest mark is sought without a way out of the loop, which so is compiled to vector instructions.
 fn wrong_marks(marks: &[u8]) -> bool
     ensures { λ r. ⌜ r ≡ wrongMarks (now (marks .entry)) ⌝ }
 {
+    let mut top: u8 = 0;
     let mut i = 0;
     while i < marks.len() {
-        if marks[i] > 2 {
-            return true;
+        let mark = marks[i];
+        if mark > top {
+            top = mark;
         }
         i += 1;
     }
-    false
+    top > 2
 }
 
 // The number of close's refusal, or 0.
@@ -69,115 +66,31 @@ fn check_close(b: Block, symbols: &[u8], marks: &[u8], words: &[u64], bytes: &[u
     0
 }
 
-// Where position i is not heard, it gets zero bytes and mark 0.
-fn clear_at(w: usize, symbols: &mut [u8], marks: &mut [u8], i: usize)
-    requires { ⌜ (i < length (now marks)) × (i * w + w ≤ length (now symbols)) ⌝ }
-    ensures { λ _. ⌜ now (symbols .exit) ≡ cond (heard (now (marks .entry)) i) (now (symbols .entry)) (stored (now (symbols .entry)) (i * w) (replicate w 0)) ⌝ }
-    ensures { λ _. ⌜ now (marks .exit) ≡ cond (heard (now (marks .entry)) i) (now (marks .entry)) (set (now (marks .entry)) i 0) ⌝ }
-{
-    if marks[i] == 1 {
-        return;
-    }
-    marks[i] = 0;
-    let at = i * w;
-    buffers::clear(&mut symbols[at..at + w]);
+// How many marks are 1, and how many are 2.
+struct Counts {
+    heard: usize,
+    filled: usize,
 }
 
-// The same at every position.
-fn clear_missing(w: usize, symbols: &mut [u8], marks: &mut [u8])
-    requires { ⌜ length (now symbols) ≡ length (now marks) * w ⌝ }
-    ensures { λ _. ⌜ Cleared w (now (symbols .entry)) (now (marks .entry)) (now (symbols .exit)) (now (marks .exit)) (length (now (marks .entry))) ⌝ }
+fn count_marks(marks: &[u8]) -> Counts
+    ensures { λ r. ⌜ (r .heard ≡ count 1 (now (marks .entry))) × (r .filled ≡ count 2 (now (marks .entry))) ⌝ }
 {
+    let mut heard = 0;
+    let mut filled = 0;
     let mut i = 0;
     while i < marks.len() {
-        clear_at(w, symbols, marks, i);
-        i += 1;
-    }
-}
-
-// How many marks are v.
-fn count_marks(marks: &[u8], v: u8) -> usize
-    ensures { λ r. ⌜ r ≡ count v (now (marks .entry)) ⌝ }
-{
-    let mut n = 0;
-    let mut i = 0;
-    while i < marks.len() {
-        if marks[i] == v {
-            n += 1;
+        if marks[i] == 1 {
+            heard += 1;
+        }
+        if marks[i] == 2 {
+            filled += 1;
         }
         i += 1;
     }
-    n
+    Counts { heard, filled }
 }
 
-// How many words hold an unknown for each missing position.
-fn packed_words(marks: &[u8]) -> usize
-    ensures { λ r. ⌜ r ≡ (rank (now (marks .entry)) (length (now (marks .entry))) + 63) / 64 ⌝ }
-{
-    (system::missing(marks) + 63) / 64
-}
-
-// The equations of the missing symbols, reduced, into the work buffers.
-fn reduce(
-    b: Block,
-    packed: usize,
-    symbols: &[u8],
-    marks: &[u8],
-    words: &mut [u64],
-    bytes: &mut [u8],
-)
-    requires { ⌜ Ready b packed (length (now symbols)) (length (now marks)) (length (now words)) (length (now bytes)) ⌝ }
-    requires { ⌜ rank (now marks) (checks b .n) ≤ 64 * packed ⌝ }
-    ensures { λ _. ⌜ Solved (checks b) (b .w) packed (now (symbols .entry)) (now (marks .entry)) (now (words .exit)) (now (bytes .exit)) ⌝ }
-{
-    let code = Code { number: b.code };
-    system::build(b.code, b.w, packed, symbols, marks, words, bytes);
-    rows::eliminate(words, bytes, code.m(), packed, b.w);
-}
-
-// What is read off them: whether there is a solution, and each symbol that all solutions have.
-fn settle(
-    b: Block,
-    packed: usize,
-    symbols: &mut [u8],
-    marks: &mut [u8],
-    words: &[u64],
-    bytes: &[u8],
-) -> bool
-    requires { ⌜ Ready b packed (length (now symbols)) (length (now marks)) (length (now words)) (length (now bytes)) ⌝ }
-    requires { ⌜ Solved (checks b) (b .w) packed (now symbols) (now marks) (now words) (now bytes) ⌝ }
-    ensures { λ r. ⌜ Settled (checks b) (b .w) (now (symbols .entry)) (now (marks .entry)) (now (symbols .exit)) (now (marks .exit)) r ⌝ }
-{
-    let code = Code { number: b.code };
-    let m = code.m();
-    let w = b.w;
-    let places = system::places(marks);
-    clear_missing(w, symbols, marks);
-    if !rows::solution::consistent(words, bytes, m, packed, w) {
-        return false;
-    }
-    rows::solution::fill(words, bytes, symbols, marks, &places, m, packed, w);
-    true
-}
-
-// Both, with the rows in m × (packed + 1) words.
-fn solve(
-    b: Block,
-    packed: usize,
-    symbols: &mut [u8],
-    marks: &mut [u8],
-    words: &mut [u64],
-    bytes: &mut [u8],
-) -> bool
-    requires { ⌜ Ready b packed (length (now symbols)) (length (now marks)) (length (now words)) (length (now bytes)) ⌝ }
-    requires { ⌜ rank (now marks) (checks b .n) ≤ 64 * packed ⌝ }
-    ensures { λ r. ⌜ Settled (checks b) (b .w) (now (symbols .entry)) (now (marks .entry)) (now (symbols .exit)) (now (marks .exit)) r ⌝ }
-{
-    reduce(b, packed, symbols, marks, words, bytes);
-    settle(b, packed, symbols, marks, words, bytes)
-}
-
-// The verdict, by whether there is a solution and by how many positions are left.
+// The verdict, by whether some codeword agrees and by how many positions are left.
 fn verdict_by(ok: bool, left: usize) -> Verdict
     ensures { λ r. ⌜ verdictAs r ≡ verdictBy ok left ⌝ }
 {
@@ -192,11 +105,13 @@ fn verdict_by(ok: bool, left: usize) -> Verdict
 
 // The report, from the marks afterwards.
 fn tell(ok: bool, marks: &[u8]) -> Report
+    requires { ⌜ ((i : ℕ) → i < length (now marks) → getD (now marks) i 0 ≤ 2) ⌝ }
     ensures { λ r. ⌜ reportAs r ≡ reportOf (verdictBy ok (count 0 (now (marks .entry)))) (now (marks .entry)) ⌝ }
 {
-    let heard = count_marks(marks, 1);
-    let filled = count_marks(marks, 2);
-    let left = count_marks(marks, 0);
+    let counts = count_marks(marks);
+    let heard = counts.heard;
+    let filled = counts.filled;
+    let left = marks.len() - heard - filled;
     let verdict = verdict_by(ok, left);
     Report {
         verdict,
@@ -224,10 +139,7 @@ pub fn close(
     if refusal != 0 {
         return Closed::Refused(refusal);
     }
-    let packed = packed_words(marks);
-    let code = Code { number: b.code };
-    let used = code.m() * (packed + 1);
-    let ok = solve(b, packed, symbols, marks, &mut words[..used], bytes);
+    let ok = decoder::solve::solve(b.code, b.w, symbols, marks, words, bytes);
     buffers::clear_words(words);
     buffers::clear(bytes);
     Closed::Told(tell(ok, marks))

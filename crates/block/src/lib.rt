@@ -2,7 +2,6 @@
 mod checks;
 pub mod close;
 pub mod open;
-mod system;
 pub mod take;
 
 // A block's record: its code's number, the bytes of a symbol, its protocol ID and its block number.

@@ -2,13 +2,15 @@
 use crate::Block;
 use crate::checks;
 use ccsds::code::Code;
+use ccsds::expected::Expected;
 use ccsds::reader::Extension;
 use ccsds::reader::UnitParts;
 use ccsds::reader::UnitRead;
 ghost use mathlib.Core.Path.{_≡_};
 ghost use Prim.Native.Nat.{_<_, _≤_, _+_, _*_};
 ghost use lib.ListN.{length};
-ghost use Rattle.ccsds.specs.Reader.{extensionAs};
+ghost use Rattle.ccsds.specs.Refusals.{answered};
+ghost use Rattle.ccsds.specs.Reader.{extensionAs, readUnit};
 ghost use Rattle.block.specs.Take.{wrongParameters, foreign, unitRefusal, admission, arrival, takeOf, takenAs};
 ghost use Rattle.block.specs.Steps.{partsAs, admittedAs};
 
@@ -77,19 +79,28 @@ enum Admitted {
     Refused(u8),
 }
 
-// Whether the block admits a unit.
+// Whether the block admits a unit that says p.
+fn admit_parts(b: Block, p: UnitParts, unit: &[u8]) -> Admitted
+    requires { ⌜ readUnit (now unit) ≡ answered (partsAs p) ⌝ }
+    ensures { λ r. ⌜ admittedAs (now (unit .entry)) r ≡ admission b (now (unit .entry)) ⌝ }
+{
+    let refusal = check_unit(b, p, unit.len());
+    if refusal != 0 {
+        return Admitted::Refused(refusal);
+    }
+    Admitted::At(p.lwc - 1, unit.len() - b.w)
+}
+
+// Whether the block admits a unit. One that is as the block's sender writes it is read the quick way.
 fn admit(b: Block, unit: &[u8]) -> Admitted
     ensures { λ r. ⌜ admittedAs (now (unit .entry)) r ≡ admission b (now (unit .entry)) ⌝ }
 {
+    if let Expected::Parts(p) = ccsds::expected::read(b.code, b.w, b.protocol, b.lsc, unit) {
+        return admit_parts(b, p, unit);
+    }
     match ccsds::reader::read_unit(unit) {
         UnitRead::Refused(number) => Admitted::Refused(number),
-        UnitRead::Read(p) => {
-            let refusal = check_unit(b, p, unit.len());
-            if refusal != 0 {
-                return Admitted::Refused(refusal);
-            }
-            Admitted::At(p.lwc - 1, unit.len() - b.w)
-        }
+        UnitRead::Read(p) => admit_parts(b, p, unit),
     }
 }
 

@@ -11,19 +11,26 @@ use Rattle.block.proofs.close.count_marks.Statement.{statement}
 use Rattle.block.proofs.close.count_marks.Tie as tie
 
 abbrev Inv-loop : tie.InvT-loop
-Inv-loop marks v n₀ i₀ n i = (i ≤ length marks) × (n ≤ i) × (n + count v (drop i marks) ≡ count v marks)
+Inv-loop marks heard₀ filled₀ i₀ heard filled i =
+    (i ≤ length marks) × ((heard ≤ i) × (heard + count 1 (drop i marks) ≡ count 1 marks)) × ((filled ≤ i) × (filled + count 2 (drop i marks) ≡ count 2 marks))
 
 abbrev μ-loop : tie.MeasureT-loop
-μ-loop marks v n₀ i₀ n i = length marks - i
+μ-loop marks heard₀ filled₀ i₀ heard filled i = length marks - i
 
 loop-holds : tie.Need-loop-holds Inv-loop μ-loop
-loop-holds c = (omega arith, omega arith, omega arith)
+loop-holds c = (omega arith, (omega arith, omega arith), (omega arith, omega arith))
 
 shared-slice-read-if1 : tie.Need-shared-slice-read-if1 Inv-loop μ-loop
 shared-slice-read-if1 c = omega arith
 
-add-n : tie.Need-add-n Inv-loop μ-loop
-add-n c = omega arith
+add-heard : tie.Need-add-heard Inv-loop μ-loop
+add-heard c = omega arith
+
+shared-slice-read-if2 : tie.Need-shared-slice-read-if2 Inv-loop μ-loop
+shared-slice-read-if2 c = omega arith
+
+add-filled : tie.Need-add-filled Inv-loop μ-loop
+add-filled c = omega arith
 
 add-i : tie.Need-add-i Inv-loop μ-loop
 add-i c = omega arith
@@ -33,19 +40,41 @@ loop-less c = omega arith
 
 loop-again : tie.Need-loop-again Inv-loop μ-loop
 loop-again c =
-    let l = c .before .before .before .loop in
-    let a = c .before .before .before .before .args in
+    let l = c .before .before .before .before .before .loop in
+    let a = c .before .before .before .before .before .before .args in
     let h : l .i < length (a .marks .now) = omega arith in
-    ⊎-elim
-    (λ w. (omega arith, omega arith, count-one (a .marks .now) (l .i) h (a .v) (l .n) (c .if1 .n) (w .0 .taken) (w .1) (l .inv .2)))
-    (λ w. (omega arith, omega arith, count-other (a .marks .now) (l .i) h (a .v) (l .n) (c .if1 .n) (w .0 .left) (w .1) (l .inv .2)))
-    (c .if1 .came)
+    let heard = c .before .before .if1 in
+    let filled = c .if2 in (
+      omega arith,
+      ⊎-elim
+      (λ w. (omega arith, count-one (a .marks .now) (l .i) h 1 (l .heard) (heard .heard) (w .0 .taken) (w .1) (l .inv .1 .1)))
+      (λ w. (omega arith, count-other (a .marks .now) (l .i) h 1 (l .heard) (heard .heard) (w .0 .left) (w .1) (l .inv .1 .1)))
+      (heard .came),
+      ⊎-elim
+      (λ w. (omega arith, count-one (a .marks .now) (l .i) h 2 (l .filled) (filled .filled) (w .0 .taken) (w .1) (l .inv .2 .1)))
+      (λ w. (omega arith, count-other (a .marks .now) (l .i) h 2 (l .filled) (filled .filled) (w .0 .left) (w .1) (l .inv .2 .1)))
+      (filled .came),
+    )
 
 returns : tie.Need-returns Inv-loop μ-loop
 returns c =
     let l = c .before .loop in
-    let h : l .i ≡ length (c .before .before .args .marks .now) = omega arith in
-    count-end (c .before .before .args .marks .now) (c .before .before .args .v) (l .i) (l .n) h (l .inv .2)
+    let a = c .before .before .args in
+    let h : l .i ≡ length (a .marks .now) = omega arith in
+    (count-end (a .marks .now) 1 (l .i) (l .heard) h (l .inv .1 .1), count-end (a .marks .now) 2 (l .i) (l .filled) h (l .inv .2 .1))
 
 pub count-marks-spec : {M : Type 1} → statement M
-count-marks-spec = tie.close (tie.spec Inv-loop μ-loop loop-holds shared-slice-read-if1 add-n add-i loop-less loop-again returns)
+count-marks-spec =
+    tie.close
+    (tie.spec
+    Inv-loop
+    μ-loop
+    loop-holds
+    shared-slice-read-if1
+    add-heard
+    shared-slice-read-if2
+    add-filled
+    add-i
+    loop-less
+    loop-again
+    returns)

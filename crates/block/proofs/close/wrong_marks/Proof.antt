@@ -1,31 +1,28 @@
--- `block::close::wrong_marks` meets its contract: what is still to test decides.
+-- `block::close::wrong_marks` meets its contract: the highest mark so far, or what is still to test, decides.
 -- Assumes nothing.
 use mathlib.Core.Path.{_≡_, refl}
+use mathlib.Core.Logic.{⊎-elim}
+use mathlib.Core.Bool.{_||_}
 use Prim.Native.Nat.{_-_, _≤_, _<_}
 use native.Mathlib.Omega.{arith}
+use lib.Dec.{ltb}
 use lib.ListN.{length, drop}
 use Rattle.block.specs.Close.{wrongMarks}
-use Rattle.block.proofs.Marks.{wrong-end, wrong-one, wrong-other}
+use Rattle.block.proofs.Marks.{wrong-end, wrong-higher, wrong-lower}
 use Rattle.block.proofs.close.wrong_marks.Statement.{statement}
 use Rattle.block.proofs.close.wrong_marks.Tie as tie
 
 abbrev Inv-loop : tie.InvT-loop
-Inv-loop marks i₀ i = (i ≤ length marks) × (wrongMarks (drop i marks) ≡ wrongMarks marks)
+Inv-loop marks top₀ i₀ top i = (i ≤ length marks) × (ltb 2 top || wrongMarks (drop i marks) ≡ wrongMarks marks)
 
 abbrev μ-loop : tie.MeasureT-loop
-μ-loop marks i₀ i = length marks - i
+μ-loop marks top₀ i₀ top i = length marks - i
 
 loop-holds : tie.Need-loop-holds Inv-loop μ-loop
 loop-holds c = (omega arith, refl)
 
-shared-slice-read-if1 : tie.Need-shared-slice-read-if1 Inv-loop μ-loop
-shared-slice-read-if1 c = omega arith
-
-returns : tie.Need-returns Inv-loop μ-loop
-returns c =
-    let l = c .before .before .before .loop in
-    let h : l .i < length (c .before .before .before .before .args .marks .now) = omega arith in
-    wrong-one (c .before .before .before .before .args .marks .now) (l .i) h (c .if1 .taken) (l .inv .1)
+shared-slice-read-mark : tie.Need-shared-slice-read-mark Inv-loop μ-loop
+shared-slice-read-mark c = omega arith
 
 add-i : tie.Need-add-i Inv-loop μ-loop
 add-i c = omega arith
@@ -36,14 +33,20 @@ loop-less c = omega arith
 loop-again : tie.Need-loop-again Inv-loop μ-loop
 loop-again c =
     let l = c .before .before .before .loop in
-    let h : l .i < length (c .before .before .before .before .args .marks .now) = omega arith in
-    (omega arith, wrong-other (c .before .before .before .before .args .marks .now) (l .i) h (c .if1 .left) (l .inv .1))
+    let a = c .before .before .before .before .args in
+    let h : l .i < length (a .marks .now) = omega arith in
+    ⊎-elim
+    (λ w. (omega arith, wrong-higher (a .marks .now) (l .i) h (l .top) (c .if1 .top) (w .0 .taken) (w .1) (l .inv .1)))
+    (λ w. (omega arith, wrong-lower (a .marks .now) (l .i) h (l .top) (c .if1 .top) (w .0 .left) (w .1) (l .inv .1)))
+    (c .if1 .came)
 
-returns-2 : tie.Need-returns-2 Inv-loop μ-loop
-returns-2 c =
+returns : tie.Need-returns Inv-loop μ-loop
+returns c =
     let l = c .before .loop in
     let h : l .i ≡ length (c .before .before .args .marks .now) = omega arith in
-    wrong-end (c .before .before .args .marks .now) (l .i) h (l .inv .1)
+    wrong-end (c .before .before .args .marks .now) (l .i) (l .top) h (l .inv .1)
 
 pub wrong-marks-spec : {M : Type 1} → statement M
-wrong-marks-spec = tie.close (tie.spec Inv-loop μ-loop loop-holds shared-slice-read-if1 returns add-i loop-less loop-again returns-2)
+wrong-marks-spec =
+    tie.close
+    (tie.spec Inv-loop μ-loop loop-holds shared-slice-read-mark add-i loop-less loop-again returns)
