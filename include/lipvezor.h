@@ -8,7 +8,7 @@
  * Link with -llipvezor after make install (pkg-config knows it as lipvezor), or in the repository with target/staticlib/libboundary.a,
  * which is the same archive. It is for x86-64 Linux and needs no library but C's own. Nothing is allocated, no call keeps a pointer, and
  * no call reads or writes anything but what it was lent: two threads may call at the same time on different buffers. lipvezor_close takes
- * about 16 KB of stack, every other call less than 1 KB.
+ * less than 40 KB of stack, lipvezor_encode less than 4 KB, every other call less than 1 KB (tests/stack measures it).
  *
  * Numbers. Every call may be handed any numbers, bytes and lengths. What does not fit is refused: a refusal has a number from 1 on, the
  * first that applies is answered, in the order in which lipvezor_answer lists them, and a refused call has changed nothing that it was

@@ -1,19 +1,52 @@
 // Names the proved archive: libboundary.a where `make archive` puts it, or in the folder LIPVEZOR_LIB_DIR, under that name or as liblipvezor.a,
 // the name that `make install` gives it.
-use std::path::PathBuf;
+//
+// Where LIPVEZOR_EARLIER names a folder with the archive of an earlier version, the examples get that too, with its calls renamed earlier_…, and
+// cfg(earlier): `make bench` then measures beside it. Only this needs objcopy.
+use std::path::{Path, PathBuf};
+use std::process::Command;
+
+/// The calls of an earlier version that the bench measures.
+const MEASURED: [&str; 4] = ["encode", "write", "take", "close"];
+
+/// The archive in a folder, and the name to link it by.
+fn archive(folder: &Path) -> (PathBuf, &'static str) {
+    let path = |name: &str| folder.join(format!("lib{name}.a"));
+    let name = if path("lipvezor").exists() && !path("boundary").exists() { "lipvezor" } else { "boundary" };
+    (path(name), name)
+}
+
+/// A copy of an archive in which the measured calls begin with earlier_, and nothing else is seen from outside.
+fn rename(archive: &Path, copy: &Path) {
+    let mut objcopy = Command::new("objcopy");
+    for call in MEASURED {
+        objcopy.arg(format!("--redefine-sym=lipvezor_{call}=earlier_{call}")).arg(format!("--keep-global-symbol=earlier_{call}"));
+    }
+    let done = objcopy.arg(archive).arg(copy).status().expect("LIPVEZOR_EARLIER needs objcopy");
+    assert!(done.success(), "objcopy can't read {}", archive.display());
+}
 
 fn main() {
     let folder = match std::env::var_os("LIPVEZOR_LIB_DIR") {
         Some(folder) => PathBuf::from(folder),
         None => PathBuf::from(std::env::var_os("CARGO_MANIFEST_DIR").unwrap()).join("../target/staticlib"),
     };
-    let archive = |name: &str| folder.join(format!("lib{name}.a"));
-    let name = if archive("lipvezor").exists() && !archive("boundary").exists() { "lipvezor" } else { "boundary" };
-    if !archive(name).exists() {
-        println!("cargo:warning={} is not there; `make archive` makes it", archive(name).display());
+    let (path, name) = archive(&folder);
+    if !path.exists() {
+        println!("cargo:warning={} is not there; `make archive` makes it", path.display());
     }
     println!("cargo:rustc-link-search=native={}", folder.display());
     println!("cargo:rustc-link-lib=static={name}");
     println!("cargo:rerun-if-env-changed=LIPVEZOR_LIB_DIR");
-    println!("cargo:rerun-if-changed={}", archive(name).display());
+    println!("cargo:rerun-if-changed={}", path.display());
+    println!("cargo:rustc-check-cfg=cfg(earlier)");
+    println!("cargo:rerun-if-env-changed=LIPVEZOR_EARLIER");
+    if let Some(folder) = std::env::var_os("LIPVEZOR_EARLIER") {
+        let (earlier, _) = archive(Path::new(&folder));
+        let copy = PathBuf::from(std::env::var_os("OUT_DIR").unwrap()).join("libearlier.a");
+        rename(&earlier, &copy);
+        println!("cargo:rerun-if-changed={}", earlier.display());
+        println!("cargo:rustc-link-arg-examples={}", copy.display());
+        println!("cargo:rustc-cfg=earlier");
+    }
 }

@@ -73,6 +73,12 @@ fn altered_and_cut_units() {
 }
 
 #[test]
+fn units_almost_as_expected() {
+    let stats = report("unexpected", unit_forms::unexpected(Fault::None, &mut compare::seeded()));
+    assert_came(&stats, &[5, 6, 7, 8, 9, 12, 20]);
+}
+
+#[test]
 fn forms_of_numbers() {
     report("numbers", unit_forms::numbers(Fault::None, &mut compare::seeded()));
 }

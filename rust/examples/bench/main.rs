@@ -1,8 +1,20 @@
 //! The speed of the archive's calls beside plain Rust that does the same steps on the same input.
 //!
-//! `cargo run --release --example bench -- [--quick] [PART]`, where PART selects the cases with PART in their name.
+//! `cargo run --release --example bench -- [--quick] [PART]`, where PART selects the cases with PART in their name. Where the environment variable
+//! LIPVEZOR_EARLIER names a folder with the archive of an earlier version, that is measured too.
+//!
+//! The linker puts the archive's functions on borders of 16 bytes. Short loops can be a quarter slower where that makes them cross a border of 64, so
+//! code that is the same in both archives can have a gain other than 1.00 (write at W 1,024), another one after each build.
+mod blocks;
+mod buffer;
+#[cfg(earlier)]
+mod earlier;
+mod layers;
+mod measure;
 mod plain_close;
 mod plain_encode;
+mod plain_gather;
+mod plain_rows;
 mod plain_tables;
 mod plain_units;
 #[path = "../../support/random.rs"]
@@ -11,244 +23,91 @@ mod simple_close;
 #[path = "../../support/tables.rs"]
 mod tables;
 
-use lipvezor::{calls, Code, Taken};
+use blocks::{close, encode, open, take, write, Receiving, Sending, Taking, Units};
+#[cfg(earlier)]
+use earlier::Earlier;
+use layers::{Ours, Plain, Simple};
+use lipvezor::Code;
+use measure::{cold, median, order, rounds, time, Side};
 use random::Random;
-use std::hint::black_box;
 use std::time::{Duration, Instant};
 
-const PROTOCOL: usize = 5;
-const LSC: usize = 300;
-/// Loss patterns of a case of close, and how often the bench comes back to each.
-const PATTERNS: usize = 4;
-const PASSES: usize = 3;
+/// Patterns of a case of close in which row additions are counted, and which are also closed with one heard byte wrong, to compare.
+const COUNTED: usize = 8;
+/// Bytes that the blocks of a cold case have together: more than twice a large cache.
+const COLD: usize = 640 << 20;
+/// How much of m is missing in the cases of close, in percent.
+const MISSING: [usize; 6] = [0, 10, 50, 90, 97, 120];
 
-/// Runs the sides in turn, in many short rounds, until each has had its time. Answers each side's seconds for one run in its best round.
-/// `before` comes before each run, and its time isn't counted; without it, short runs are timed several together.
-fn alternate<S>(state: &mut S, each: Duration, before: Option<fn(&mut S)>, sides: &[fn(&mut S)]) -> Vec<f64> {
-    let mut sample = |side: fn(&mut S), runs: u32| {
-        if let Some(before) = before {
-            before(state);
-        }
-        let start = Instant::now();
-        for _ in 0..runs {
-            side(state);
-        }
-        start.elapsed()
+/// A run by each layer: ours, plain Rust's and, if there is one, the earlier archive's. One more side may come last.
+macro_rules! sides {
+    ($run:ident $(, $more:expr)?) => {
+        &[$run::<Ours>, $run::<Plain>, #[cfg(earlier)] $run::<Earlier>, $($more)?]
     };
-    let mut runs = vec![1; sides.len()];
-    for (runs, &side) in runs.iter_mut().zip(sides) {
-        sample(side, 1);
-        let one = sample(side, 1);
-        if before.is_none() && one < Duration::from_micros(200) {
-            *runs = (200_000 / one.as_nanos().max(1)) as u32 + 1;
-        }
-    }
-    let mut used = vec![Duration::ZERO; sides.len()];
-    let mut best = vec![f64::INFINITY; sides.len()];
-    let mut round = 0;
-    while round < 2 || used.iter().any(|&u| u < each) {
-        for i in 0..sides.len() {
-            let i = if round % 2 == 0 { i } else { sides.len() - 1 - i };
-            if round < 2 || used[i] < each {
-                let time = sample(sides[i], runs[i]);
-                used[i] += time;
-                best[i] = best[i].min(time.as_secs_f64() / runs[i] as f64);
-            }
-        }
-        round += 1;
-    }
-    best
 }
 
-/// What is sent of one block. Its units stand one after the other, or each begins on a border of so many bytes.
-struct Sending {
-    code: Code,
-    w: usize,
-    information: Vec<u8>,
-    parity: Vec<u8>,
-    units: Vec<u8>,
-    first: usize,
-    stride: usize,
-}
-
-impl Sending {
-    fn new(code: Code, w: usize, border: usize) -> Sending {
-        let mut information = vec![0; code.information_bytes(w)];
-        Random::new(code.0 as u64 * 2048 + w as u64).fill(&mut information);
-        let stride = code.unit_bytes(w).next_multiple_of(border);
-        let units = vec![0; code.n() * stride + border - 1];
-        let first = units.as_ptr().align_offset(border);
-        let mut all = Sending { code, w, information, parity: vec![0; code.parity_bytes(w)], units, first, stride };
-        encode(&mut all);
-        write(&mut all);
-        all
-    }
-
-    fn symbol(&self, i: usize) -> &[u8] {
-        let (k, w) = (self.information.len() / self.w, self.w);
-        if i < k {
-            &self.information[i * w..(i + 1) * w]
-        } else {
-            &self.parity[(i - k) * w..(i - k + 1) * w]
-        }
-    }
-
-    /// Writes all units by one of the two writers.
-    fn write_by(&mut self, writer: impl Fn(usize, &[u8], &mut [u8])) {
-        let mut units = std::mem::take(&mut self.units);
-        let each = self.code.unit_bytes(self.w);
-        for (i, unit) in units[self.first..].chunks_exact_mut(self.stride).enumerate() {
-            writer(i + 1, self.symbol(i), &mut unit[..each]);
-        }
-        self.units = units;
-    }
-}
-
-fn encode(s: &mut Sending) {
-    calls::encode(black_box(s.code), black_box(s.w), &s.information, &mut s.parity).unwrap();
-}
-
-fn encode_plain(s: &mut Sending) {
-    plain_encode::encode(black_box(s.code.0), black_box(s.w), &s.information, &mut s.parity).unwrap();
-}
-
-fn write(s: &mut Sending) {
-    let (code, w) = black_box((s.code, s.w));
-    s.write_by(|lwc, symbol, unit| calls::write(code, w, PROTOCOL, LSC, lwc, symbol, unit).unwrap());
-}
-
-fn write_plain(s: &mut Sending) {
-    let (code, w) = black_box((s.code.0, s.w));
-    s.write_by(|lwc, symbol, unit| plain_units::write(code, w, PROTOCOL, LSC, lwc, symbol, unit).unwrap());
-}
-
-/// A block that is received, with the units that may come and the work buffers.
-struct Receiving {
-    code: Code,
-    w: usize,
-    unit_bytes: usize,
-    units: Vec<u8>,
-    symbols: Vec<u8>,
-    marks: Vec<u8>,
-    words: Vec<u64>,
-    bytes: Vec<u8>,
-}
-
-impl Receiving {
-    fn new(sent: &Sending) -> Receiving {
-        let (code, w) = (sent.code, sent.w);
-        let mut block = Receiving {
-            code,
-            w,
-            unit_bytes: code.unit_bytes(w),
-            units: sent.units.clone(),
-            symbols: vec![0; code.symbol_bytes(w)],
-            marks: vec![0; code.n()],
-            words: vec![0; code.work_words()],
-            bytes: vec![0; code.work_bytes(w)],
-        };
-        open(&mut block);
-        block
-    }
-
-    /// A fresh block that hears all but `missing` symbols, which the seed chooses.
-    fn lose(&mut self, missing: usize, seed: u64) {
-        open(self);
-        let order = Random::new(seed).shuffled(self.marks.len());
-        for &i in &order[missing..] {
-            let unit = &self.units[i * self.unit_bytes..][..self.unit_bytes];
-            let answer = calls::take(self.code, self.w, PROTOCOL, LSC, &mut self.symbols, &mut self.marks, unit);
-            assert_eq!(answer, Ok(Taken::Kept));
-        }
-    }
-}
-
-fn open(b: &mut Receiving) {
-    calls::open(b.code, b.w, PROTOCOL, LSC, &mut b.symbols, &mut b.marks).unwrap();
-}
-
-fn take(b: &mut Receiving) {
-    let (code, w) = black_box((b.code, b.w));
-    for unit in b.units.chunks_exact(b.unit_bytes) {
-        let answer = calls::take(code, w, PROTOCOL, LSC, &mut b.symbols, &mut b.marks, unit);
-        assert_eq!(answer, Ok(Taken::Kept));
-    }
-}
-
-fn take_plain(b: &mut Receiving) {
-    let (code, w) = black_box((b.code.0, b.w));
-    for unit in b.units.chunks_exact(b.unit_bytes) {
-        let answer = plain_units::take(code, w, PROTOCOL, LSC, &mut b.symbols, &mut b.marks, unit);
-        assert_eq!(answer, Ok(Taken::Kept));
-    }
-}
-
-// A block may be closed again and again: each time the symbols that were filled are missing anew.
-
-fn close(b: &mut Receiving) {
-    let (code, w) = black_box((b.code, b.w));
-    let answer = calls::close(code, w, PROTOCOL, LSC, &mut b.symbols, &mut b.marks, &mut b.words, &mut b.bytes);
-    let _ = black_box(answer.unwrap());
-}
-
-fn close_plain(b: &mut Receiving) {
-    let (code, w) = black_box((b.code.0, b.w));
-    let answer = plain_close::close(code, w, PROTOCOL, LSC, &mut b.symbols, &mut b.marks, &mut b.words, &mut b.bytes, &mut ());
-    let _ = black_box(answer.unwrap());
-}
-
-fn close_simple(b: &mut Receiving) {
-    let (code, w) = black_box((b.code.0, b.w));
-    let answer = simple_close::close(code, w, PROTOCOL, LSC, &mut b.symbols, &mut b.marks, &mut b.words, &mut b.bytes, &mut ());
-    let _ = black_box(answer.unwrap());
-}
-
-/// Closes the same block in the three ways, and sees that all come to the same. Answers the row additions of our steps and of simple ones.
-fn compare_closes(b: &mut Receiving) -> (usize, usize) {
-    let (code, w) = (b.code, b.w);
-    let before = (b.symbols.clone(), b.marks.clone());
-    let mut outcomes = Vec::new();
-    let mut additions = [0, 0];
-    for way in 0..3 {
-        (b.symbols, b.marks) = before.clone();
-        b.words.fill(way);
-        b.bytes.fill(way as u8);
-        let answer = match way {
-            0 => calls::close(code, w, PROTOCOL, LSC, &mut b.symbols, &mut b.marks, &mut b.words, &mut b.bytes),
-            1 => plain_close::close(code.0, w, PROTOCOL, LSC, &mut b.symbols, &mut b.marks, &mut b.words, &mut b.bytes, &mut additions[0]),
-            _ => simple_close::close(code.0, w, PROTOCOL, LSC, &mut b.symbols, &mut b.marks, &mut b.words, &mut b.bytes, &mut additions[1]),
-        };
-        assert!(answer.is_ok());
-        assert!(b.words.iter().all(|&word| word == 0) && b.bytes.iter().all(|&byte| byte == 0));
-        outcomes.push((answer, b.symbols.clone(), b.marks.clone()));
-    }
-    assert!(outcomes[0] == outcomes[1], "our close and plain Rust's differ");
-    assert!(outcomes[0] == outcomes[2], "our close and the simple one differ");
-    (additions[0], additions[1])
-}
-
-/// A case's result: how much in a second, and what is counted.
+/// A case's result: how much in a second by each side.
 struct Line {
     name: String,
+    unit: &'static str,
     ours: f64,
     rust: f64,
-    unit: &'static str,
+    earlier: Option<f64>,
     simple: Option<f64>,
 }
 
+/// In hundredths, as printed.
+fn hundredths(x: f64) -> f64 {
+    (x * 100.0).round() / 100.0
+}
+
 impl Line {
-    /// Ours to plain Rust's, in hundredths, as printed.
+    /// From how much one run does, in millions, and each side's seconds for it.
+    fn new(name: String, unit: &'static str, millions: f64, seconds: &[f64]) -> Line {
+        let speed = |side: usize| seconds.get(side).map(|seconds| millions / seconds);
+        let (earlier, simple) = if cfg!(earlier) { (speed(2), speed(3)) } else { (None, speed(2)) };
+        Line { name, unit, ours: millions / seconds[0], rust: millions / seconds[1], earlier, simple }
+    }
+
+    /// Ours to plain Rust's.
     fn ratio(&self) -> f64 {
-        (self.ours / self.rust * 100.0).round() / 100.0
+        hundredths(self.ours / self.rust)
+    }
+
+    /// Ours to the earlier archive's.
+    fn gain(&self) -> Option<f64> {
+        self.earlier.map(|earlier| hundredths(self.ours / earlier))
     }
 
     fn print(&self, more: &str) {
-        println!("bench {} ours={:.1} rust={:.1} ratio={:.2} unit={}{more}", self.name, self.ours, self.rust, self.ratio(), self.unit);
+        let mut line = format!("bench {} ours={:.1} rust={:.1} ratio={:.2} unit={}", self.name, self.ours, self.rust, self.ratio(), self.unit);
+        if let (Some(earlier), Some(gain)) = (self.earlier, self.gain()) {
+            line += &format!(" earlier={earlier:.1} gain={gain:.2}");
+        }
+        if let Some(simple) = self.simple {
+            line += &format!(" simple={simple:.1}");
+        }
+        println!("{line}{more}");
     }
 }
 
+/// The row additions of plain Rust's elimination and of the simple one, on a block that was just heard.
+fn count_additions(block: &mut Receiving, code: Code, w: usize, hear: impl Fn(&mut Receiving)) -> [usize; 2] {
+    let mut additions = [0, 0];
+    hear(block);
+    let b = &mut *block;
+    plain_close::close(code.0, w, 0, 1, &mut b.symbols, &mut b.marks, &mut b.words, &mut b.bytes, &mut additions[0]).unwrap();
+    hear(block);
+    let b = &mut *block;
+    simple_close::close(code.0, w, 0, 1, &mut b.symbols, &mut b.marks, &mut b.words, &mut b.bytes, &mut additions[1]).unwrap();
+    additions
+}
+
 struct Bench {
+    /// The time of a side in a case.
     each: Duration,
+    /// Rounds of a case at least, and at most where each has a pattern of its own.
+    rounds: [usize; 2],
     part: String,
     lines: Vec<Line>,
 }
@@ -258,11 +117,20 @@ impl Bench {
         name.contains(&self.part)
     }
 
-    /// A case of two sides, from how much one run does, in millions, and each side's seconds for it.
-    fn line(&mut self, name: String, millions: f64, unit: &'static str, seconds: &[f64]) {
-        let line = Line { name, ours: millions / seconds[0], rust: millions / seconds[1], unit, simple: None };
-        line.print("");
+    fn line(&mut self, line: Line, more: &str) {
+        line.print(more);
         self.lines.push(line);
+    }
+
+    /// Every side must come to the same result.
+    fn agree<S, R: PartialEq>(name: &str, state: &mut S, before: impl Fn(&mut S), sides: &[Side<S>], result: impl Fn(&S) -> R) {
+        let mut results = sides.iter().map(|side| {
+            before(state);
+            side(state);
+            result(state)
+        });
+        let first = results.next().unwrap();
+        assert!(results.all(|other| other == first), "{name}: the sides differ");
     }
 
     fn encoding(&mut self, sent: &mut Sending) {
@@ -270,13 +138,10 @@ impl Bench {
         if !self.wants(&name) {
             return;
         }
-        encode(sent);
-        let by_ours = sent.parity.clone();
-        sent.parity.fill(0xA5);
-        encode_plain(sent);
-        assert!(by_ours == sent.parity, "{name}: ours and plain Rust's differ");
-        let seconds = alternate(sent, self.each, None, &[encode, encode_plain]);
-        self.line(name, sent.information.len() as f64 / 1e6, "MB/s", &seconds);
+        let sides: &[Side<Sending>] = sides!(encode);
+        Bench::agree(&name, sent, |s| s.parity.fill(0xA5), sides, |s| s.parity.to_vec());
+        let seconds = rounds(sent, self.each, self.rounds[0], None, sides);
+        self.line(Line::new(name, "MB/s", sent.megabytes(), &seconds), "");
     }
 
     /// Units one after the other, or each on a border of so many bytes.
@@ -286,15 +151,11 @@ impl Bench {
         if !self.wants(&name) {
             return;
         }
-        let sent = &mut Sending::new(code, w, border);
-        sent.units.fill(0xA5);
-        write(sent);
-        let by_ours = sent.units.clone();
-        sent.units.fill(0xA5);
-        write_plain(sent);
-        assert!(by_ours == sent.units, "{name}: ours and plain Rust's differ");
-        let seconds = alternate(sent, self.each, None, &[write, write_plain]);
-        self.line(name, code.n() as f64 / 1e6, "Munits/s", &seconds);
+        let units = &mut Units::new(&Sending::new(code, w), border);
+        let sides: &[Side<Units>] = sides!(write);
+        Bench::agree(&name, units, |u| u.bytes.fill(0xA5), sides, |u| u.bytes.to_vec());
+        let seconds = rounds(units, self.each, self.rounds[0], None, sides);
+        self.line(Line::new(name, "Munits/s", code.n() as f64 / 1e6, &seconds), "");
     }
 
     fn taking(&mut self, sent: &Sending) {
@@ -302,55 +163,117 @@ impl Bench {
         if !self.wants(&name) {
             return;
         }
-        let megabytes = sent.information.len() as f64 / 1e6;
-        let mut block = Receiving::new(sent);
-        take(&mut block);
-        let by_ours = (block.symbols.clone(), block.marks.clone());
-        open(&mut block);
-        take_plain(&mut block);
-        assert!(by_ours == (block.symbols.clone(), block.marks.clone()), "{name}: ours and plain Rust's differ");
-        let seconds = alternate(&mut block, self.each, Some(open), &[take, take_plain]);
-        self.line(name, megabytes, "MB/s", &seconds);
+        let taking = &mut Taking::new(sent);
+        let sides: &[Side<Taking>] = sides!(take);
+        Bench::agree(&name, taking, open, sides, |t| (t.block.symbols.to_vec(), t.block.marks.to_vec()));
+        let seconds = rounds(taking, self.each, self.rounds[0], Some(open), sides);
+        self.line(Line::new(name, "MB/s", sent.megabytes(), &seconds), "");
     }
 
+    /// Each round has a loss pattern that none had before, and every side closes it once.
     fn closing(&mut self, sent: &Sending, percent: usize) {
         let name = format!("close/C{}/W{}/{percent}%", sent.code.0, sent.w);
         if !self.wants(&name) {
             return;
         }
-        let megabytes = sent.information.len() as f64 / 1e6;
-        let missing = (sent.code.m() * percent + 50) / 100;
-        let mut block = Receiving::new(sent);
-        let mut best = [[f64::INFINITY; 3]; PATTERNS];
-        let mut additions = (0, 0);
-        for pass in 0..PASSES {
-            for (pattern, best) in best.iter_mut().enumerate() {
-                block.lose(missing, pattern as u64);
-                if pass == 0 {
-                    let counted = compare_closes(&mut block);
-                    additions = (additions.0 + counted.0, additions.1 + counted.1);
-                }
-                let each = self.each / (PASSES * PATTERNS) as u32;
-                let seconds = alternate(&mut block, each, None, &[close, close_plain, close_simple]);
-                for (best, seconds) in best.iter_mut().zip(seconds) {
-                    *best = best.min(seconds);
+        let (code, w, word) = (sent.code, sent.w, sent.word());
+        let missing = (code.m() * percent + 50) / 100;
+        let block = &mut Receiving::new(code, w);
+        let sides: &[Side<Receiving>] = sides!(close, close::<Simple>);
+        let mut random = Random::new((code.0 * 2048 + w) as u64 * 1000 + percent as u64);
+        let mut times = vec![Vec::new(); sides.len()];
+        let mut additions = [0, 0];
+        let outcome = |b: &Receiving| (b.answer, b.symbols.to_vec(), b.marks.to_vec(), b.work_is_zero());
+        let start = Instant::now();
+        let [least, most] = self.rounds;
+        for round in 0..most {
+            if round >= least && start.elapsed() >= self.each * sides.len() as u32 {
+                break;
+            }
+            let pattern = random.shuffled(code.n());
+            let hear = |b: &mut Receiving| b.hear(&word, &pattern[..missing]);
+            let mut first = None;
+            for side in order(round, sides.len()) {
+                hear(block);
+                times[side].push(time(sides[side], block, 1));
+                let outcome = outcome(block);
+                assert!(outcome.3, "{name}: a work buffer isn't zero");
+                assert!(*first.get_or_insert_with(|| outcome.clone()) == outcome, "{name}: the sides differ");
+            }
+            if round < COUNTED {
+                let counted = count_additions(block, code, w, hear);
+                additions = [additions[0] + counted[0], additions[1] + counted[1]];
+                let wrong = pattern[missing] * w;
+                let hear_wrong = |b: &mut Receiving| {
+                    hear(b);
+                    b.symbols[wrong] ^= 1;
+                };
+                Bench::agree(&name, block, hear_wrong, sides, outcome);
+            }
+        }
+        let patterns = times[0].len();
+        let seconds: Vec<f64> = times.into_iter().map(median).collect();
+        let [ours, simple] = additions.map(|count| count as f64 / COUNTED.min(patterns) as f64);
+        let more = format!(" additions={ours:.0} simple_additions={simple:.0} patterns={patterns}");
+        self.line(Line::new(name, "MB/s", sent.megabytes(), &seconds), &more);
+    }
+
+    fn encoding_cold(&mut self, sent: &Sending) {
+        let name = format!("cold/encode/C{}/W{}", sent.code.0, sent.w);
+        if !self.wants(&name) {
+            return;
+        }
+        let mut blocks = vec![sent.clone(); COLD / (sent.information.len() + sent.parity.len())];
+        let prepare = |s: &mut Sending, _: usize| {
+            s.information.copy_from_slice(&sent.information);
+            s.parity.fill(0xA5);
+        };
+        let seconds = cold(&mut blocks, self.rounds[0] * 4, prepare, sides!(encode));
+        self.line(Line::new(name, "MB/s", sent.megabytes(), &seconds), "");
+    }
+
+    fn closing_cold(&mut self, sent: &Sending) {
+        let (code, w, word) = (sent.code, sent.w, sent.word());
+        let name = |percent: usize| format!("cold/close/C{}/W{w}/{percent}%", code.0);
+        if !MISSING.iter().any(|&percent| self.wants(&name(percent))) {
+            return;
+        }
+        let size = Receiving::new(code, w).size();
+        let mut blocks: Vec<Receiving> = (0..COLD / size).map(|_| Receiving::new(code, w)).collect();
+        for percent in MISSING {
+            if !self.wants(&name(percent)) {
+                continue;
+            }
+            let missing = (code.m() * percent + 50) / 100;
+            let prepare = |b: &mut Receiving, i: usize| b.hear(&word, &Random::new((percent << 16 | i) as u64).shuffled(code.n())[..missing]);
+            let most = self.rounds[0] * 4;
+            let seconds = cold(&mut blocks, most, prepare, sides!(close));
+            let more = format!(" patterns={}", most.min(blocks.len()));
+            self.line(Line::new(name(percent), "MB/s", sent.megabytes(), &seconds), &more);
+        }
+    }
+
+    /// How many lines are below 1.00, and which, the least first.
+    fn below(&self, what: &str, value: impl Fn(&Line) -> Option<f64>) -> String {
+        let mut below: Vec<(f64, &str)> = Vec::new();
+        let mut count = 0;
+        for line in &self.lines {
+            if let Some(value) = value(line) {
+                count += 1;
+                if value < 1.0 {
+                    below.push((value, &line.name));
                 }
             }
         }
-        let mean = |side: usize| best.iter().map(|sides| sides[side]).sum::<f64>() / PATTERNS as f64;
-        let [ours, rust, simple] = [mean(0), mean(1), mean(2)].map(|seconds| megabytes / seconds);
-        let line = Line { name, ours, rust, unit: "MB/s", simple: Some(simple) };
-        let counts = (additions.0 as f64 / PATTERNS as f64, additions.1 as f64 / PATTERNS as f64);
-        line.print(&format!(" simple={simple:.1} additions={:.0} simple_additions={:.0}", counts.0, counts.1));
-        self.lines.push(line);
+        below.sort_by(|a, b| a.0.total_cmp(&b.0));
+        let list: Vec<String> = below.iter().map(|(value, name)| format!("{name} {value:.2}")).collect();
+        format!("{what} below 1.00: {} of {count}{}{}", below.len(), if below.is_empty() { "" } else { ": " }, list.join(", "))
     }
 
     fn summary(&self) {
-        let below: Vec<&Line> = self.lines.iter().filter(|line| line.ratio() < 1.0).collect();
-        let worst = below.iter().min_by(|a, b| a.ratio().total_cmp(&b.ratio()));
-        let mut goals = format!("ratio below 1.00: {} of {}", below.len(), self.lines.len());
-        if let Some(line) = worst {
-            goals += &format!(" (least {:.2}, {})", line.ratio(), line.name);
+        let mut goals = self.below("ratio", |line| Some(line.ratio()));
+        if cfg!(earlier) {
+            goals += &format!("; {}", self.below("gain", Line::gain));
         }
         for line in &self.lines {
             if line.name == "close/C2/W1024/90%" {
@@ -365,30 +288,48 @@ impl Bench {
 }
 
 fn main() {
-    let mut bench = Bench { each: Duration::from_millis(400), part: String::new(), lines: Vec::new() };
+    let mut bench = Bench { each: Duration::from_millis(600), rounds: [41, 401], part: String::new(), lines: Vec::new() };
     for argument in std::env::args().skip(1) {
         match argument.as_str() {
-            "--quick" => bench.each = Duration::from_millis(50),
+            "--quick" => (bench.each, bench.rounds) = (Duration::from_millis(50), [5, 41]),
             part => bench.part = part.to_string(),
         }
     }
     let profile = if cfg!(debug_assertions) { "debug (not for comparison)" } else { "release, opt-level 3" };
+    println!("plain Rust: {profile}, no unsafe code.");
     println!(
-        "plain Rust: {profile}, no unsafe code; both sides run in turn in short rounds, {} ms a side and case; best rounds; 1 MB = 10^6 bytes of information; 1 Munits = 10^6 units, one after the other in one buffer, or each on a border of 16 bytes (on16)",
-        bench.each.as_millis()
+        "The sides run in turn, {} ms each in a case; a side's speed is the median of its rounds, at least {}.",
+        bench.each.as_millis(),
+        bench.rounds[0]
     );
+    println!("Time in which other work had the processor isn't counted.");
+    println!("1 MB = 10^6 bytes of information; 1 Munits = 10^6 units, one after the other in one buffer, or each on a border of 16 bytes (on16).");
+    println!(
+        "close: so much of m is missing. Each round has a loss pattern that none had before; each side closes it once, and all must leave the same."
+    );
+    println!("  The block and the work buffers were written just before. simple: least-weight Gauss-Jordan; additions: of rows, in the elimination.");
+    println!("cold: nothing that a run is handed is in a cache. It has a block and work buffers of its own, and {} MB of others", COLD >> 20);
+    println!("  were written since these were.");
+    if cfg!(earlier) {
+        println!("earlier: the archive of an earlier version; gain: ours to it.");
+    }
     for code in [Code::C1, Code::C2] {
         for (w, border) in [(1, 1), (16, 1), (1024, 1), (1024, 16)] {
             bench.writing(code, w, border);
         }
-        for w in [16, 1024] {
-            let mut sent = Sending::new(code, w, 1);
+        for w in [1, 16, 64, 1024] {
+            let mut sent = Sending::new(code, w);
             bench.encoding(&mut sent);
             bench.taking(&sent);
-            for percent in [0, 10, 50, 90, 97, 120] {
+            for percent in MISSING {
                 bench.closing(&sent, percent);
             }
         }
+    }
+    for w in [16, 1024] {
+        let sent = Sending::new(Code::C2, w);
+        bench.encoding_cold(&sent);
+        bench.closing_cold(&sent);
     }
     bench.summary();
 }

@@ -1,360 +1,305 @@
-//! Close in plain Rust: the steps of `block::system`, `rows` and `block::close`, in their order.
-use crate::plain_encode::{add, add_at};
-use crate::plain_tables::{check_block, check_length, Layout};
+//! Close in plain Rust: the steps of `decoder` and `block::close`, in their order.
+use crate::plain_gather::{cancels, put_sum, restore};
+use crate::plain_rows::{eliminate, only, System, Tally};
+use crate::plain_tables::{check_block, check_length, Layout, Positions, MOST};
 use lipvezor::{Closed, Refusal, Verdict};
 
-const CLOSED: u16 = 65535;
-
-/// Counts row additions, or doesn't.
-pub trait Tally {
-    fn addition(&mut self);
-}
-
-impl Tally for () {
-    fn addition(&mut self) {}
-}
-
-impl Tally for usize {
-    fn addition(&mut self) {
-        *self += 1;
-    }
-}
-
-/// Two different parts of a slice, where a part is `len` long: one to read and one to change.
-fn two<T>(all: &mut [T], from: usize, to: usize, len: usize) -> (&[T], &mut [T]) {
-    if from < to {
-        let (before, on) = all.split_at_mut(to * len);
-        (&before[from * len..][..len], &mut on[..len])
-    } else {
-        let (before, on) = all.split_at_mut(from * len);
-        (&on[..len], &mut before[to * len..][..len])
-    }
-}
-
-/// Which digit of a row stands for a missing position.
+/// What is known of a position.
 #[derive(Clone, Copy, PartialEq)]
-pub enum Digits {
-    /// One for each missing position, by its rank among them.
-    Missing,
-    /// One for each position.
-    All,
+enum Known {
+    Heard,
+    Open,
+    /// Settled by a step.
+    Step(u16),
+    /// A pivot, by its number.
+    Pivot(u16),
+    /// A pivot whose equation stands in a row.
+    Solved(u16),
 }
 
-/// The packed equations: rows of `words` words and a pivot word, right-hand sides of `w` bytes.
-pub struct System<'a> {
-    pub rows: &'a mut [u64],
-    pub rhs: &'a mut [u8],
-    pub words: usize,
-    pub w: usize,
-    digits: Digits,
+/// How many open positions each check row has, and a bit for each that came to have just one.
+struct Counts {
+    open: [u8; 1024],
+    ready: [u64; 16],
 }
 
-impl<'a> System<'a> {
-    /// As much of the work buffers as the equations need.
-    pub fn new(layout: &Layout, digits: Digits, w: usize, marks: &[u8], words: &'a mut [u64], bytes: &'a mut [u8]) -> System<'a> {
-        let unknowns = match digits {
-            Digits::Missing => marks.iter().filter(|&&mark| mark != 1).count(),
-            Digits::All => layout.n(),
-        };
-        let packed = unknowns.div_ceil(64);
-        System { rows: &mut words[..layout.m * (packed + 1)], rhs: bytes, words: packed, w, digits }
-    }
-}
-
-impl System<'_> {
-    pub fn stride(&self) -> usize {
-        self.words + 1
-    }
-
-    /// The digits of row r, without the pivot word.
-    pub fn row(&self, r: usize) -> &[u64] {
-        &self.rows[r * self.stride()..][..self.words]
-    }
-
-    pub fn has(&self, r: usize, p: usize) -> bool {
-        self.row(r)[p / 64] >> (p % 64) & 1 == 1
-    }
-
-    pub fn set_pivot(&mut self, r: usize, pivot: u64) {
-        let at = r * self.stride() + self.words;
-        self.rows[at] = pivot;
-    }
-
-    /// The first row from `from` on that has position p and for which `wanted` holds.
-    pub fn next(&self, p: usize, from: usize, wanted: impl Fn(usize) -> bool) -> Option<usize> {
-        let (word, bit) = (p / 64, 1 << (p % 64));
-        let mut rows = self.rows[from * self.stride()..].chunks_exact(self.stride()).zip(from..);
-        rows.find(|&(row, j)| row[word] & bit != 0 && wanted(j)).map(|(_, j)| j)
-    }
-
-    /// Adds row r to row j. The pivot word takes no part.
-    pub fn add_row(&mut self, r: usize, j: usize) {
-        let (row, other) = two(self.rows, r, j, self.words + 1);
-        for (d, s) in other[..self.words].iter_mut().zip(&row[..self.words]) {
-            *d ^= *s;
+impl Counts {
+    fn new(layout: &Layout, marks: &[u8]) -> Counts {
+        let mut counts = Counts { open: [0; 1024], ready: [0; 16] };
+        for (x, &mark) in marks.iter().enumerate() {
+            if mark != 1 {
+                let (js, n) = layout.column(x);
+                for &j in &js[..n] {
+                    counts.open[j] += 1;
+                }
+            }
         }
-        let (rhs, other) = two(self.rhs, r, j, self.w);
-        add(other, rhs);
+        for (ready, open) in counts.ready.iter_mut().zip(counts.open.chunks_exact(64)) {
+            *ready = open.iter().rev().fold(0, |bits, &c| bits << 1 | u64::from(c == 1));
+        }
+        counts
     }
 
-    fn set(&mut self, j: usize, p: usize) {
-        let at = j * self.stride() + p / 64;
-        self.rows[at] |= 1 << (p % 64);
+    /// Position x is no longer open.
+    fn close(&mut self, layout: &Layout, x: usize) {
+        let (js, n) = layout.column(x);
+        for &j in &js[..n] {
+            self.open[j] -= 1;
+            self.ready[j / 64] |= u64::from(self.open[j] == 1) << (j % 64);
+        }
     }
 
-    /// The equations of a block.
-    pub fn build(&mut self, layout: &Layout, symbols: &[u8], marks: &[u8]) {
+    /// The lowest row that is ready, which then is not any more.
+    fn next(&mut self) -> Option<usize> {
+        let i = self.ready.iter().position(|&bits| bits != 0)?;
+        let j = i * 64 + self.ready[i].trailing_zeros() as usize;
+        self.ready[i] &= self.ready[i] - 1;
+        Some(j)
+    }
+}
+
+/// The index of the only open position.
+fn single(known: &[Known], xs: &[u32]) -> Option<usize> {
+    let (mut at, mut found) = (0, 0);
+    for (i, &x) in xs.iter().enumerate() {
+        let open = known[x as usize] == Known::Open;
+        at = if open { i } else { at };
+        found += usize::from(open);
+    }
+    (found == 1).then_some(at)
+}
+
+/// How the missing positions are restored: by steps, and by pivots that are put off. The first `early` steps came before any pivot.
+struct Plan {
+    layout: &'static Layout,
+    w: usize,
+    positions: Positions,
+    known: [Known; 3072],
+    steps: [(u16, u16); 1024],
+    turns: usize,
+    early: usize,
+    pivots: [u16; 3072],
+    put_off: usize,
+    used: [bool; 1024],
+}
+
+impl Plan {
+    fn new(layout: &'static Layout, w: usize, marks: &[u8]) -> Plan {
+        let mut known = [Known::Heard; 3072];
+        for (known, &mark) in known.iter_mut().zip(marks) {
+            *known = if mark == 1 { Known::Heard } else { Known::Open };
+        }
+        Plan {
+            layout,
+            w,
+            positions: Positions::lay(layout),
+            known,
+            steps: [(0, 0); 1024],
+            turns: 0,
+            early: 0,
+            pivots: [0; 3072],
+            put_off: 0,
+            used: [false; 1024],
+        }
+    }
+
+    /// Settles every missing position by a check row, or puts it off; a pivot counts as zero.
+    fn peel(&mut self, symbols: &mut [u8], marks: &[u8]) {
         let w = self.w;
-        self.rows.fill(0);
-        self.rhs.fill(0);
-        let mut rank = 0;
-        for (row, addresses) in layout.table.iter().enumerate() {
-            for step in 0..layout.q {
-                let x = row * layout.q + step;
-                if marks[x] == 1 {
-                    let js = layout.check_rows(addresses, step);
-                    add_at(self.rhs, w, &js[..addresses.len()], &symbols[x * w..(x + 1) * w]);
-                } else {
-                    let p = if self.digits == Digits::All { x } else { rank };
-                    for &address in addresses.iter().rev() {
-                        self.set(layout.check_row(address, step), p);
-                    }
-                    rank += 1;
-                }
-            }
-        }
-        for t in 0..layout.m {
-            let x = layout.k + t;
-            let last = (t + 1).min(layout.m - 1);
-            if marks[x] == 1 {
-                add_at(self.rhs, w, &[t, t + 1][..=last - t], &symbols[x * w..(x + 1) * w]);
-            } else {
-                let p = if self.digits == Digits::All { x } else { rank };
-                for j in t..=last {
-                    self.set(j, p);
-                }
-                rank += 1;
+        let mut counts = Counts::new(self.layout, marks);
+        self.settle(symbols, &mut counts);
+        for x in 0..marks.len() {
+            if self.known[x] == Known::Open {
+                symbols[x * w..(x + 1) * w].fill(0);
+                self.known[x] = Known::Pivot(self.put_off as u16);
+                self.pivots[self.put_off] = x as u16;
+                self.put_off += 1;
+                counts.close(self.layout, x);
+                self.settle(symbols, &mut counts);
             }
         }
     }
 
-    /// No equation without unknowns fails.
-    pub fn consistent(&self) -> bool {
-        let mut equations = self.rows.chunks_exact(self.stride()).zip(self.rhs.chunks_exact(self.w));
-        equations.all(|(row, rhs)| row[self.words] != 0 || rhs.iter().fold(0, |all, b| all | b) == 0)
+    /// Steps until no row is ready.
+    fn settle(&mut self, symbols: &mut [u8], counts: &mut Counts) {
+        while let Some(r) = counts.next() {
+            if let Some(p) = self.step(r, symbols) {
+                counts.close(self.layout, p);
+            }
+        }
     }
 
-    /// Fills each position that stands alone in a row; `places` has the position of each digit.
-    pub fn fill(&self, symbols: &mut [u8], marks: &mut [u8], places: &[u16]) {
-        for (row, rhs) in self.rows.chunks_exact(self.stride()).zip(self.rhs.chunks_exact(self.w)) {
-            let (row, pivot) = row.split_at(self.words);
-            if pivot[0] == 0 {
+    /// Restores the only open position of check row r.
+    fn step(&mut self, r: usize, symbols: &mut [u8]) -> Option<usize> {
+        let mut xs = [0; MOST];
+        let n = self.positions.of_row(r, &mut xs);
+        let i = single(&self.known, &xs[..n])?;
+        let p = xs[i] as usize;
+        xs[i] = xs[n - 1];
+        restore(self.w, p, &xs[..n - 1], symbols);
+        self.known[p] = Known::Step(self.turns as u16);
+        self.steps[self.turns] = (r as u16, p as u16);
+        self.turns += 1;
+        self.used[r] = true;
+        if self.put_off == 0 {
+            self.early = self.turns;
+        }
+        Some(p)
+    }
+
+    /// The check rows that no step used.
+    fn remaining(&self) -> impl Iterator<Item = usize> + '_ {
+        (0..self.layout.m).filter(|&j| !self.used[j])
+    }
+
+    /// Each of them adds up to zero.
+    fn hold(&self, symbols: &[u8]) -> bool {
+        let mut xs = [0; MOST];
+        self.remaining().all(|j| {
+            let n = self.positions.of_row(j, &mut xs);
+            cancels(self.w, &xs[..n], symbols)
+        })
+    }
+
+    /// Their sums, one after the other.
+    fn sums(&self, symbols: &[u8], bytes: &mut [u8]) {
+        let mut xs = [0; MOST];
+        for (i, j) in self.remaining().enumerate() {
+            let n = self.positions.of_row(j, &mut xs);
+            put_sum(self.w, i, false, &xs[..n], symbols, bytes);
+        }
+    }
+
+    /// Row t becomes what the positions of check row j other than p are in terms of the pivots.
+    fn express(&self, t: usize, j: usize, p: Option<usize>, packed: usize, words: &mut [u64]) {
+        let stride = packed + 1;
+        let mut xs = [0; MOST];
+        let n = self.positions.of_row(j, &mut xs);
+        let (before, on) = words.split_at_mut(t * stride);
+        let (row, after) = on.split_at_mut(stride);
+        row.fill(0);
+        for &x in &xs[..n] {
+            if Some(x as usize) == p {
                 continue;
             }
-            let p = (pivot[0] - 1) as usize;
-            let only = |(i, &word): (usize, &u64)| word == if i == p / 64 { 1 << (p % 64) } else { 0 };
-            if row.iter().enumerate().all(only) {
-                let i = places[p] as usize;
-                symbols[i * self.w..(i + 1) * self.w].copy_from_slice(rhs);
-                marks[i] = 2;
-            }
-        }
-    }
-}
-
-pub fn weight(row: &[u64]) -> usize {
-    let mut n = 0;
-    for word in row {
-        if *word != 0 {
-            n += word.count_ones() as usize;
-        }
-    }
-    n
-}
-
-fn weigh(system: &System, hints: &mut [u16]) {
-    for (hint, row) in hints.iter_mut().zip(system.rows.chunks_exact(system.stride())) {
-        *hint = match weight(&row[..system.words]) {
-            0 => CLOSED,
-            w => w as u16,
-        };
-    }
-}
-
-/// A row with the least hint, or the first from row `from` on, round the end, whose hint is at most `enough`.
-fn pick(hints: &[u16], from: usize, enough: u16) -> Option<usize> {
-    let mut best = None;
-    let mut least = CLOSED;
-    for part in [from..hints.len(), 0..from] {
-        let start = part.start;
-        for (i, &hint) in hints[part].iter().enumerate() {
-            if hint < least {
-                best = Some(start + i);
-                if hint <= enough {
-                    return best;
+            match self.known[x as usize] {
+                Known::Step(s) if s as usize >= self.early => add_words(&mut row[..packed], &before[s as usize * stride..]),
+                Known::Pivot(u) => row[u as usize / 64] ^= 1 << (u % 64),
+                Known::Solved(h) => {
+                    let equation = &after[(h as usize - t - 1) * stride..][..stride];
+                    let u = equation[packed] - 1;
+                    add_words(&mut row[..packed], equation);
+                    row[u as usize / 64] ^= 1 << (u % 64);
                 }
-                least = hint;
+                _ => {}
             }
         }
     }
-    best
-}
 
-fn joined(a: u16, b: u16) -> u16 {
-    match a as u64 + b as u64 {
-        s if s < 3 => 1,
-        s if s > 60000 => 60000,
-        s => (s - 2) as u16,
+    fn express_steps(&self, packed: usize, words: &mut [u64]) {
+        for t in self.early..self.turns {
+            let (j, p) = self.steps[t];
+            self.express(t, j as usize, Some(p as usize), packed, words);
+        }
     }
-}
 
-/// The rows that are not CLOSED, in no order.
-struct Open {
-    list: [u16; 1024],
-    count: usize,
-}
-
-impl Open {
-    fn new(hints: &[u16]) -> Open {
-        let mut open = Open { list: [0; 1024], count: 0 };
-        for (j, &hint) in hints.iter().enumerate() {
-            if hint != CLOSED {
-                open.list[open.count] = j as u16;
-                open.count += 1;
+    /// Each pivot that a row has gets the row's right-hand side.
+    fn put_pivots(&mut self, system: &System, symbols: &mut [u8]) {
+        let w = self.w;
+        for (i, (row, rhs)) in system.rows.chunks_exact(system.stride()).zip(system.rhs.chunks_exact(w)).enumerate() {
+            if row[system.words] != 0 {
+                let p = self.pivots[row[system.words] as usize - 1] as usize;
+                symbols[p * w..(p + 1) * w].copy_from_slice(rhs);
+                self.known[p] = Known::Solved((self.turns + i) as u16);
             }
         }
-        open
+    }
+
+    /// Restores once more what hangs on pivots.
+    fn again(&self, symbols: &mut [u8]) {
+        let mut xs = [0; MOST];
+        for &(r, p) in &self.steps[self.early..self.turns] {
+            let n = self.positions.of_row(r as usize, &mut xs);
+            let (p, last) = (p as u32, xs[n - 1]);
+            for x in &mut xs[..n] {
+                *x = if *x == p { last } else { *x };
+            }
+            restore(self.w, p as usize, &xs[..n - 1], symbols);
+        }
+    }
+
+    fn all_solved(&self) -> bool {
+        self.pivots[..self.put_off].iter().all(|&p| matches!(self.known[p as usize], Known::Solved(_)))
+    }
+
+    /// Position p hangs on no free pivot.
+    fn determined(&self, p: usize, packed: usize, words: &[u64]) -> bool {
+        let row = |t: u16| &words[t as usize * (packed + 1)..][..packed + 1];
+        match self.known[p] {
+            Known::Step(t) if t as usize >= self.early => row(t)[..packed].iter().fold(0, |all, word| all | word) == 0,
+            Known::Solved(h) => only(&row(h)[..packed], row(h)[packed] as usize - 1),
+            Known::Pivot(_) => false,
+            _ => true,
+        }
+    }
+
+    /// What follows where pivots were put off. Answers whether there is a solution.
+    fn by_pivots<T: Tally>(&mut self, symbols: &mut [u8], marks: &mut [u8], words: &mut [u64], bytes: &mut [u8], tally: &mut T) -> bool {
+        let packed = self.put_off.div_ceil(64);
+        let rest = self.layout.m - self.turns;
+        self.sums(symbols, bytes);
+        self.express_steps(packed, words);
+        for (t, j) in (self.turns..).zip(self.remaining()) {
+            self.express(t, j, None, packed, words);
+        }
+        let rows = &mut words[self.turns * (packed + 1)..][..rest * (packed + 1)];
+        let mut system = System { rows, rhs: bytes, words: packed, w: self.w };
+        eliminate(&mut system, rest, tally);
+        if !system.consistent() {
+            return finish(false, self.w, symbols, marks);
+        }
+        self.put_pivots(&system, symbols);
+        self.again(symbols);
+        if self.all_solved() {
+            return finish(true, self.w, symbols, marks);
+        }
+        self.express_steps(packed, words);
+        mark(self.w, symbols, marks, |p| self.determined(p, packed, words));
+        true
     }
 }
 
-/// Row r goes into each other row of the list that has position p, and leaves the list.
-fn push<T: Tally>(system: &mut System, hints: &mut [u16], open: &mut Open, r: usize, p: usize, tally: &mut T) {
-    let mut mine = None;
-    let (word, bit, stride) = (p / 64, 1 << (p % 64), system.stride());
-    for i in 0..open.count {
-        let j = open.list[i] as usize;
-        if system.rows[j * stride + word] & bit == 0 {
+fn add_words(to: &mut [u64], from: &[u64]) {
+    for (d, s) in to.iter_mut().zip(from) {
+        *d ^= *s;
+    }
+}
+
+/// Zero bytes and mark 0 wherever a missing position is left open; mark 2 elsewhere.
+fn mark(w: usize, symbols: &mut [u8], marks: &mut [u8], filled: impl Fn(usize) -> bool) {
+    for (i, mark) in marks.iter_mut().enumerate() {
+        if *mark == 1 {
             continue;
         }
-        if j == r {
-            mine = Some(i);
-            continue;
-        }
-        system.add_row(r, j);
-        hints[j] = joined(hints[j], hints[r]);
-        tally.addition();
-    }
-    hints[r] = CLOSED;
-    if let Some(i) = mine {
-        open.count -= 1;
-        open.list[i] = open.list[open.count];
-    }
-}
-
-/// The lowest position of the row's last word that is not 0.
-fn latest(row: &[u64]) -> Option<usize> {
-    let i = row.iter().rposition(|&word| word != 0)?;
-    Some(i * 64 + row[i].trailing_zeros() as usize)
-}
-
-/// The first part of elimination. Answers how many turns it took; `order` has each turn's row and position.
-fn prepare<T: Tally>(system: &mut System, order: &mut [(u16, u16)], m: usize, tally: &mut T) -> usize {
-    let mut hints = [0; 1024];
-    let hints = &mut hints[..m];
-    weigh(system, hints);
-    let mut open = Open::new(hints);
-    let mut from = 0;
-    let mut enough = 1;
-    for (t, place) in order[..m].iter_mut().enumerate() {
-        let Some(r) = pick(hints, from, enough) else {
-            return t;
-        };
-        from = r;
-        enough = hints[r];
-        *place = match latest(system.row(r)) {
-            Some(p) => {
-                push(system, hints, &mut open, r, p, tally);
-                (r as u16, p as u16)
-            }
-            None => {
-                hints[r] = CLOSED;
-                (r as u16, 0)
-            }
-        };
-    }
-    m
-}
-
-/// A mask of the digits of word i that two rows have.
-fn shared_in(system: &System, i: usize) -> u64 {
-    let mut seen = 0;
-    let mut shared = 0;
-    for row in system.rows.chunks_exact(system.stride()) {
-        shared |= seen & row[i];
-        seen |= row[i];
-    }
-    shared
-}
-
-/// The rows whose pivot from the first part stands in no other row get it at once.
-fn finish_all_alone(system: &mut System, done: &mut [bool], order: &[(u16, u16)]) {
-    let mut masks = [0; 48];
-    for (i, mask) in masks[..system.words].iter_mut().enumerate() {
-        *mask = shared_in(system, i);
-    }
-    for &(r, p) in order {
-        let (r, p) = (r as usize, p as usize);
-        if p / 64 < system.words && masks[p / 64] >> (p % 64) & 1 == 0 && system.has(r, p) {
-            system.set_pivot(r, p as u64 + 1);
-            done[r] = true;
+        if filled(i) {
+            *mark = 2;
+        } else {
+            *mark = 0;
+            symbols[i * w..(i + 1) * w].fill(0);
         }
     }
 }
 
-pub fn lowest(row: &[u64]) -> Option<usize> {
-    let i = row.iter().position(|&word| word != 0)?;
-    Some(i * 64 + row[i].trailing_zeros() as usize)
-}
-
-/// Adds row r to each other row that has position p.
-fn sweep<T: Tally>(system: &mut System, r: usize, p: usize, tally: &mut T) {
-    let mut from = 0;
-    while let Some(j) = system.next(p, from, |j| j != r) {
-        system.add_row(r, j);
-        tally.addition();
-        from = j + 1;
-    }
-}
-
-/// Gives row r a pivot, the guess if it can be, and takes that position out of every other row.
-fn finish_row<T: Tally>(system: &mut System, done: &mut [bool], r: usize, guess: usize, tally: &mut T) {
-    if done[r] {
-        return;
-    }
-    let guessed = guess / 64 < system.words && system.has(r, guess);
-    let pivot = if guessed { Some(guess) } else { lowest(system.row(r)) };
-    match pivot {
-        Some(p) => {
-            system.set_pivot(r, p as u64 + 1);
-            sweep(system, r, p, tally);
+/// The same where all are filled or none is. Answers which.
+fn finish(ok: bool, w: usize, symbols: &mut [u8], marks: &mut [u8]) -> bool {
+    if ok {
+        for mark in marks {
+            *mark = if *mark == 1 { 1 } else { 2 };
         }
-        None => system.set_pivot(r, 0),
+    } else {
+        mark(w, symbols, marks, |_| false);
     }
-    done[r] = true;
-}
-
-fn eliminate<T: Tally>(system: &mut System, m: usize, tally: &mut T) {
-    let mut order = [(0, 0); 1024];
-    let turns = prepare(system, &mut order, m, tally);
-    let order = &order[..turns];
-    let mut done = [false; 1024];
-    finish_all_alone(system, &mut done, order);
-    for &(r, guess) in order.iter().rev() {
-        finish_row(system, &mut done, r as usize, guess as usize, tally);
-    }
-    for r in 0..m {
-        finish_row(system, &mut done, r, 0, tally);
-    }
+    ok
 }
 
 /// Close's refusals.
@@ -378,35 +323,6 @@ pub fn check_close(
     Ok(layout)
 }
 
-/// The position of each digit of a row.
-fn places(digits: Digits, marks: &[u8]) -> [u16; 3072] {
-    let mut places = [0; 3072];
-    let mut u = 0;
-    for (x, &mark) in marks.iter().enumerate() {
-        if digits == Digits::All || mark != 1 {
-            places[u] = x as u16;
-            u += 1;
-        }
-    }
-    places
-}
-
-/// What is read off a reduced system.
-pub fn settle(system: &System, symbols: &mut [u8], marks: &mut [u8]) -> bool {
-    let places = places(system.digits, marks);
-    for (symbol, mark) in symbols.chunks_exact_mut(system.w).zip(marks.iter_mut()) {
-        if *mark != 1 {
-            *mark = 0;
-            symbol.fill(0);
-        }
-    }
-    let ok = system.consistent();
-    if ok {
-        system.fill(symbols, marks, &places);
-    }
-    ok
-}
-
 /// The verdict, from the marks afterwards.
 pub fn tell(ok: bool, marks: &[u8]) -> Closed {
     let count = |v| marks.iter().filter(|&&mark| mark == v).count();
@@ -417,32 +333,6 @@ pub fn tell(ok: bool, marks: &[u8]) -> Closed {
         (true, _) => Verdict::Ambiguous,
     };
     Closed { verdict, heard, filled, left }
-}
-
-/// The steps of a close, with either elimination.
-#[inline(always)]
-#[allow(clippy::too_many_arguments)]
-pub fn close_by<T>(
-    digits: Digits,
-    eliminate: impl Fn(&mut System, usize, &mut T),
-    code: usize,
-    w: usize,
-    protocol: usize,
-    lsc: usize,
-    symbols: &mut [u8],
-    marks: &mut [u8],
-    words: &mut [u64],
-    bytes: &mut [u8],
-    tally: &mut T,
-) -> Result<Closed, Refusal> {
-    let layout = check_close(code, w, protocol, lsc, symbols, marks, words, bytes)?;
-    let mut system = System::new(layout, digits, w, marks, words, bytes);
-    system.build(layout, symbols, marks);
-    eliminate(&mut system, layout.m, tally);
-    let ok = settle(&system, symbols, marks);
-    words.fill(0);
-    bytes.fill(0);
-    Ok(tell(ok, marks))
 }
 
 #[inline(never)]
@@ -458,5 +348,11 @@ pub fn close<T: Tally>(
     bytes: &mut [u8],
     tally: &mut T,
 ) -> Result<Closed, Refusal> {
-    close_by(Digits::Missing, eliminate, code, w, protocol, lsc, symbols, marks, words, bytes, tally)
+    let layout = check_close(code, w, protocol, lsc, symbols, marks, words, bytes)?;
+    let mut plan = Plan::new(layout, w, marks);
+    plan.peel(symbols, marks);
+    let ok = if plan.put_off == 0 { finish(plan.hold(symbols), w, symbols, marks) } else { plan.by_pivots(symbols, marks, words, bytes, tally) };
+    words.fill(0);
+    bytes.fill(0);
+    Ok(tell(ok, marks))
 }

@@ -46,6 +46,70 @@ impl Layout {
         }
         js
     }
+
+    /// The check rows of position x, at the front, and how many.
+    #[inline]
+    pub fn column(&self, x: usize) -> ([usize; 8], usize) {
+        if x < self.k {
+            let addresses = self.table[x / self.q];
+            return (self.check_rows(addresses, x % self.q), addresses.len());
+        }
+        let t = x - self.k;
+        ([t, t + 1, 0, 0, 0, 0, 0, 0], if t + 1 == self.m { 1 } else { 2 })
+    }
+}
+
+/// At least as many positions as a check row has.
+pub const MOST: usize = 16;
+
+/// The positions of the check rows: the steps of `ccsds::positions`. An address belongs to the check rows of one remainder modulo a, its class; the
+/// table is laid out by class once, and then each position of a check row follows by one addition.
+pub struct Positions {
+    layout: &'static Layout,
+    firsts: [[u32; MOST]; 8],
+    ends: [[u32; MOST]; 8],
+    counts: [usize; 8],
+}
+
+impl Positions {
+    pub fn lay(layout: &'static Layout) -> Positions {
+        // entries beyond a class's count stay in range too
+        let mut all = Positions { layout, firsts: [[0; MOST]; 8], ends: [[u32::MAX; MOST]; 8], counts: [0; 8] };
+        for (addresses, end) in layout.table.iter().zip((layout.q..).step_by(layout.q)) {
+            for &address in *addresses {
+                let r = address % layout.a;
+                let i = all.counts[r];
+                all.firsts[r][i] = (end - address / layout.a) as u32;
+                all.ends[r][i] = end as u32;
+                all.counts[r] += 1;
+            }
+        }
+        all
+    }
+
+    /// The information positions of check row s * a + r, at the front of xs. Answers how many.
+    #[inline]
+    pub fn information(&self, s: usize, r: usize, xs: &mut [u32; MOST]) -> usize {
+        let q = self.layout.q as u32;
+        for ((x, &first), &end) in xs.iter_mut().zip(&self.firsts[r]).zip(&self.ends[r]) {
+            let further = first + s as u32;
+            *x = if further < end { further } else { further - q };
+        }
+        self.counts[r]
+    }
+
+    /// All positions of check row j, at the front of xs. Answers how many.
+    #[inline]
+    pub fn of_row(&self, j: usize, xs: &mut [u32; MOST]) -> usize {
+        let n = self.information(j / self.layout.a, j % self.layout.a, xs);
+        let parity = (self.layout.k + j) as u32;
+        xs[n] = parity;
+        if j == 0 {
+            return n + 1;
+        }
+        xs[n + 1] = parity - 1;
+        n + 2
+    }
 }
 
 /// Refusals 1 and 2.

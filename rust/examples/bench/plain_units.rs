@@ -1,5 +1,5 @@
 //! Write and take in plain Rust: the steps of `ccsds::writer`, `ccsds::reader` and `block::take`.
-use crate::plain_tables::{check_block, check_code, check_label, check_length};
+use crate::plain_tables::{check_block, check_code, check_label, check_length, Layout};
 use lipvezor::{Parameters, Refusal, Taken, UnitParts};
 
 /// An output that is written from the front.
@@ -145,10 +145,39 @@ fn read(s: &[u8]) -> Result<UnitParts, Refusal> {
     })
 }
 
-#[inline(never)]
-pub fn take(code: usize, w: usize, protocol: usize, lsc: usize, symbols: &mut [u8], marks: &mut [u8], unit: &[u8]) -> Result<Taken, Refusal> {
-    let layout = check_block(code, w, protocol, lsc, symbols, marks)?;
-    let parts = read(unit)?;
+/// A number from 128 to 16,383, in its two bytes.
+fn sdnv_2(v: usize) -> [u8; 2] {
+    [128 | (v >> 7) as u8, (v & 127) as u8]
+}
+
+/// What a unit says whose bytes before its symbol are those that `write` makes for these numbers, whatever its LWC.
+fn read_expected(layout: &Layout, w: usize, protocol: usize, lsc: usize, s: &[u8]) -> Option<UnitParts> {
+    let (k, n) = (layout.k, layout.n());
+    let [first, count, w1, w0, c1, c0, a, b, c, d, e, f, g, h, i, ..] = *s else {
+        return None;
+    };
+    if [first, count] != [16 + protocol as u8 * 2, 1] || u16::from_be_bytes([c1, c0]) as usize != lsc {
+        return None;
+    }
+    let ([k1, k0], [n1, n0]) = (sdnv_2(k), sdnv_2(n));
+    let symbol = if w < 128 {
+        if [a, b, c, d] != [1, 6, w as u8, k1] || [e, f, g, h] != [k0, n1, n0, 0] {
+            return None;
+        }
+        14
+    } else {
+        let [w1, w0] = sdnv_2(w);
+        if [a, b, c, d] != [1, 7, w1, w0] || [e, f, g, h] != [k1, k0, n1, n0] || i != 0 {
+            return None;
+        }
+        15
+    };
+    let coding = Some(Parameters { w, k, n, seed: 0 });
+    Some(UnitParts { protocol, count: 1, lwc: u16::from_be_bytes([w1, w0]) as usize, lsc, symbol, coding })
+}
+
+/// The position of a unit of `len` bytes that says these parts.
+fn admit(layout: &Layout, w: usize, protocol: usize, lsc: usize, parts: UnitParts, len: usize) -> Result<usize, Refusal> {
     if parts.coding != Some(Parameters { w, k: layout.k, n: layout.n(), seed: 0 }) {
         return Err(Refusal::Parameters);
     }
@@ -158,11 +187,20 @@ pub fn take(code: usize, w: usize, protocol: usize, lsc: usize, symbols: &mut [u
     if parts.lwc == 0 || parts.lwc > layout.n() {
         return Err(Refusal::Position);
     }
-    let symbol = &unit[parts.symbol..];
-    if symbol.len() != w {
+    if len - parts.symbol != w {
         return Err(Refusal::Symbol);
     }
-    let position = parts.lwc - 1;
+    Ok(parts.lwc - 1)
+}
+
+#[inline(never)]
+pub fn take(code: usize, w: usize, protocol: usize, lsc: usize, symbols: &mut [u8], marks: &mut [u8], unit: &[u8]) -> Result<Taken, Refusal> {
+    let layout = check_block(code, w, protocol, lsc, symbols, marks)?;
+    let position = match read_expected(layout, w, protocol, lsc, unit) {
+        Some(parts) => admit(layout, w, protocol, lsc, parts, unit.len())?,
+        None => admit(layout, w, protocol, lsc, read(unit)?, unit.len())?,
+    };
+    let symbol = &unit[unit.len() - w..];
     let place = &mut symbols[position * w..(position + 1) * w];
     match marks[position] {
         0 | 2 => {

@@ -31,16 +31,37 @@ pub fn altered(fault: Fault, random: &mut Random) -> Result<Stats, Difference> {
                 for more in [1, 2, 100] {
                     reader.compare(&[unit.clone(), vec![0; more]].concat())?;
                 }
-                for place in 0..unit.len() {
-                    for value in 0..=255 {
-                        let mut other = unit.clone();
-                        other[place] = value;
-                        reader.compare(&other)?;
-                    }
-                }
+                each_value(&mut reader, &unit, unit.len())?;
             }
         }
         stats += reader.stats;
+    }
+    Ok(stats)
+}
+
+/// Each of the first so many bytes of a unit with each value.
+fn each_value(reader: &mut Reader, unit: &[u8], places: usize) -> Result<(), Difference> {
+    for place in 0..places {
+        for value in 0..=255 {
+            let mut other = unit.to_vec();
+            other[place] = value;
+            reader.compare(&other)?;
+        }
+    }
+    Ok(())
+}
+
+/// Units that differ in one byte from what the block expects, up to the symbol's second byte, where W has one byte and where it has two.
+pub fn unexpected(fault: Fault, random: &mut Random) -> Result<Stats, Difference> {
+    let mut stats = Stats::default();
+    for code in codes::BOTH {
+        for w in [16, 127, 128, 129] {
+            let mut reader = Reader::new(code, w, fault);
+            let unit = reader.draft(code.k, random).bytes();
+            reader.compare(&unit)?;
+            each_value(&mut reader, &unit, 16)?;
+            stats += reader.stats;
+        }
     }
     Ok(stats)
 }
