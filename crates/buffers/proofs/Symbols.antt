@@ -18,7 +18,7 @@ use Rattle.algebra.specs.Staircase.{before}
 use Rattle.algebra.proofs.Sums as sums
 use Rattle.algebra.proofs.Codeword.{slot}
 use Rattle.buffers.specs.Parts.{put, Part, Sum}
-use Rattle.buffers.specs.Gather.{gathered, Inside, Replaced, summed, byteBefore, Bytes, Bytes64, Full, Plus, Plus64, putFour, Written}
+use Rattle.buffers.specs.Gather.{gathered, Inside, Replaced, summed, byteBefore, Bytes, Bytes64, Plus, putFour, Written}
 use Rattle.buffers.proofs.Laid.{laid-length}
 use Rattle.buffers.proofs.Put.{put-laid, put-out, put-in, from-zero}
 
@@ -40,17 +40,19 @@ module _ (u : ℕ → ℕ) (xs : List ℕ) where
   pub gathered-all : (i n s t : ℕ) → t ≡ s ⊕ gathered u xs i → i ≡ n → t ≡ s ⊕ gathered u xs n
   gathered-all i n s t h e = h ∙ ap (λ (k : ℕ). s ⊕ gathered u xs k) e
 
+-- a byte of 16 sums
+sum-next : (w c : ℕ) (src xs : List ℕ) (i s : ℕ) {t t′ : List ℕ} → Sum t 0 src (getD xs i 0 * w + c) 16 t′ → (b : ℕ) → b < 16
+    → getD t b 0 ≡ s ⊕ gathered (byteAt w src (c + b)) xs i → getD t′ b 0 ≡ s ⊕ gathered (byteAt w src (c + b)) xs (i + 1)
+sum-next w c src xs i s {t} g b k e =
+    g .each b k ∙ ap₂ _⊕_ (from-zero t b ∙ e) (ap (λ (m : ℕ). getD src m 0) (add-assoc (getD xs i 0 * w) c b))
+    ∙ gathered-next (byteAt w src (c + b)) xs i s
+
 module _ {w c : ℕ} {src xs s : List ℕ} where
   pub plus-none : length s ≡ 16 → Plus w c src xs 0 s s
   plus-none h = record { size = h; each = λ b g. gathered-none (byteAt w src (c + b)) xs (getD s b 0) }
 
   pub plus-more : {i : ℕ} {t t′ : List ℕ} → Plus w c src xs i s t → Sum t 0 src (getD xs i 0 * w + c) 16 t′ → Plus w c src xs (i + 1) s t′
-  plus-more {i} {t} h g = record {
-    size = g .size;
-    each = λ b k.
-        g .each b k ∙ ap₂ _⊕_ (from-zero t b ∙ h .each b k) (ap (λ (m : ℕ). getD src m 0) (add-assoc (getD xs i 0 * w) c b))
-        ∙ gathered-next (byteAt w src (c + b)) xs i (getD s b 0);
-  }
+  plus-more {i} h g = record { size = g .size; each = λ b k. sum-next w c src xs i (getD s b 0) g b k (h .each b k) }
 
   pub plus-all : {i n : ℕ} {t : List ℕ} → Plus w c src xs i s t → i ≡ n → Plus w c src xs n s t
   plus-all {i} {n} {t} h e = subst (λ (k : ℕ). Plus w c src xs k s t) e h
@@ -67,42 +69,39 @@ pub byte-plus : (f : ℕ → ℕ) (w c : ℕ) (src xs : List ℕ) (n : ℕ) {s t
 unfolding summed
 byte-plus f w c src xs n h g = g ∙ ap (λ (v : ℕ). v ⊕ gathered (byteAt w src c) xs n) h
 
--- four chunks
-module _ {w c : ℕ} {src xs s₁ s₂ s₃ s₄ : List ℕ} where
-  pub plus64-none : Full s₁ s₂ s₃ s₄ → Plus64 w c src xs 0 s₁ s₂ s₃ s₄ s₁ s₂ s₃ s₄
-  plus64-none h = record {
-    first = plus-none (h .first);
-    second = plus-none (h .second);
-    third = plus-none (h .third);
-    fourth = plus-none (h .fourth);
-  }
+-- known bytes, and the positions added to them so far
+module _ (f : ℕ → ℕ) (w : ℕ) (src xs : List ℕ) where
+  bytes-none : {c : ℕ} {t : List ℕ} → Bytes f c t → Bytes (summed f w src xs 0) c t
+  unfolding summed
+  bytes-none {c} h = record { size = h .size; each = λ b k. h .each b k ∙ gathered-none (byteAt w src (c + b)) xs (f (c + b)) }
+
+  bytes-more : (i : ℕ) {c : ℕ} {t t′ : List ℕ} → Bytes (summed f w src xs i) c t → Sum t 0 src (getD xs i 0 * w + c) 16 t′
+      → Bytes (summed f w src xs (i + 1)) c t′
+  unfolding summed
+  bytes-more i {c} h g = record { size = g .size; each = λ b k. sum-next w c src xs i (f (c + b)) g b k (h .each b k) }
+
+  -- four chunks
+  pub bytes64-none : {c : ℕ} {t u v z : List ℕ} → Bytes f c t → Bytes f (c + 16) u → Bytes f (c + 32) v → Bytes f (c + 48) z
+      → Bytes64 (summed f w src xs 0) c t u v z
+  bytes64-none h₁ h₂ h₃ h₄ = record { first = bytes-none h₁; second = bytes-none h₂; third = bytes-none h₃; fourth = bytes-none h₄ }
 
   -- one position more; its chunks stand 16 apart
-  pub plus64-more : {i : ℕ} {t u v z t′ u′ v′ z′ : List ℕ} → Plus64 w c src xs i s₁ s₂ s₃ s₄ t u v z
+  pub bytes64-more : (i : ℕ) {c : ℕ} {t u v z t′ u′ v′ z′ : List ℕ} → Bytes64 (summed f w src xs i) c t u v z
       → Sum t 0 src (getD xs i 0 * w + c) 16 t′ → Sum u 0 src (getD xs i 0 * w + c + 16) 16 u′
       → Sum v 0 src (getD xs i 0 * w + c + 32) 16 v′ → Sum z 0 src (getD xs i 0 * w + c + 48) 16 z′
-      → Plus64 w c src xs (i + 1) s₁ s₂ s₃ s₄ t′ u′ v′ z′
-  plus64-more {i} {t} {u} {v} {z} {t′} {u′} {v′} {z′} h g₁ g₂ g₃ g₄ = record {
-    first = plus-more (h .first) g₁;
-    second = plus-more (h .second) (moved u u′ 16 g₂);
-    third = plus-more (h .third) (moved v v′ 32 g₃);
-    fourth = plus-more (h .fourth) (moved z z′ 48 g₄);
+      → Bytes64 (summed f w src xs (i + 1)) c t′ u′ v′ z′
+  bytes64-more i {c} {t} {u} {v} {z} {t′} {u′} {v′} {z′} h g₁ g₂ g₃ g₄ = record {
+    first = bytes-more i (h .first) g₁;
+    second = bytes-more i (h .second) (moved u u′ 16 g₂);
+    third = bytes-more i (h .third) (moved v v′ 32 g₃);
+    fourth = bytes-more i (h .fourth) (moved z z′ 48 g₄);
   }
     where
       moved : (l l′ : List ℕ) (k : ℕ) → Sum l 0 src (getD xs i 0 * w + c + k) 16 l′ → Sum l 0 src (getD xs i 0 * w + (c + k)) 16 l′
       moved l l′ k g = subst (λ (m : ℕ). Sum l 0 src m 16 l′) (add-assoc (getD xs i 0 * w) c k) g
 
-  pub plus64-all : {i n : ℕ} {t u v z : List ℕ} → Plus64 w c src xs i s₁ s₂ s₃ s₄ t u v z → i ≡ n → Plus64 w c src xs n s₁ s₂ s₃ s₄ t u v z
-  plus64-all {i} {n} {t} {u} {v} {z} h e = subst (λ (k : ℕ). Plus64 w c src xs k s₁ s₂ s₃ s₄ t u v z) e h
-
-  pub bytes64-plus : {f : ℕ → ℕ} {n : ℕ} {t u v z : List ℕ} → Bytes64 f c s₁ s₂ s₃ s₄ → Plus64 w c src xs n s₁ s₂ s₃ s₄ t u v z
-      → Bytes64 (summed f w src xs n) c t u v z
-  bytes64-plus h g = record {
-    first = bytes-plus (h .first) (g .first);
-    second = bytes-plus (h .second) (g .second);
-    third = bytes-plus (h .third) (g .third);
-    fourth = bytes-plus (h .fourth) (g .fourth);
-  }
+  pub bytes64-all : {i n c : ℕ} {t u v z : List ℕ} → Bytes64 (summed f w src xs i) c t u v z → i ≡ n → Bytes64 (summed f w src xs n) c t u v z
+  bytes64-all {c = c} {t} {u} {v} {z} h e = subst (λ (k : ℕ). Bytes64 (summed f w src xs k) c t u v z) e h
 
 -- ---- the symbol before
 

@@ -67,13 +67,6 @@ pub record Plus (w c : ℕ) (src xs : List ℕ) (n : ℕ) (s t : List ℕ) : Typ
   pub size : length t ≡ 16
   pub each : (b : ℕ) → b < 16 → getD t b 0 ≡ getD s b 0 ⊕ gathered (byteAt w src (c + b)) xs n
 
--- the same for four chunks
-pub record Plus64 (w c : ℕ) (src xs : List ℕ) (n : ℕ) (s₁ s₂ s₃ s₄ t u v z : List ℕ) : Type 0 where
-  pub first : Plus w c src xs n s₁ t
-  pub second : Plus w (c + 16) src xs n s₂ u
-  pub third : Plus w (c + 32) src xs n s₃ v
-  pub fourth : Plus w (c + 48) src xs n s₄ z
-
 -- d, where four chunks stand from index `at` on
 abbrev pub putFour : List ℕ → ℕ → List ℕ → List ℕ → List ℕ → List ℕ → List ℕ
 putFour d at t u v z = put (put (put (put d at t 0 16) (at + 16) u 0 16) (at + 32) v 0 16) (at + 48) z 0 16

@@ -6,7 +6,7 @@ ghost use lib.ListN.{length, getD};
 ghost use Rattle.algebra.specs.Sums.{_⊕_};
 ghost use Rattle.algebra.specs.Codeword.{byteAt};
 ghost use Rattle.algebra.specs.Staircase.{before};
-ghost use Rattle.buffers.specs.Gather.{gathered, Inside, Replaced, summed, byteBefore, Bytes, Bytes64, Full, Plus, Plus64, putFour, Written, CancelIs, Joined, ZeroIs};
+ghost use Rattle.buffers.specs.Gather.{gathered, Inside, Replaced, summed, byteBefore, Bytes, Bytes64, Full, Plus, putFour, Written, CancelIs, Joined, ZeroIs};
 use crate::all_zero;
 use crate::part_16;
 use crate::put_16;
@@ -42,16 +42,16 @@ fn gather_16(
     t
 }
 
-// start plus bytes c to c + 63. Each position is read once for all of them.
-fn gather_64(start: Chunks, w: usize, c: usize, xs: &[usize; 64], n: usize, src: &[u8]) -> Chunks
-    requires { ⌜ Full (start .a) (start .b) (start .c) (start .d) × (c + 64 ≤ w) ⌝ }
+// The sum of bytes c to c + 63 of the n symbols xs of src. Each position is read once for all of them.
+fn gather_64(w: usize, c: usize, xs: &[usize; 64], n: usize, src: &[u8]) -> Chunks
+    requires { ⌜ c + 64 ≤ w ⌝ }
     requires { ⌜ Inside (now xs) n w (length (now src)) ⌝ }
-    ensures { λ r. ⌜ Plus64 w c (now (src .entry)) (now (xs .entry)) n (start .a) (start .b) (start .c) (start .d) (r .a) (r .b) (r .c) (r .d) ⌝ }
+    ensures { λ r. ⌜ Bytes64 (summed (λ b. 0) w (now (src .entry)) (now (xs .entry)) n) c (r .a) (r .b) (r .c) (r .d) ⌝ }
 {
-    let mut t = start.a;
-    let mut u = start.b;
-    let mut v = start.c;
-    let mut z = start.d;
+    let mut t = [0u8; 16];
+    let mut u = [0u8; 16];
+    let mut v = [0u8; 16];
+    let mut z = [0u8; 16];
     let mut i = 0;
     while i < n {
         let from = xs[i] * w + c;
@@ -95,23 +95,6 @@ fn before_16(dst: &[u8], w: usize, prev: usize, c: usize) -> [u8; 16]
     part_16(dst, (prev - 1) * w + c)
 }
 
-// The same for bytes c to c + 63.
-fn before_64(dst: &[u8], w: usize, prev: usize, c: usize) -> Chunks
-    requires { ⌜ (c + 64 ≤ w) × (prev * w ≤ length (now dst)) ⌝ }
-    ensures { λ r. ⌜ Bytes64 (byteBefore w (now (dst .entry)) prev) c (r .a) (r .b) (r .c) (r .d) ⌝ }
-{
-    let a = before_16(dst, w, prev, c);
-    let b = before_16(dst, w, prev, c + 16);
-    let d = before_16(dst, w, prev, c + 32);
-    let e = before_16(dst, w, prev, c + 48);
-    Chunks {
-        a: a,
-        b: b,
-        c: d,
-        d: e,
-    }
-}
-
 // The same for byte c.
 fn before_byte(dst: &[u8], w: usize, prev: usize, c: usize) -> u8
     requires { ⌜ (c < w) × (prev * w ≤ length (now dst)) ⌝ }
@@ -121,6 +104,41 @@ fn before_byte(dst: &[u8], w: usize, prev: usize, c: usize) -> u8
         return 0;
     }
     dst[(prev - 1) * w + c]
+}
+
+// Bytes c to c + 63 of symbol prev - 1 of dst, where prev is not 0, plus those of the n symbols xs of src.
+fn carried_64(
+    w: usize,
+    prev: usize,
+    c: usize,
+    xs: &[usize; 64],
+    n: usize,
+    src: &[u8],
+    dst: &[u8],
+) -> Chunks
+    requires { ⌜ (c + 64 ≤ w) × (prev * w ≤ length (now dst)) ⌝ }
+    requires { ⌜ Inside (now xs) n w (length (now src)) ⌝ }
+    ensures { λ r. ⌜ Bytes64 (summed (byteBefore w (now (dst .entry)) prev) w (now (src .entry)) (now (xs .entry)) n) c (r .a) (r .b) (r .c) (r .d) ⌝ }
+{
+    let mut t = before_16(dst, w, prev, c);
+    let mut u = before_16(dst, w, prev, c + 16);
+    let mut v = before_16(dst, w, prev, c + 32);
+    let mut z = before_16(dst, w, prev, c + 48);
+    let mut i = 0;
+    while i < n {
+        let from = xs[i] * w + c;
+        t = sum_16(&t, 0, src, from);
+        u = sum_16(&u, 0, src, from + 16);
+        v = sum_16(&v, 0, src, from + 32);
+        z = sum_16(&z, 0, src, from + 48);
+        i += 1;
+    }
+    Chunks {
+        a: t,
+        b: u,
+        c: v,
+        d: z,
+    }
 }
 
 // Puts the four chunks over the 64 bytes of dst from index `at` on.
@@ -149,8 +167,7 @@ fn put_sum_64(
     requires { ⌜ Inside (now xs) n w (length (now src)) ⌝ }
     ensures { λ _. ⌜ Written (summed (byteBefore w (now (dst .entry)) prev) w (now (src .entry)) (now (xs .entry)) n) (j * w) c 64 (now (dst .entry)) (now (dst .exit)) ⌝ }
 {
-    let start = before_64(dst, w, prev, c);
-    let s = gather_64(start, w, c, xs, n, src);
+    let s = carried_64(w, prev, c, xs, n, src, dst);
     put_64(dst, j * w + c, s);
 }
 
@@ -282,24 +299,13 @@ pub fn put_sum(
     put_sum_chunks(w, j, prev, xs, n, src, dst);
 }
 
-fn zeros() -> Chunks
-    ensures { λ r. ⌜ ((c : ℕ) → Bytes64 (λ b. 0) c (r .a) (r .b) (r .c) (r .d)) ⌝ }
-{
-    Chunks {
-        a: [0u8; 16],
-        b: [0u8; 16],
-        c: [0u8; 16],
-        d: [0u8; 16],
-    }
-}
-
 // Writes bytes c to c + 63 of restore's symbol p.
 fn restore_64(w: usize, p: usize, c: usize, xs: &[usize; 64], n: usize, buf: &mut [u8])
     requires { ⌜ (c + 64 ≤ w) × (p * w + w ≤ length (now buf)) ⌝ }
     requires { ⌜ Inside (now xs) n w (length (now buf)) ⌝ }
     ensures { λ _. ⌜ Written (summed (λ b. 0) w (now (buf .entry)) (now (xs .entry)) n) (p * w) c 64 (now (buf .entry)) (now (buf .exit)) ⌝ }
 {
-    let s = gather_64(zeros(), w, c, xs, n, buf);
+    let s = gather_64(w, c, xs, n, buf);
     put_64(buf, p * w + c, s);
 }
 
@@ -403,7 +409,7 @@ fn cancels_64(w: usize, c: usize, xs: &[usize; 64], n: usize, src: &[u8]) -> boo
     requires { ⌜ Inside (now xs) n w (length (now src)) ⌝ }
     ensures { λ r. ⌜ ZeroIs (summed (λ b. 0) w (now (src .entry)) (now (xs .entry)) n) c (c + 64) r ⌝ }
 {
-    let s = gather_64(zeros(), w, c, xs, n, src);
+    let s = gather_64(w, c, xs, n, src);
     let x = join(&s.a, &s.b);
     let y = join(&s.c, &s.d);
     all_zero(&join(&x, &y), 0, 16)

@@ -1,7 +1,6 @@
 -- `buffers::gather::cancels_16` meets its contract.
 -- Assumes nothing.
-use mathlib.Core.Path.{refl}
-use Rattle.buffers.proofs.Zeros.{zeros}
+use Rattle.buffers.proofs.Zeros.{zero-bytes}
 use Rattle.buffers.proofs.Symbols.{bytes-plus}
 use Rattle.buffers.proofs.ZeroTests.{zero-16}
 use borrow.Author.Needs.{needs}
@@ -18,7 +17,7 @@ all-zero-requires : tie.Need-all-zero-requires
 all-zero-requires c κs = search needs
 
 returns : tie.Need-returns
-returns c = zero-16 (bytes-plus {f = λ b. 0} (record { size = refl; each = λ b g. zeros 16 b }) (c .before .before .gather-16 .ensures)) (c .all-zero .result) (c .all-zero .ensures)
+returns c = zero-16 (bytes-plus {f = λ b. 0} zero-bytes (c .before .before .gather-16 .ensures)) (c .all-zero .result) (c .all-zero .ensures)
 
 pub cancels-16-spec : {M : Type 1} → statement M
 cancels-16-spec =

@@ -1,13 +1,9 @@
 -- `buffers::gather::cancels_64` meets its contract.
 -- Assumes nothing.
-use Rattle.buffers.proofs.Symbols.{bytes64-plus}
 use Rattle.buffers.proofs.ZeroTests.{zero-64}
 use borrow.Author.Needs.{needs}
 use Rattle.buffers.proofs.gather.cancels_64.Statement.{statement}
 use Rattle.buffers.proofs.gather.cancels_64.Tie as tie
-
-zeros-requires : tie.Need-zeros-requires
-zeros-requires c κs = search needs
 
 gather-64-requires : tie.Need-gather-64-requires
 gather-64-requires c κs = search needs
@@ -28,13 +24,12 @@ all-zero-requires : tie.Need-all-zero-requires
 all-zero-requires c κs = search needs
 
 returns : tie.Need-returns
-returns c = zero-64 (bytes64-plus (c .before .before .before .before .before .before .before .before .before .before .before .before .before .before .zeros .ensures _) (c .before .before .before .before .before .before .before .before .before .before .before .before .before .gather-64 .ensures)) (c .before .before .before .before .before .before .before .before .before .join .ensures) (c .before .before .before .before .before .join2 .ensures) (c .before .before .join3 .ensures) (c .all-zero .result) (c .all-zero .ensures)
+returns c = zero-64 (c .before .before .before .before .before .before .before .before .before .before .before .before .before .gather-64 .ensures) (c .before .before .before .before .before .before .before .before .before .join .ensures) (c .before .before .before .before .before .join2 .ensures) (c .before .before .join3 .ensures) (c .all-zero .result) (c .all-zero .ensures)
 
 pub cancels-64-spec : {M : Type 1} → statement M
 cancels-64-spec =
     tie.close
     (tie.spec
-    zeros-requires
     gather-64-requires
     join-requires
     join-requires-2

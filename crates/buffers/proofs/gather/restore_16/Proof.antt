@@ -1,8 +1,7 @@
 -- `buffers::gather::restore_16` meets its contract.
 -- Assumes nothing.
-use mathlib.Core.Path.{refl}
 use native.Mathlib.Omega.{arith}
-use Rattle.buffers.proofs.Zeros.{zeros}
+use Rattle.buffers.proofs.Zeros.{zero-bytes}
 use Rattle.buffers.proofs.Symbols.{put-written, bytes-plus}
 use borrow.Author.Needs.{needs}
 use Rattle.buffers.proofs.gather.restore_16.Statement.{statement}
@@ -24,7 +23,7 @@ same-length : tie.Need-same-length
 same-length c = search needs
 
 returns : tie.Need-returns
-returns c = put-written (bytes-plus (record { size = refl; each = λ b g. zeros 16 b }) (c .before .before .before .before .before .gather-16 .ensures)) (omega arith) (c .before .before .put-16 .ensures)
+returns c = put-written (bytes-plus zero-bytes (c .before .before .before .before .before .gather-16 .ensures)) (omega arith) (c .before .before .put-16 .ensures)
 
 pub restore-16-spec : {M : Type 1} → statement M
 restore-16-spec =

@@ -1,14 +1,10 @@
 -- `buffers::gather::restore_64` meets its contract.
 -- Assumes nothing.
 use native.Mathlib.Omega.{arith}
-use Rattle.buffers.proofs.Zeros.{zeros}
-use Rattle.buffers.proofs.Symbols.{four-written, bytes64-plus}
+use Rattle.buffers.proofs.Symbols.{four-written}
 use borrow.Author.Needs.{needs}
 use Rattle.buffers.proofs.gather.restore_64.Statement.{statement}
 use Rattle.buffers.proofs.gather.restore_64.Tie as tie
-
-zeros-requires : tie.Need-zeros-requires
-zeros-requires c κs = search needs
 
 gather-64-requires : tie.Need-gather-64-requires
 gather-64-requires c κs = search needs
@@ -26,13 +22,12 @@ same-length : tie.Need-same-length
 same-length c = search needs
 
 returns : tie.Need-returns
-returns c = four-written (bytes64-plus (c .before .before .before .before .before .before .zeros .ensures _) (c .before .before .before .before .gather-64 .ensures)) (omega arith) (c .before .before .put-64 .ensures)
+returns c = four-written (c .before .before .before .before .gather-64 .ensures) (omega arith) (c .before .before .put-64 .ensures)
 
 pub restore-64-spec : {M : Type 1} → statement M
 restore-64-spec =
     tie.close
     (tie.spec
-    zeros-requires
     gather-64-requires
     mul-put-64
     add-put-64
