@@ -1,4 +1,5 @@
-// Peeling.
+// Peeling: a check row with just one open symbol settles it, as the sum of the row's other symbols; where no row is ready, the lowest open position is
+// put off as a pivot, with zero for its symbol. The plan (specs/Plan.antt) says of each position what became of it.
 use crate::hints;
 use ccsds::positions;
 use ccsds::tables::Layout;
@@ -19,8 +20,11 @@ ghost use Rattle.decoder.specs.Values.{Values};
 ghost use Rattle.decoder.specs.Hints.{Hinted};
 ghost use Rattle.decoder.specs.Peel.{Opened, SingleIs, NextOpen, State, left};
 
+// The kind of a missing position that is neither settled nor put off.
 pub const OPEN: u16 = 65535;
 
+// How far peeling has come: steps made, pivots put off, steps made before the first pivot, the position up to which none is open, and how many rows
+// may still be tried, so that it ends.
 pub struct Progress {
     pub steps: usize,
     pub pivots: usize,
