@@ -2,12 +2,11 @@
 -- Assumes nothing.
 use mathlib.Core.Path.{_≡_, refl, sym, ap, _∙_, subst}
 use mathlib.Core.Logic.{_⊎_, inl, inr}
-use mathlib.Core.Bool.{Bool, true, false, not, _&&_, cond}
+use mathlib.Core.Bool.{Bool, true, false, not}
 use mathlib.Core.List.{List}
 use Prim.Native.Nat.{ℕ, _+_, _*_, _/_, _<_, _≤_}
 use native.Mathlib.Nat.{add-mul, mul-le-mul-left, mul-le-mul-right}
 use native.Mathlib.Omega.{arith}
-use lib.Dec.{ltb}
 use lib.ListN.{length, getD}
 use borrow.Author.Tests.{lt-ltb, eqb-true}
 use Rattle.algebra.specs.Sums.{pick}
@@ -24,8 +23,8 @@ use Rattle.decoder.specs.Values.{Values, HoldIs}
 use Rattle.decoder.specs.Pivots.{AllSolvedIs, DeterminedIs}
 use Rattle.decoder.specs.Express.{StepsExpressed, SameFrom}
 use Rattle.decoder.specs.Equations.{behind, Equations, PutIn, Room}
-use Rattle.decoder.specs.Marks.{missing, Cleared, FilledMissing, FilledDetermined, Untouched, Settles, Hangs}
-use Rattle.decoder.specs.Outcome.{Stays, Fills, Leaves, Differs, Refuted, Confirmed, Outcome}
+use Rattle.decoder.specs.Marks.{missing, Cleared, FilledMissing, FilledDetermined, Settles, Hangs}
+use Rattle.decoder.specs.Outcome.{Stays, Fills, Leaves, Differs, Outcome}
 use Rattle.decoder.proofs.Wholly.{wholly-common, wholly-agrees, wholly-refuted}
 use Rattle.decoder.proofs.Behind.{behind-at, behind-bit}
 use Rattle.decoder.proofs.ReadOff.{Setting, Behind, refuted, all-common, confirmed}
@@ -59,14 +58,16 @@ module _ (c : Checks) (w : ℕ) (block y marks : List ℕ) (same : (p b : ℕ) �
       known = λ i h e. stays i h e (R .known i h e);
       missing = R .missing;
     }
-    outcome-same true (x, K) =
-        (x, record {
-          symbols-size = K .symbols-size;
-          marks-size = K .marks-size;
-          agrees = to (K .agrees);
-          known = λ i h e. stays i h e (K .known i h e);
-          missing = λ i h e. go i (K .missing i h e);
-        })
+    outcome-same true (x, K) = (
+      x,
+      record {
+        symbols-size = K .symbols-size;
+        marks-size = K .marks-size;
+        agrees = to (K .agrees);
+        known = λ i h e. stays i h e (K .known i h e);
+        missing = λ i h e. go i (K .missing i h e);
+      },
+    )
       where
         go : (i : ℕ) → Fills c w y marks x s′ m′ i ⊎ (Leaves w s′ m′ i × Differs c w y marks x i) → Fills c w block marks x s′ m′ i ⊎ (Leaves w s′ m′ i × Differs c w block marks x i)
         go i (inl F) = inl (record { mark = F .mark; bytes = F .bytes; common = common i (F .common) })
@@ -94,14 +95,16 @@ module _ (c : Checks) (w : ℕ) (y marks s′ m′ : List ℕ) (sy : length y �
 
   -- x agrees, all that agree are the same, and everything missing was filled
   pub outcome-all : (x : List ℕ) → Agreeing c w y marks x → ((i : ℕ) → i < c .n → Common c w y marks i) → length x ≡ c .n * w → FilledMissing marks m′ → Outcome c w y marks x m′ true
-  outcome-all x A f sx F =
-      (x, record {
-        symbols-size = sx;
-        marks-size = F .size ∙ sm;
-        agrees = A;
-        known = λ i h e. record { mark = F .mark i (below i h) ∙ rw e; bytes = λ b k. A .same i h e b k };
-        missing = λ i h e. inl (record { mark = F .mark i (below i h) ∙ rw e; bytes = λ b k. refl; common = f i h });
-      })
+  outcome-all x A f sx F = (
+    x,
+    record {
+      symbols-size = sx;
+      marks-size = F .size ∙ sm;
+      agrees = A;
+      known = λ i h e. record { mark = F .mark i (below i h) ∙ rw e; bytes = λ b k. A .same i h e b k };
+      missing = λ i h e. inl (record { mark = F .mark i (below i h) ∙ rw e; bytes = λ b k. refl; common = f i h });
+    },
+  )
     where
       below : (i : ℕ) → i < c .n → i < length marks
       below i h = subst (λ (n : ℕ). i < n) (sym sm) h
@@ -111,14 +114,16 @@ module _ (c : Checks) (w : ℕ) (y marks s′ m′ : List ℕ) (sy : length y �
       → ((p : ℕ) → p < c .n → heard marks p ≡ false → DeterminedIs l words early (getD plan p 0) true → Common c w y marks p)
       → ((p : ℕ) → p < c .n → heard marks p ≡ false → DeterminedIs l words early (getD plan p 0) false → Differs c w y marks x p)
       → FilledDetermined w early words l plan x marks s′ m′ → Outcome c w y marks s′ m′ true
-  outcome-some x A words early l plan sx f g F =
-      (x, record {
-        symbols-size = F .symbols-size ∙ sx;
-        marks-size = F .marks-size ∙ sm;
-        agrees = A;
-        known = λ i h e. let U = F .each i (below i h) .known e in record { mark = U .mark ∙ heard-mark marks i e; bytes = λ b k. U .bytes b k ∙ A .same i h e b k };
-        missing = λ i h e. go i h e (F .each i (below i h) .missing e);
-      })
+  outcome-some x A words early l plan sx f g F = (
+    x,
+    record {
+      symbols-size = F .symbols-size ∙ sx;
+      marks-size = F .marks-size ∙ sm;
+      agrees = A;
+      known = λ i h e. let U = F .each i (below i h) .known e in record { mark = U .mark ∙ heard-mark marks i e; bytes = λ b k. U .bytes b k ∙ A .same i h e b k };
+      missing = λ i h e. go i h e (F .each i (below i h) .missing e);
+    },
+  )
     where
       below : (i : ℕ) → i < c .n → i < length marks
       below i h = subst (λ (n : ℕ). i < n) (sym sm) h

@@ -1,25 +1,26 @@
 -- Rows behind the steps, and what stays expressed when they change.
 -- Assumes nothing.
-use mathlib.Core.Path.{_≡_, refl, sym, ap, ap₂, _∙_, subst}
-use mathlib.Core.Logic.{_⊎_, inl, inr, _≢_}
-use mathlib.Core.Bool.{Bool, true, false, cond, xor}
+use mathlib.Core.Path.{_≡_, sym, ap, _∙_}
+use mathlib.Core.Logic.{_⊎_, inl, inr}
+use mathlib.Core.Bool.{Bool}
 use mathlib.Core.List.{List, _++_, append-nil}
 use Prim.Native.Nat.{ℕ, _+_, _-_, _*_, _/_, _%_, _<_, _≤_}
 use native.Mathlib.Nat.{add-mul, div-lt-iff-lt-mul}
 use native.Mathlib.Omega.{arith}
-use lib.Dec.{ltb, lit<}
+use lib.Dec.{lit<}
 use lib.ListN.{length, getD, take, drop, length-drop}
 use lib.Seq.{getD-drop, take-all, drop-at, drop-length, length-take-le}
-use borrow.Author.Tests.{ltb-true, lt-ltb, le-ltb}
-use Rattle.algebra.specs.Sums.{pick, sum}
+use Rattle.algebra.specs.Sums.{pick}
 use Rattle.algebra.specs.Codeword.{Checks}
-use Rattle.algebra.specs.Closing.{heard}
 use Rattle.algebra.proofs.Sums.{sum-ext}
 use Rattle.algebra.proofs.Codeword.{slot}
 use Rattle.rows.specs.Bits.{rowBit, testBit}
-use Rattle.decoder.specs.Plan.{kindOf, pivotOf, rowOf, positionOf, usedBy, free, Plan, Closed, Unsolved}
+use Rattle.rows.proofs.Order.{lt-or-le}
+use Rattle.decoder.specs.Plan.{kindOf, rowOf, Plan, Closed, Unsolved}
 use Rattle.decoder.specs.Express.{hangs, hang, StepsExpressed, SameBelow}
 use Rattle.decoder.specs.Equations.{behind}
+use Rattle.decoder.proofs.StepLaws.{few-steps, IsPivot, kind-cases}
+use Rattle.decoder.proofs.Hanging.{hangs-none, hangs-step, hangs-pivot}
 
 -- row i behind the steps is row steps + i
 module _ (l : List ℕ) (words steps : ℕ) where
@@ -35,26 +36,6 @@ module _ (l : List ℕ) (words steps : ℕ) where
 -- ---- before any pivot is solved
 
 module _ {c : Checks} {marks plan : List ℕ} {early steps pivots : ℕ} (P : Plan c marks plan early steps pivots) (closed : Closed c plan) (U : Unsolved plan pivots) where
-  -- a position's kind is at most `steps`, or it is a pivot
-  kinds : (p : ℕ) → p < c .n → (kindOf plan p ≤ steps) ⊎ ((u : ℕ) × ((u < pivots) × (kindOf plan p ≡ 1025 + u)))
-  kinds p h = go (heard marks p) refl
-    where
-      missing : (kindOf plan p ≡ 65535) ⊎ (((t : ℕ) × ((t < steps) × (positionOf plan t ≡ p))) ⊎ ((u : ℕ) × ((u < pivots) × (pivotOf plan u ≡ p))))
-          → (kindOf plan p ≤ steps) ⊎ ((u : ℕ) × ((u < pivots) × (kindOf plan p ≡ 1025 + u)))
-      missing (inl o) = absurd (closed p h o)
-      missing (inr (inl s)) =
-          let e : kindOf plan p ≡ s .0 + 1 = ap (kindOf plan) (sym (s .1 .1)) ∙ P .step (s .0) (s .1 .0) .kind in
-          let b : s .0 < steps = s .1 .0 in
-          inl (omega arith)
-      missing (inr (inr v)) = inr (v .0, (v .1 .0, ap (kindOf plan) (sym (v .1 .1)) ∙ U (v .0) (v .1 .0)))
-
-      go : (b : Bool) → heard marks p ≡ b → (kindOf plan p ≤ steps) ⊎ ((u : ℕ) × ((u < pivots) × (kindOf plan p ≡ 1025 + u)))
-      go true e = let z : kindOf plan p ≡ 0 = P .known p h e in inl (omega arith)
-      go false e = missing (P .sort p h e)
-
-  steps-few : steps ≤ 1024
-  steps-few = omega (arith, P .steps-free, P .rows)
-
   -- rows that change behind the steps leave what the steps hang on
   module _ (l l′ : List ℕ) (words : ℕ) (S : SameBelow l l′ words steps) where
     same-row : (t i : ℕ) → t < steps → i < 64 * words → rowBit l′ (t * (words + 1)) i ≡ rowBit l (t * (words + 1)) i
@@ -65,26 +46,19 @@ module _ {c : Checks} {marks plan : List ℕ} {early steps pivots : ℕ} (P : Pl
         ap (λ (v : ℕ). testBit v (i % 64)) (S .below (t * (words + 1) + i / 64) (omega arith))
 
     same-hangs : (p i : ℕ) → p < c .n → i < 64 * words → hangs l′ words early (kindOf plan p) i ≡ hangs l words early (kindOf plan p) i
-    unfolding hangs
-    same-hangs p i h g = go (kinds p h)
+    same-hangs p i h g = go (kind-cases P closed p h) (lt-or-le early (kindOf plan p))
       where
-        go : (kindOf plan p ≤ steps) ⊎ ((u : ℕ) × ((u < pivots) × (kindOf plan p ≡ 1025 + u)))
+        go : (kindOf plan p ≤ steps) ⊎ IsPivot plan pivots p → (early < kindOf plan p) ⊎ (kindOf plan p ≤ early)
             → hangs l′ words early (kindOf plan p) i ≡ hangs l words early (kindOf plan p) i
-        go (inl b) = step (ltb early (kindOf plan p)) refl
-          where
-            low : ltb 1024 (kindOf plan p) ≡ false
-            low = le-ltb 1024 (kindOf plan p) (omega (arith, steps-few))
-
-            step : (e : Bool) → ltb early (kindOf plan p) ≡ e → hangs l′ words early (kindOf plan p) i ≡ hangs l words early (kindOf plan p) i
-            step false e = rw e
-            step true e =
-                let k : early < kindOf plan p = ltb-true early (kindOf plan p) e in
-                rw (e, low, same-row (kindOf plan p - 1) i (omega arith) g)
-        go (inr v) =
-            let b : v .0 < pivots = v .1 .0 in
-            let few : pivots ≤ 3072 = omega (arith, P .pivots-few, P .positions) in
-            let e : kindOf plan p ≡ 1025 + v .0 = v .1 .1 in
-            rw (lt-ltb 1024 (kindOf plan p) (omega arith), le-ltb 4096 (kindOf plan p) (omega arith))
+        go k (inr none) = hangs-none l′ words early (kindOf plan p) i none ∙ sym (hangs-none l words early (kindOf plan p) i none)
+        go (inl b) (inl some) =
+            let few : kindOf plan p ≤ 1024 = omega (arith, few-steps P) in
+            hangs-step l′ words early (kindOf plan p) i some few ∙ same-row (kindOf plan p - 1) i (omega arith) g
+            ∙ sym (hangs-step l words early (kindOf plan p) i some few)
+        go (inr (u, (hu, q))) (inl some) =
+            let e : kindOf plan p ≡ 1025 + u = ap (kindOf plan) (sym q) ∙ U u hu in
+            let few : u < 3072 = omega (arith, P .pivots-few, P .positions) in
+            hangs-pivot l′ words early (kindOf plan p) i u some e few ∙ sym (hangs-pivot l words early (kindOf plan p) i u some e few)
 
     pub steps-stay : StepsExpressed c plan l words early steps → StepsExpressed c plan l′ words early steps
     steps-stay X t i h g =

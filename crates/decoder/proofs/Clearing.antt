@@ -3,35 +3,23 @@
 use mathlib.Core.Path.{_≡_, refl, sym, ap, _∙_, subst}
 use mathlib.Core.Logic.{_≢_}
 use mathlib.Core.Bool.{Bool, true, false, not, _&&_, cond, false≢true}
-use mathlib.Core.List.{List, _++_, append-assoc}
-use Prim.Native.Nat.{ℕ, _+_, _-_, _*_, _≤_, _<_}
-use native.Mathlib.Nat.{add-sub-cancel-left, le-of-eq}
+use mathlib.Core.List.{List}
+use Prim.Native.Nat.{ℕ, _+_, _*_, _<_}
 use native.Mathlib.Decide.{ℕ-discrete, decLt}
 use native.Mathlib.Omega.{arith}
 use lib.Dec.{eqb, ltb}
-use lib.ListN.{length, getD, set, take, drop, replicate, length-replicate, getD-replicate, length-drop}
-use lib.Seq.{getD-set-same, getD-set-other, length-take-le, drop-drop, take-length}
+use lib.ListN.{length, getD, set}
+use lib.Seq.{getD-set-same, getD-set-other}
 use borrow.Author.Tests.{lt-ltb, le-ltb, eq-eqb, ne-eqb}
 use Rattle.algebra.specs.Codeword.{byteAt}
 use Rattle.algebra.specs.Closing.{heard}
 use Rattle.algebra.proofs.Codeword.{slot}
-use Rattle.buffers.specs.Parts.{put}
-use Rattle.buffers.proofs.Put.{put-paste, put-in, put-out, from-zero}
-use Rattle.rows.proofs.SweepLaws.{rows-apart}
 use Rattle.decoder.specs.Marks.{missing, Cleared}
+use Rattle.decoder.proofs.Zeroing.{zerosAt}
+use Rattle.decoder.proofs.SymbolLaws.{replaced-other, zero-symbol}
 
 pub cleared-none : (w : ℕ) (s marks : List ℕ) → Cleared w s marks s marks 0
 cleared-none w s marks = record { mark = λ i. rw (le-ltb i 0 (omega arith)); byte = λ i b h. rw (le-ltb i 0 (omega arith)) }
-
--- s with zeros at position i
-abbrev pub zeroAt : ℕ → List ℕ → ℕ → List ℕ
-zeroAt w s i = put s (i * w) (replicate w 0) 0 w
-
-pub zero-same : (w : ℕ) (s : List ℕ) (i : ℕ) → i * w + w ≤ length s → (b : ℕ) → b < w → byteAt w (zeroAt w s i) b i ≡ 0
-zero-same w s i h b k = put-in s (i * w) (replicate w 0) 0 w b k h ∙ from-zero (replicate w 0) b ∙ getD-replicate w b 0 0 k
-
-pub zero-other : (w : ℕ) (s : List ℕ) (i p b : ℕ) → p ≢ i → b < w → byteAt w (zeroAt w s i) b p ≡ byteAt w s b p
-zero-other w s i p b ne k = put-out s (i * w) (replicate w 0) 0 w (p * w + b) (λ j hj e. rows-apart p i w ne b j k hj e)
 
 -- below i and below i + 1 are the same but at i
 wider : (i p : ℕ) → p ≢ i → ltb p i ≡ ltb p (i + 1)
@@ -72,20 +60,21 @@ module _ (n w : ℕ) (s marks x k : List ℕ) (i : ℕ) (h : i < n) (sx : length
       byte-at p b l (yes e) = subst (λ (q : ℕ). byteAt w x′ b q ≡ cond (missing marks (i + 1) q) 0 (byteAt w s b q)) (sym e) (b′ b l)
       byte-at p b l (no d) = bo p b d l ∙ C .byte p b l ∙ other p d (byteAt w s b p)
 
-  step : (a : Bool) → heard marks i ≡ a → Cleared w s marks (cond a x (zeroAt w x i)) (cond a k (set k i 0)) (i + 1)
+  step : (a : Bool) → heard marks i ≡ a → Cleared w s marks (cond a x (zerosAt x (i * w) w)) (cond a k (set k i 0)) (i + 1)
   step true t = each x k (at-mark ∙ rw stays) (λ b l. at-byte b l ∙ rw stays) (λ p d. refl) (λ p b d l. refl)
     where
       stays : missing marks (i + 1) i ≡ false
       stays = rw (lt-ltb i (i + 1) (omega arith), t)
   step false t =
-      each (zeroAt w x i) (set k i 0) (getD-set-same k i 0 0 (omega arith) ∙ rw gone)
-      (λ b l. zero-same w x i (omega (arith, slot i n w h)) b l ∙ rw gone)
-      (λ p d. getD-set-other k i p 0 0 d) (λ p b d l. zero-other w x i p b d l)
+      let z = zero-symbol x i w (omega (arith, slot i n w h)) in
+      each (zerosAt x (i * w) w) (set k i 0) (getD-set-same k i 0 0 (omega arith) ∙ rw gone)
+      (λ b l. z .each b l ∙ rw gone)
+      (λ p d. getD-set-other k i p 0 0 d) (λ p b d l. replaced-other z p b d l)
     where
       gone : missing marks (i + 1) i ≡ true
       gone = rw (lt-ltb i (i + 1) (omega arith), t)
 
-  pub cleared-more : (x′ k′ : List ℕ) → x′ ≡ cond (heard k i) x (zeroAt w x i) → k′ ≡ cond (heard k i) k (set k i 0) → Cleared w s marks x′ k′ (i + 1)
+  pub cleared-more : (x′ k′ : List ℕ) → x′ ≡ cond (heard k i) x (zerosAt x (i * w) w) → k′ ≡ cond (heard k i) k (set k i 0) → Cleared w s marks x′ k′ (i + 1)
   cleared-more x′ k′ e f = rw (e, f, now-heard) (step (heard marks i) refl)
 
 -- ---- one position, as the code has it
@@ -105,13 +94,3 @@ stays false x y e = absurd (false≢true e)
 pub goes : (a : Bool) (x y : List ℕ) → a ≡ false → y ≡ cond a x y
 goes true x y e = absurd (false≢true (sym e))
 goes false x y e = refl
-
--- a part of w bytes put back as zeros
-pub zeroed : (s z : List ℕ) (i w : ℕ) → i * w + w ≤ length s → z ≡ replicate (length (take (i * w + w - i * w) (drop (i * w) s))) 0
-    → take (i * w) s ++ (z ++ drop (i * w + w - i * w) (drop (i * w) s)) ≡ zeroAt w s i
-zeroed s z i w h e =
-    let zeros : List ℕ = replicate w 0 in
-    let n : length zeros ≡ w = length-replicate {A = ℕ} w 0 in
-    let l : length (take w (drop (i * w) s)) ≡ w = length-take-le w (drop (i * w) s) (rw length-drop (omega arith)) in
-    let t : take w zeros ≡ zeros = ap (λ (m : ℕ). take m zeros) (sym n) ∙ take-length zeros in
-    rw (e, add-sub-cancel-left (i * w) w, l, drop-drop w (i * w) s, put-paste s (i * w) zeros w h (le-of-eq (sym n)), t, append-assoc)

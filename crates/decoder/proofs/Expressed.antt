@@ -4,13 +4,11 @@ use mathlib.Core.Path.{_≡_, refl, sym, ap, ap₂, _∙_}
 use mathlib.Core.Logic.{_⊎_, inl, inr, _≢_, ⊎-elim}
 use mathlib.Core.Bool.{Bool, true, false, cond, not, _&&_}
 use mathlib.Core.List.{List}
-use Prim.Native.Nat.{ℕ, zero, suc, _+_, _-_, _*_, _<_, _≤_}
-use native.Mathlib.Nat.{add-zero, le-refl, eq-or-lt-of-le, mul-le-mul-right}
-use native.Mathlib.Numerals.{add-one}
+use Prim.Native.Nat.{ℕ, _+_, _-_, _*_, _<_, _≤_}
+use native.Mathlib.Nat.{eq-or-lt-of-le, mul-le-mul-right}
 use native.Mathlib.Omega.{arith}
 use borrow.Author.Tests.{eq-eqb, ne-eqb, eqb-true, eqb-false}
 use lib.Dec.{eqb}
-use lib.ListN.{length, getD}
 use Rattle.algebra.specs.Sums.{_⊕_, pick, sum}
 use Rattle.algebra.specs.Codeword.{Checks}
 use Rattle.algebra.specs.Closing.{heard}
@@ -19,11 +17,14 @@ use Rattle.algebra.proofs.Codeword.{slot}
 use Rattle.algebra.proofs.Lists.{and-iff}
 use Rattle.rows.specs.Bits.{rowBit}
 use Rattle.rows.specs.Reduced.{pivotWord}
-use Rattle.rows.proofs.Order.{lt-or-le, eq-or-ne}
+use Rattle.rows.proofs.Order.{eq-or-ne}
 use Rattle.rows.proofs.SweepLaws.{cond-elim}
-use Rattle.decoder.specs.Plan.{kindOf, pivotOf, rowOf, positionOf, usedBy, free, Before, Step, PutOff, Sort, Plan, Closed, Unsolved}
-use Rattle.decoder.specs.Express.{hangs, hang, Reads, OnlyRow, RowIs, Places, StepsExpressed, SameFrom, SameBelow, RestExpressed, kindBut, ReadsAll, RestTo}
-use Rattle.decoder.proofs.RowChanges.{bit-other, hangs-none, hangs-step, hangs-same}
+use Rattle.decoder.specs.Plan.{kindOf, pivotOf, rowOf, positionOf, usedBy, free, Step, Plan, Closed, Unsolved}
+use Rattle.decoder.specs.Express.{hang, Reads, OnlyRow, RowIs, Places, StepsExpressed, SameFrom, SameBelow, ReadsAll, RestTo}
+use Rattle.decoder.proofs.StepLaws.{few-steps, step-apart}
+use Rattle.decoder.proofs.UnusedRows.{free-below}
+use Rattle.decoder.proofs.RowChanges.{bit-other, hangs-same}
+use Rattle.decoder.proofs.Hanging.{hangs-none, hangs-step}
 
 -- ---- rows that stay
 
@@ -91,9 +92,6 @@ module _ {c : Checks} {marks plan : List ℕ} {early steps pivots : ℕ} (made :
           (⊎-elim (λ s. step (s .0) (s .1 .0) (s .1 .1) (ap (kindOf plan) (sym (s .1 .1)) ∙ made .step (s .0) (s .1 .0) .kind))
           (λ u. pivot (u .0) (u .1 .0) (u .1 .1) (rw (u .1 .1) at (made .pivot (u .0) (u .1 .0) .kind .0)))) (made .sort x h e)
 
-  pub few-steps : (steps ≤ c .m) × (steps ≤ 1024)
-  few-steps = let e = made .steps-free in (omega arith, omega (arith, made .rows))
-
   -- what stands for a position is read from another row than t
   module _ {l : List ℕ} {words t : ℕ} (places : Places c plan l words steps (c .m)) where
     reads-settled : (x : ℕ) → x < c .n → ((s : ℕ) → s < steps → positionOf plan s ≡ x → s ≢ t) → (4096 < kindOf plan x → kindOf plan x - 4097 ≢ t)
@@ -103,9 +101,9 @@ module _ {c : Checks} {marks plan : List ℕ} {early steps pivots : ℕ} (made :
         go : Settled x → Reads l words early (c .m) t (kindOf plan x)
         go (known e) = rw e reads-none
         go (step s hs e k) = rw k (record {
-          step = λ g g′. (λ q. away s hs e (omega arith), omega (arith, few-steps .0));
-          pivot = λ g g′. absurd (omega (arith, few-steps .1));
-          solved = λ g. absurd (omega (arith, few-steps .1));
+          step = λ g g′. (λ q. away s hs e (omega arith), omega (arith, few-steps made .0));
+          pivot = λ g g′. absurd (omega (arith, few-steps made .1));
+          solved = λ g. absurd (omega (arith, few-steps made .1));
         })
         go (pivot u hu e k) = record {
           step = λ g g′. absurd (omega arith);
@@ -156,7 +154,7 @@ module _ {c : Checks} {marks plan : List ℕ} {early steps pivots : ℕ} (made :
         own =
             let k = s .kind in
             let e : kindOf plan p - 1 ≡ t = omega arith in
-            ap (λ (b : Bool). pick b 1) (hangs-step l′ words early (kindOf plan p) i (omega arith) (omega (arith, few-steps .1)))
+            ap (λ (b : Bool). pick b 1) (hangs-step l′ words early (kindOf plan p) i (omega arith) (omega (arith, few-steps made .1)))
             ∙ ap (λ (r : ℕ). pick (rowBit l′ (r * (words + 1)) i) 1) e
 
     -- and the steps before it hold as they did
@@ -164,14 +162,8 @@ module _ {c : Checks} {marks plan : List ℕ} {early steps pivots : ℕ} (made :
         → sum (c .has (rowOf plan s)) (λ x. hang plan l words early x i) (c .n) ≡ 0 → sum (c .has (rowOf plan s)) (λ x. hang plan l′ words early x i) (c .n) ≡ 0
     step-kept {l′} only h s hs i hi e =
         sum-cong (c .has (rowOf plan s)) (c .has (rowOf plan s)) (λ x. hang plan l′ words early x i) (λ x. hang plan l words early x i) (c .n) (λ x g. refl)
-        (λ x g on. ap (λ (b : Bool). pick b 1) (hangs-same only (other-step h x g (apart x g on)) i hi))
+        (λ x g on. ap (λ (b : Bool). pick b 1) (hangs-same only (other-step h x g (step-apart made t s h hs x g on)) i hi))
         ∙ e
-      where
-        apart : (x : ℕ) → x < c .n → c .has (rowOf plan s) x ≡ true → x ≢ positionOf plan t
-        apart x g on q =
-            let k : kindOf plan x ≡ t + 1 = ap (kindOf plan) q ∙ made .step t h .kind in
-            ⊎-elim (λ own. let k′ : kindOf plan x ≡ s + 1 = ap (kindOf plan) own ∙ made .step s (omega arith) .kind in omega arith)
-            (λ ne. ⊎-elim (λ lo. omega arith) (λ hi. omega (arith, hi .1 .0, few-steps .1)) (made .step s (omega arith) .others x g on ne)) (eq-or-ne x (positionOf plan s))
 
     pub steps-more : {l′ : List ℕ} → early ≤ t → t < steps → RowIs c plan l l′ words early t (rowOf plan t) (positionOf plan t)
         → StepsExpressed c plan l words early t → StepsExpressed c plan l′ words early (t + 1)
@@ -196,28 +188,6 @@ module _ {c : Checks} {marks plan : List ℕ} {early steps pivots : ℕ} (made :
 
 -- ---- the check rows that no step used
 
-pub free-used : (plan : List ℕ) (j : ℕ) → usedBy plan j ≢ 0 → free plan (j + 1) ≡ free plan j
-unfolding free
-free-used plan j ne = rw (add-one, ne-eqb (usedBy plan j) 0 ne)
-
-pub free-next : (plan : List ℕ) (j : ℕ) → usedBy plan j ≡ 0 → free plan (j + 1) ≡ free plan j + 1
-unfolding free
-free-next plan j e = rw (add-one j, eq-eqb (usedBy plan j) 0 e) (sym (add-one (free plan j)))
-
-free-rise : (plan : List ℕ) (j k : ℕ) → free plan j ≤ free plan (j + k)
-free-rise plan j zero = rw add-zero (le-refl (free plan j))
-free-rise plan j (suc k) =
-    let ih : free plan j ≤ free plan (j + k) = free-rise plan j k in
-    let e : j + suc k ≡ j + k + 1 = omega arith in
-    rw e (⊎-elim (λ z. omega (arith, free-next plan (j + k) z)) (λ ne. omega (arith, free-used plan (j + k) ne)) (eq-or-ne (usedBy plan (j + k)) 0))
-
--- unused rows have different numbers, in rising order
-free-lt : (plan : List ℕ) (i j : ℕ) → i < j → usedBy plan i ≡ 0 → free plan i < free plan j
-free-lt plan i j h e =
-    let k : i + 1 + (j - (i + 1)) ≡ j = omega arith in
-    let r : free plan (i + 1) ≤ free plan j = (rw k at (free-rise plan (i + 1) (j - (i + 1)))) in
-    omega (arith, free-next plan i e)
-
 module _ {c : Checks} {marks plan : List ℕ} {early steps pivots : ℕ} (made : Plan c marks plan early steps pivots) (closed : Closed c plan)
     (unsolved : Unsolved plan pivots) where
   unsolved-kind : (x : ℕ) → x < c .n → kindOf plan x ≤ 4096
@@ -225,7 +195,7 @@ module _ {c : Checks} {marks plan : List ℕ} {early steps pivots : ℕ} (made :
     where
       go : Settled made closed x → kindOf plan x ≤ 4096
       go (known e) = omega arith
-      go (step s hs e k) = omega (arith, few-steps made closed .1)
+      go (step s hs e k) = omega (arith, few-steps made .1)
       go (pivot u hu e k) =
           let f : kindOf plan x ≡ 1025 + u = ap (kindOf plan) (sym e) ∙ unsolved u hu in omega (arith, made .pivots-few, made .positions)
 
@@ -235,7 +205,7 @@ module _ {c : Checks} {marks plan : List ℕ} {early steps pivots : ℕ} (made :
 
   -- row t is that of check row j
   pub rest-below : (j : ℕ) → j < c .m → usedBy plan j ≡ 0 → steps + free plan j < c .m
-  rest-below j h e = omega (arith, free-lt plan j (c .m) h e, made .steps-free)
+  rest-below j h e = omega (arith, free-below plan j (c .m) h e, made .steps-free)
 
   module _ {l : List ℕ} {words t : ℕ} (places : Places c plan l words steps (c .m)) where
     reads-other : steps ≤ t → (x : ℕ) → x < c .n → Reads l words early (c .m) t (kindOf plan x)
@@ -262,7 +232,7 @@ module _ {c : Checks} {marks plan : List ℕ} {early steps pivots : ℕ} (made :
 
         before : k < j → pick (rowBit l′ ((steps + free plan k) * (words + 1)) i) 1 ≡ sum (c .has k) (λ x. hang plan l′ words early x i) (c .n)
         before lt =
-            ap (λ (b : Bool). pick b 1) (bit-other (row .only) (steps + free plan k) i (λ q. omega (arith, free-lt plan k j lt z)) hi) ∙ done k i lt z hi
+            ap (λ (b : Bool). pick b 1) (bit-other (row .only) (steps + free plan k) i (λ q. omega (arith, free-below plan k j lt z)) hi) ∙ done k i lt z hi
             ∙ sum-ext (c .has k) (λ x. hang plan l words early x i) (λ x. hang plan l′ words early x i) (c .n) same
 
 -- a used row has none

@@ -15,7 +15,8 @@ use Rattle.rows.proofs.Order.{eq-or-ne}
 use Rattle.decoder.specs.Plan.{kindOf}
 use Rattle.decoder.specs.Pivots.{DeterminedIs}
 use Rattle.decoder.specs.Marks.{Untouched, FilledAt, FilledOne, FillRoom}
-use Rattle.decoder.proofs.Clearing.{zeroAt, zero-same, zero-other}
+use Rattle.decoder.proofs.Zeroing.{zerosAt}
+use Rattle.decoder.proofs.SymbolLaws.{replaced-other, zero-symbol}
 
 -- the same room
 pub room-same : {words rows plan l m m′ : ℕ} → FillRoom words rows plan l m → m′ ≡ m → FillRoom words rows plan l m′
@@ -114,11 +115,11 @@ module _ (w early words : ℕ) (l plan s marks : List ℕ) (p : ℕ) where
     }
 
     pub one-left : p * w + w ≤ length s → DeterminedIs l words early (kindOf plan p) false → (x k : List ℕ)
-        → x ≡ cond (heard marks p) s (zeroAt w s p) → k ≡ cond (heard marks p) marks (set marks p 0) → FilledOne w early words l plan s marks x k p
+        → x ≡ cond (heard marks p) s (zerosAt s (p * w) w) → k ≡ cond (heard marks p) marks (set marks p 0) → FilledOne w early words l plan s marks x k p
     one-left r d x k ex ek = rw (ex, ek, t) (record {
       at = record {
         known = λ e. absurd (false≢true (sym t ∙ e));
-        missing = λ e. inr (record { determined = d; leaves = record { mark = getD-set-same marks p 0 0 h; bytes = zero-same w s p r } });
+        missing = λ e. inr (record { determined = d; leaves = record { mark = getD-set-same marks p 0 0 h; bytes = zero-symbol s p w r .each } });
       };
-      others = λ i ne. record { mark = getD-set-other marks p i 0 0 ne; bytes = λ b q. zero-other w s p i b ne q };
+      others = λ i ne. record { mark = getD-set-other marks p i 0 0 ne; bytes = λ b q. replaced-other (zero-symbol s p w r) i b ne q };
     })

@@ -1,68 +1,38 @@
 -- On which pivots a position hangs, by its kind.
 -- Assumes nothing.
-use mathlib.Core.Path.{_≡_, refl, sym, ap, ap₂, _∙_}
-use mathlib.Core.Logic.{⊎-elim}
-use mathlib.Core.Bool.{Bool, true, false, xor}
+use mathlib.Core.Path.{_≡_}
+use mathlib.Core.Bool.{false, xor}
 use mathlib.Core.List.{List}
-use Prim.Native.Nat.{ℕ, _+_, _-_, _*_, _/_, _%_, _^_, _<_, _≤_}
+use Prim.Native.Nat.{ℕ, _+_, _-_, _*_, _<_, _≤_}
 use native.Mathlib.Omega.{arith}
 use lib.Dec.{eqb}
-use lib.Count.{trailingZeros}
-use lib.ListN.{getD}
-use borrow.Author.Tests.{lt-ltb, le-ltb, eq-eqb, ne-eqb}
-use Rattle.buffers.specs.AllZero.{AllZeroIs}
-use Rattle.rows.specs.Bits.{testBit, rowBit, OnlyIs}
+use borrow.Author.Tests.{lt-ltb, le-ltb}
+use Rattle.rows.specs.Bits.{rowBit}
 use Rattle.rows.specs.Reduced.{pivotWord}
-use Rattle.rows.proofs.Digits.{testBit-none, LowestSet, trailing-lowest}
-use Rattle.rows.proofs.Order.{eq-or-ne}
 use Rattle.decoder.specs.Express.{hangs}
-use Rattle.decoder.specs.Pivots.{NoBitsIs, DeterminedIs}
 
--- a row has no pivot where its words are all zero
-pub no-bits : (l : List ℕ) (at len : ℕ) → ((k : ℕ) → k < len → getD l (at + k) 0 < 2 ^ 64) → (r : Bool) → AllZeroIs l at len r → NoBitsIs l at len r
-unfolding rowBit
-no-bits l at len fit true z = λ i h. ap (λ (x : ℕ). testBit x (i % 64)) (z (i / 64) (omega arith)) ∙ testBit-none (i % 64)
-no-bits l at len fit false (k, (h, ne)) =
-    let v : ℕ = getD l (at + k) 0 in
-    let t : ℕ = trailingZeros 64 v in
-    let low : LowestSet v 64 t = trailing-lowest 64 v (omega arith) (fit k h) in
-    let w : t < 64 = low .within in
-    let e : (64 * k + t) / 64 ≡ k = omega arith in
-    let f : (64 * k + t) % 64 ≡ t = omega arith in
-    (64 * k + t, (omega arith, ap₂ (λ (x y : ℕ). testBit (getD l (at + x) 0) y) e f ∙ low .here))
-
-module _ (l : List ℕ) (words early kind : ℕ) where
-  pub determined-early : kind ≤ early → DeterminedIs l words early kind true
+module _ (l : List ℕ) (words early kind i : ℕ) where
+  -- known, or settled before step `early`: on nothing
+  pub hangs-none : kind ≤ early → hangs l words early kind i ≡ false
   unfolding hangs
-  determined-early h i k = rw (le-ltb early kind h)
+  hangs-none h = rw (le-ltb early kind h)
 
-  module _ (late : early < kind) where
-    hangs-step : kind ≤ 1024 → (i : ℕ) → hangs l words early kind i ≡ rowBit l ((kind - 1) * (words + 1)) i
-    unfolding hangs
-    hangs-step h i = rw (lt-ltb early kind late, le-ltb 1024 kind h)
+  -- settled by a step: on what the step's row has
+  pub hangs-step : early < kind → kind ≤ 1024 → hangs l words early kind i ≡ rowBit l ((kind - 1) * (words + 1)) i
+  unfolding hangs
+  hangs-step h g = rw (lt-ltb early kind h, le-ltb 1024 kind g)
 
-    hangs-pivot : 1024 < kind → kind ≤ 4096 → (i : ℕ) → hangs l words early kind i ≡ eqb i (kind - 1025)
-    unfolding hangs
-    hangs-pivot g h i = rw (lt-ltb early kind late, lt-ltb 1024 kind g, le-ltb 4096 kind h)
+  -- pivot u: on itself alone
+  pub hangs-pivot : (u : ℕ) → early < kind → kind ≡ 1025 + u → u < 3072 → hangs l words early kind i ≡ eqb i u
+  unfolding hangs
+  hangs-pivot u h e g =
+      let k : kind - 1025 ≡ u = omega arith in
+      rw (lt-ltb early kind h, lt-ltb 1024 kind (omega arith), le-ltb 4096 kind (omega arith), k)
 
-    hangs-solved : 4096 < kind → (u : ℕ) → u ≡ pivotWord l words (kind - 4097) - 1 → (i : ℕ)
-        → hangs l words early kind i ≡ xor (rowBit l ((kind - 4097) * (words + 1)) i) (eqb i u)
-    unfolding hangs
-    hangs-solved g u e i =
-        rw (lt-ltb early kind late, lt-ltb 1024 kind (omega arith), lt-ltb 4096 kind g) (ap (λ (v : ℕ). xor (rowBit l ((kind - 4097) * (words + 1)) i) (eqb i v)) (sym e))
-
-    pub determined-step : kind ≤ 1024 → (r : Bool) → NoBitsIs l ((kind - 1) * (words + 1)) words r → DeterminedIs l words early kind r
-    determined-step h true z = λ i k. hangs-step h i ∙ z i k
-    determined-step h false (i, (k, t)) = (i, (k, hangs-step h i ∙ t))
-
-    pub determined-pivot : 1024 < kind → kind ≤ 4096 → kind - 1025 < 64 * words → DeterminedIs l words early kind false
-    determined-pivot g h k = (kind - 1025, (k, hangs-pivot g h (kind - 1025) ∙ eq-eqb (kind - 1025) (kind - 1025) refl))
-
-    -- the row's own pivot is taken out
-    pub determined-solved : 4096 < kind → (u : ℕ) → u ≡ pivotWord l words (kind - 4097) - 1 → rowBit l ((kind - 4097) * (words + 1)) u ≡ true
-        → (r : Bool) → OnlyIs (rowBit l ((kind - 4097) * (words + 1))) (64 * words) u r → DeterminedIs l words early kind r
-    unfolding xor
-    determined-solved g u e own true z = λ i k.
-        hangs-solved g u e i
-        ∙ ⊎-elim (λ f. ap₂ xor (ap (rowBit l ((kind - 4097) * (words + 1))) f ∙ own) (eq-eqb i u f)) (λ f. ap₂ xor (z i k f) (ne-eqb i u f)) (eq-or-ne i u)
-    determined-solved g u e own false (i, (k, (ne, t))) = (i, (k, hangs-solved g u e i ∙ ap₂ xor t (ne-eqb i u ne)))
+  -- the pivot u that reduced row r has: on the row's others
+  pub hangs-solved : (r u : ℕ) → early < kind → kind ≡ 4097 + r → u ≡ pivotWord l words r - 1
+      → hangs l words early kind i ≡ xor (rowBit l (r * (words + 1)) i) (eqb i u)
+  unfolding hangs
+  hangs-solved r u h e f =
+      let k : kind - 4097 ≡ r = omega arith in
+      rw (lt-ltb early kind h, lt-ltb 1024 kind (omega arith), lt-ltb 4096 kind (omega arith), k, f)

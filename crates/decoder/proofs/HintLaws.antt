@@ -1,11 +1,9 @@
 -- A code's layout is one that the hints need.
 -- Assumes nothing.
-use mathlib.Core.Path.{_≡_, refl}
-use Prim.Native.Nat.{ℕ, _+_, _*_, _/_, _%_, _<_, _≤_}
+use mathlib.Core.Path.{_≡_}
+use Prim.Native.Nat.{ℕ, _*_, _/_, _%_, _<_, _≤_}
 use native.Mathlib.Nat.{mod-lt, mul-le-mul, mul-le-mul-left, mul-le-mul-right, div-lt-iff-lt-mul}
 use native.Mathlib.Omega.{arith}
-use Rattle.algebra.specs.Staircase.{staircase}
-use Rattle.ccsds.specs.Codes.{checksOf}
 use Rattle.ccsds.specs.Tables.{codeOf, Known}
 use Rattle.ccsds.specs.Layout.{Given}
 use Rattle.ccsds.specs.declared.tables.Layout.{Layout}
@@ -37,16 +35,3 @@ module _ (l : Layout) (f : Fits l) (x : ℕ) where
 
   pub row-small : x < l .k → x / l .q < 64
   row-small h = div-lt-iff-lt-mul (f .some) .1 (omega (arith, f .rows))
-
--- a code's check rows and symbols, as its layout has them
-pub rows-of : (number : ℕ) → checksOf (codeOf number) .m ≡ codeOf number .m
-unfolding staircase
-rows-of number = refl
-
-pub few-symbols : (number : ℕ) → Known number → (checksOf (codeOf number) .n ≤ 3072) × (checksOf (codeOf number) .m ≤ 1024)
-unfolding staircase
-few-symbols number k = let v = valid-of number k in (v .few, v .few-rows)
-
-pub symbols-of : (number : ℕ) (l : Layout) → Given (codeOf number) l → l .k + l .m ≡ checksOf (codeOf number) .n
-unfolding staircase
-symbols-of number l g = omega (arith, g .k, g .m)

@@ -11,7 +11,7 @@ use native.Mathlib.Omega.{arith}
 use lib.Arith.{digits-div, digits-mod, digits-lt}
 use lib.Dec.{eqb, lit<}
 use lib.ListN.{getD, List·getD-eq-default}
-use borrow.Author.Tests.{eq-eqb, ne-eqb, eqb-true, lt-ltb}
+use borrow.Author.Tests.{eq-eqb, ne-eqb, eqb-true}
 use Rattle.algebra.specs.Sums.{_⊕_, pick, sum}
 use Rattle.algebra.specs.Lists.{tab}
 use Rattle.algebra.specs.Codeword.{Checks, byteAt}
@@ -29,8 +29,11 @@ use Rattle.decoder.specs.Express.{hangs, Reads, StepsExpressed, SameFrom
 use Rattle.decoder.specs.Pivots.{Solved, Free, Put, DeterminedIs}
 use Rattle.decoder.specs.Outcome.{Differs}
 use Rattle.decoder.proofs.Triangle.{sum-add, pick-one, vanishes, expressed, plan-triangular}
-use Rattle.decoder.proofs.Solutions.{Along, hangs-known, hangs-pivot, agreeing-along, high-absent}
-use Rattle.decoder.proofs.ReadOff.{clash, row-here, row-others, IsPivot, steps-few, kind-cases, Setting, pivotByte, Behind, agrees-reduced, solves-reduced, pivot-below}
+use Rattle.decoder.proofs.StepLaws.{few-steps, IsPivot, kind-cases}
+use Rattle.decoder.proofs.Hanging.{hangs-none, hangs-pivot, hangs-solved}
+use Rattle.decoder.proofs.RowChanges.{xor-false}
+use Rattle.decoder.proofs.Solutions.{Along, agreeing-along, high-absent}
+use Rattle.decoder.proofs.ReadOff.{clash, row-here, row-others, Setting, pivotByte, Behind, agrees-reduced, solves-reduced, pivot-below}
 use Rattle.decoder.proofs.ReadOff.{word-behind, pivot-few, kind-same, row-same, plan-put, places, solved-word, row-solved, other-free}
 use Rattle.decoder.proofs.ReadOff.{x-row, x-free, x-heard, x-holds, x-solves}
 
@@ -45,11 +48,6 @@ pick-none : (b : Bool) → pick b 0 ≡ 0
 pick-none true = refl
 pick-none false = refl
 
-xor-off : (a : Bool) → xor a false ≡ a
-unfolding xor
-xor-off true = refl
-xor-off false = refl
-
 xor-on : (a : Bool) → xor false a ≡ a
 unfolding xor
 xor-on true = refl
@@ -59,15 +57,6 @@ xor-self : (a : Bool) → xor a a ≡ false
 unfolding xor
 xor-self true = refl
 xor-self false = refl
-
--- ---- what a pivot that a reduced row has hangs on
-
-hangs-solved : (l : List ℕ) (words early kind h i : ℕ) → early ≤ 4096 → kind ≡ 4097 + h
-    → hangs l words early kind i ≡ xor (rowBit l (h * (words + 1)) i) (eqb i (pivotWord l words h - 1))
-unfolding hangs
-hangs-solved l words early kind h i he e =
-    let k : kind - 4097 ≡ h = omega arith in
-    rw (lt-ltb early kind (omega arith), lt-ltb 1024 kind (omega arith), lt-ltb 4096 kind (omega arith), k, hangs)
 
 -- ---- the setting, after Put, with the steps restored and their expressions made again
 
@@ -86,7 +75,7 @@ module _ {c : Checks} {w : ℕ} {block marks plan y l lr d lr′ d′ : List ℕ
   D p i = hangs l″ words early (kindOf plan′ p) i
 
   few-early : early ≤ 1024
-  few-early = omega (arith, G .made .early-steps, steps-few (G .made) (G .closed))
+  few-early = omega (arith, G .made .early-steps, few-steps (G .made))
 
   -- the rows behind the steps are the reduced rows still
   kept : (r k : ℕ) → steps ≤ r → getD l″ (r * (words + 1) + k) 0 ≡ getD lw (r * (words + 1) + k) 0
@@ -137,21 +126,21 @@ module _ {c : Checks} {w : ℕ} {block marks plan y l lr d lr′ d′ : List ℕ
       pivot u hu e (inr f) = let k : kindOf plan′ p ≡ 1025 + u = ap (kindOf plan′) (sym e) ∙ f .kind ∙ G .unsolved u hu in absurd (omega (arith, pivot-few G B Q u hu))
 
       go : (kindOf plan p ≤ steps) ⊎ IsPivot plan pivots p → Here
-      go (inl k) = absurd (omega (arith, kind-same G B Q p k, steps-few (G .made) (G .closed)))
+      go (inl k) = absurd (omega (arith, kind-same G B Q p k, few-steps (G .made)))
       go (inr (u, (hu, e))) = pivot u hu e (Q .pivot u hu)
 
   known-hangs : (p i : ℕ) → p < c .n → heard marks p ≡ true → D p i ≡ false
-  known-hangs p i hp e = hangs-known l″ words early (kindOf plan′ p) i (plan-put G B Q .0 .known p hp e)
+  known-hangs p i hp e = hangs-none l″ words early (kindOf plan′ p) i (omega (arith, plan-put G B Q .0 .known p hp e))
 
   free-hangs : (u i : ℕ) → u < pivots → IsFree u → D (pivotOf plan u) i ≡ eqb i u
   free-hangs u i hu f =
-      hangs-pivot l″ words early (kindOf plan′ (pivotOf plan u)) u i few-early (pivot-few G B Q u hu) (f .kind ∙ G .unsolved u hu)
+      let k : kindOf plan′ (pivotOf plan u) ≡ 1025 + u = f .kind ∙ G .unsolved u hu in
+      hangs-pivot l″ words early (kindOf plan′ (pivotOf plan u)) i u (omega (arith, few-early)) k (pivot-few G B Q u hu)
 
   solved-hangs : (u i : ℕ) (s : IsSolved u) → i < 64 * words → D (pivotOf plan u) i ≡ xor (rowBit lr′ (s .row * (words + 1)) i) (eqb i u)
   solved-hangs u i s hi =
-      let k : pivotWord l″ words (steps + s .row) - 1 ≡ u = omega (arith, word-solved s) in
-      hangs-solved l″ words early (kindOf plan′ (pivotOf plan u)) (steps + s .row) i (omega (arith, few-early)) (s .kind)
-      ∙ ap₂ (λ (b : Bool) (v : ℕ). xor b (eqb i v)) (bit-kept (s .row) i (s .below) hi) k
+      hangs-solved l″ words early (kindOf plan′ (pivotOf plan u)) i (steps + s .row) u (omega (arith, few-early, s .kind)) (s .kind) (omega (arith, word-solved s))
+      ∙ ap (λ (b : Bool). xor b (eqb i u)) (bit-kept (s .row) i (s .below) hi)
 
   -- a word that agrees is x plus the pivots that each position hangs on
   spread : (z : List ℕ) → Agreeing c w block marks z → (p b : ℕ) → p < c .n → b < w
@@ -205,7 +194,7 @@ module _ {c : Checks} {w : ℕ} {block marks plan y l lr d lr′ d′ : List ℕ
       high h u hu (inl s) =
           solved-hangs u i s hi
           ∙ ap₂ xor (G .same .absent i hi (high-absent (G .made) (G .closed) (G .unsolved) (G .values) (G .step-rows) (G .system) (G .room) i h hi) (s .row) (s .below))
-          (ne-eqb i u (λ e. omega arith)) ∙ xor-off false
+          (ne-eqb i u (λ e. omega arith)) ∙ xor-false false
       high h u hu (inr f) = free-hangs u i hu f ∙ ne-eqb i u (λ e. omega arith)
 
       rows : (s : IsSolved i) (u : ℕ) → (q : IsSolved u) → (u ≡ i) ⊎ (u ≢ i) → D (pivotOf plan u) i ≡ false
@@ -215,7 +204,7 @@ module _ {c : Checks} {w : ℕ} {block marks plan y l lr d lr′ d′ : List ℕ
       rows s u q (inr ne) =
           let away : q .row ≢ s .row = λ e. let k : u + 1 ≡ i + 1 = sym (solved-word G B Q q) ∙ ap (pivotWord lr′ words) e ∙ solved-word G B Q s in ne (omega arith) in
           solved-hangs u i q hi
-          ∙ ap₂ xor (row-others lr′ rest words (G .reduced) (s .row) (q .row) i (s .below) (q .below) away (solved-word G B Q s)) (ne-eqb i u (λ e. ne (sym e))) ∙ xor-off false
+          ∙ ap₂ xor (row-others lr′ rest words (G .reduced) (s .row) (q .row) i (s .below) (q .below) away (solved-word G B Q s)) (ne-eqb i u (λ e. ne (sym e))) ∙ xor-false false
 
       low : IsSolved i → (u : ℕ) → u < pivots → IsSolved u ⊎ IsFree u → D (pivotOf plan u) i ≡ false
       low s u hu (inl q) = rows s u q (eq-or-ne u i)
@@ -305,23 +294,23 @@ module _ {c : Checks} {w : ℕ} {block marks plan y l lr d lr′ d′ : List ℕ
             at-hangs =
                 let s = row-solved G B Q r at hr (v .word) in
                 solved-hangs at i (s .0) (omega (arith, G .room))
-                ∙ ap₂ (λ (j : ℕ) (b : Bool). xor (rowBit lr′ (j * (words + 1)) i) b) (s .1) (ne-eqb i at (λ e. apart (sym e))) ∙ xor-off (row i)
+                ∙ ap₂ (λ (j : ℕ) (b : Bool). xor (rowBit lr′ (j * (words + 1)) i) b) (s .1) (ne-eqb i at (λ e. apart (sym e))) ∙ xor-false (row i)
 
             term : (q : ℕ) → q < pivots → (q ≡ at) ⊎ (q ≢ at) → (q ≡ i) ⊎ (q ≢ i) → (b : Bool) → row q ≡ b
                 → pick (row q) (pick (D (pivotOf plan q) i) 1) ≡ pick (xor (eqb q at) (eqb q i)) (pick (row i) 1)
             term q hq (inl e) (inl k) b t = absurd (apart (sym e ∙ k))
             term q hq (inl e) (inr k) b t =
                 ap₂ (λ (a h : Bool). pick a (pick h 1)) (ap row e ∙ v .here) (ap (λ (u : ℕ). D (pivotOf plan u) i) e ∙ at-hangs)
-                ∙ sym (ap (λ (a : Bool). pick a (pick (row i) 1)) (ap₂ xor (eq-eqb q at e) (ne-eqb q i k) ∙ xor-off true))
+                ∙ sym (ap (λ (a : Bool). pick a (pick (row i) 1)) (ap₂ xor (eq-eqb q at e) (ne-eqb q i k) ∙ xor-false true))
             term q hq (inr e) (inl k) b t =
                 ap₂ (λ (a h : Bool). pick a (pick h 1)) (ap row k) (ap (λ (u : ℕ). D (pivotOf plan u) i) k ∙ free-hangs i i hi f ∙ eq-eqb i i refl)
                 ∙ sym (ap (λ (a : Bool). pick a (pick (row i) 1)) (ap₂ xor (ne-eqb q at e) (eq-eqb q i k) ∙ xor-on true))
             term q hq (inr e) (inr k) true t =
                 ap (λ (h : Bool). pick (row q) (pick h 1)) (free-hangs q i hq (other-free G B Q r at q hr (v .word) hq e t) ∙ ne-eqb i q (λ j. k (sym j))) ∙ pick-none (row q)
-                ∙ sym (ap (λ (a : Bool). pick a (pick (row i) 1)) (ap₂ xor (ne-eqb q at e) (ne-eqb q i k) ∙ xor-off false))
+                ∙ sym (ap (λ (a : Bool). pick a (pick (row i) 1)) (ap₂ xor (ne-eqb q at e) (ne-eqb q i k) ∙ xor-false false))
             term q hq (inr e) (inr k) false t =
                 ap (λ (a : Bool). pick a (pick (D (pivotOf plan q) i) 1)) t
-                ∙ sym (ap (λ (a : Bool). pick a (pick (row i) 1)) (ap₂ xor (ne-eqb q at e) (ne-eqb q i k) ∙ xor-off false))
+                ∙ sym (ap (λ (a : Bool). pick a (pick (row i) 1)) (ap₂ xor (ne-eqb q at e) (ne-eqb q i k) ∙ xor-false false))
 
         go : Done lr′ rest words r → sum row (λ q. pick (D (pivotOf plan q) i) 1) pivots ≡ 0
         go (inl e) = sum-none row (λ q. pick (D (pivotOf plan q) i) 1) pivots (λ q h. e .clear q (omega (arith, G .room)))
@@ -332,8 +321,20 @@ module _ {c : Checks} {w : ℕ} {block marks plan y l lr d lr′ d′ : List ℕ
         moved-sum (rowBit lr′ (r * (words + 1))) (pivotOf plan) b pivots hb (λ q h. G .made .pivot q h .position) (row-moved r hr) ∙ x-solves G B Q A consistent r b hr hb)
 
     moved-differs : (p : ℕ) → p < c .n → D p i ≡ true → Differs c w block marks x p
-    moved-differs p hp t = (moved, (moved-agrees, (0, (G .some, λ e.
-        add-ne 1 (λ k. omega arith) (byteAt w x 0 p) (sym e ∙ moved-byte p 0 hp (G .some) ∙ ap (λ (k : Bool). byteAt w x 0 p ⊕ pick (eqb 0 0) (pick k 1)) t)))))
+    moved-differs p hp t = (
+      moved,
+      (
+        moved-agrees,
+        (
+          0,
+          (
+            G .some,
+            λ e.
+                add-ne 1 (λ k. omega arith) (byteAt w x 0 p) (sym e ∙ moved-byte p 0 hp (G .some) ∙ ap (λ (k : Bool). byteAt w x 0 p ⊕ pick (eqb 0 0) (pick k 1)) t),
+          ),
+        ),
+      ),
+    )
 
   -- a position that hangs on a pivot
   pub undetermined : ((t : ℕ) → getD x t 0 < 256) → Consistent lr′ d′ rest words w → (p : ℕ) → p < c .n → DeterminedIs l″ words early (kindOf plan′ p) false → Differs c w block marks x p

@@ -11,7 +11,7 @@ use lib.Dec.{eqb}
 use lib.ListN.{length, getD}
 use Rattle.algebra.specs.Codeword.{Checks, byteAt}
 use Rattle.algebra.specs.Closing.{Verdict, whole, ambiguous, inconsistent, heard, verdict, symbolsAfter, marksAfter, count}
-use Rattle.algebra.specs.Demand.{Agreeing, JustOne, Two, Common, Closes}
+use Rattle.algebra.specs.Demand.{JustOne, Two, Common, Closes}
 use Rattle.algebra.proofs.Lists.{eqb-iff}
 use Rattle.algebra.proofs.Agreeing.{agreeing-equal}
 use Rattle.algebra.proofs.Counts.{count-none}

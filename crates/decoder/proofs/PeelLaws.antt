@@ -4,7 +4,7 @@ use mathlib.Core.Path.{_≡_, refl, sym, ap, _∙_, subst, subst⁻¹}
 use mathlib.Core.Logic.{_≢_, _⊎_, inl, inr}
 use mathlib.Core.Bool.{Bool, true, false, cond}
 use mathlib.Core.List.{List}
-use Prim.Native.Nat.{ℕ, zero, _+_, _-_, _*_, _<_, _≤_}
+use Prim.Native.Nat.{ℕ, _+_, _-_, _*_, _<_, _≤_}
 use native.Mathlib.Decide.{ℕ-discrete, decLt}
 use native.Mathlib.Omega.{arith}
 use lib.Dec.{eqb}
@@ -21,7 +21,9 @@ use Rattle.decoder.specs.Plan.{kindOf, pivotOf, rowOf, positionOf, usedB
 use Rattle.decoder.specs.Values.{rowSum}
 use Rattle.decoder.specs.Peel.{Opened, SingleIs, NextOpen, State}
 use Rattle.decoder.specs.declared.peel.Progress.{Progress}
-use Rattle.decoder.proofs.PlanLaws.{Settled, Deferred, settled, free-all, free-same, free-used, free-some}
+use Rattle.decoder.proofs.PlanLaws.{Settled, Deferred, settled}
+use Rattle.decoder.proofs.StepLaws.{few-steps}
+use Rattle.decoder.proofs.UnusedRows.{free-all, free-same, free-settled, free-some}
 use Rattle.decoder.proofs.RowRest.{sum-rest, rest-inside, rest-ne, row-has}
 use Rattle.decoder.proofs.SymbolLaws.{replaced-other}
 
@@ -101,11 +103,8 @@ module _ {c : Checks} {w : ℕ} {block marks plan symbols plan′ symbols′ : L
   closed-kept : (p : ℕ) → p < c .n → kindOf plan p ≢ 65535 → kindOf plan′ p ≡ kindOf plan p
   closed-kept p h d = K .kinds p h (closed-apart p d)
 
-  few-steps : g .steps ≤ 1024
-  few-steps = omega (arith, S .made .steps-free, S .made .rows)
-
   before-closed : (t p : ℕ) → t < g .steps → Before plan (g .early) t p → kindOf plan p ≢ 65535
-  before-closed t p h (inl l) e = omega (arith, few-steps)
+  before-closed t p h (inl l) e = omega (arith, few-steps (S .made))
   before-closed t p h (inr l) e = omega (arith, l .1 .1)
 
   before-kept : (early′ t p : ℕ) → t < g .steps → p < c .n → (g .early ≤ t → early′ ≤ t) → Before plan (g .early) t p → Before plan′ early′ t p
@@ -118,7 +117,7 @@ module _ {c : Checks} {w : ℕ} {block marks plan symbols plan′ symbols′ : L
   step-kept : (early′ t : ℕ) → t < g .steps → (g .early ≤ t → early′ ≤ t) → Step c marks plan′ early′ t
   step-kept early′ t h e =
       let s = S .made .step t h in
-      let d : kindOf plan (positionOf plan t) ≢ 65535 = λ f. omega (arith, s .kind, few-steps) in
+      let d : kindOf plan (positionOf plan t) ≢ 65535 = λ f. omega (arith, s .kind, few-steps (S .made)) in
       step-at (rowOf plan t) (positionOf plan t) (K .row-same t h) (K .position-same t h) (s .row) (s .position) (s .missing)
       (closed-kept (positionOf plan t) (s .position) d ∙ s .kind) (s .has) (λ p hp i n. before-kept early′ t p h hp e (s .others p hp i n))
 
@@ -176,7 +175,7 @@ module _ {c : Checks} {w : ℕ} {block marks plan symbols plan′ symbols′ : L
   row-closed t p h hp i = go (ℕ-discrete p (positionOf plan t))
     where
       go : Dec (p ≡ positionOf plan t) → kindOf plan p ≢ 65535
-      go (yes e) f = let k : kindOf plan p ≡ t + 1 = ap (λ (q : ℕ). kindOf plan q) e ∙ S .made .step t h .kind in omega (arith, few-steps)
+      go (yes e) f = let k : kindOf plan p ≡ t + 1 = ap (λ (q : ℕ). kindOf plan q) e ∙ S .made .step t h .kind in omega (arith, few-steps (S .made))
       go (no d) f = before-closed t p h (S .made .step t h .others p hp i d) f
 
   holds-kept : (t b : ℕ) → t < g .steps → b < w → rowSum c w symbols′ (rowOf plan′ t) b ≡ 0
@@ -348,7 +347,7 @@ module _ {c : Checks} {w : ℕ} {block marks plan symbols : List ℕ} {g : Progr
                   rows = S .made .rows;
                   early-steps = early-fits S early′ e;
                   pivots-few = S .made .pivots-few;
-                  steps-free = omega (arith, S .made .steps-free, free-used plan plan′ r (c .m) hr un (T .used) used-same);
+                  steps-free = omega (arith, S .made .steps-free, free-settled plan plan′ r (c .m) hr un (T .used) used-same);
                   known = known-kept S settle-keeps;
                   sort = settle-sort;
                   step = settle-step;

@@ -1,18 +1,13 @@
--- How a plan's array changes by a step and by a pivot, and how many check rows no step used.
+-- How a plan's array changes by a step and by a pivot.
 -- Assumes nothing.
-use mathlib.Core.Path.{_≡_, refl, sym, ap, _∙_, subst⁻¹}
+use mathlib.Core.Path.{_≡_, ap, _∙_}
 use mathlib.Core.Logic.{_≢_}
-use mathlib.Core.Bool.{Bool, true, false, cond}
 use mathlib.Core.List.{List}
-use Prim.Native.Nat.{ℕ, zero, suc, _+_, _<_}
-use native.Mathlib.Nat.{not-suc-le-zero, le-trans, le-suc}
-use native.Mathlib.Decide.{ℕ-discrete}
+use Prim.Native.Nat.{ℕ, _+_, _<_}
 use native.Mathlib.Omega.{arith}
-use lib.Dec.{eqb}
 use lib.ListN.{length, getD, set, length-set}
 use lib.Seq.{getD-set-same, getD-set-other}
-use borrow.Author.Tests.{eq-eqb, ne-eqb}
-use Rattle.decoder.specs.Plan.{kindOf, pivotOf, rowOf, positionOf, usedBy, free}
+use Rattle.decoder.specs.Plan.{kindOf, pivotOf, rowOf, positionOf, usedBy}
 
 -- step t is entered: check row r, position p
 pub record Settled (plan plan′ : List ℕ) (t r p : ℕ) : Type 0 where
@@ -72,54 +67,3 @@ module _ (plan : List ℕ) (s x : ℕ) (size : length plan ≡ 9216) (hs : s < 3
     where
       at : (k : ℕ) → k ≢ x → getD plan′ k 0 ≡ getD (set plan (3072 + s) x) k 0
       at k h = ap (λ (l : List ℕ). getD l k 0) e ∙ getD-set-other (set plan (3072 + s) x) x k (1025 + s) 0 h
-
--- ---- how many check rows no step used
-
-pub free-suc : (plan : List ℕ) (j : ℕ) → free plan (suc j) ≡ cond (eqb (usedBy plan j) 0) (suc (free plan j)) (free plan j)
-unfolding free
-free-suc plan j = refl
-
-pub free-all : (plan : List ℕ) (m : ℕ) → ((j : ℕ) → j < m → usedBy plan j ≡ 0) → free plan m ≡ m
-unfolding free
-free-all plan zero h = refl
-free-all plan (suc m) h =
-    ap (λ (b : Bool). cond b (suc (free plan m)) (free plan m)) (eq-eqb (usedBy plan m) 0 (h m (omega arith))) ∙ ap suc (free-all plan m (λ j l. h j (le-trans l (le-suc m))))
-
-pub free-same : (plan plan′ : List ℕ) (m : ℕ) → ((j : ℕ) → j < m → usedBy plan′ j ≡ usedBy plan j) → free plan′ m ≡ free plan m
-unfolding free
-free-same plan plan′ zero h = refl
-free-same plan plan′ (suc m) h =
-    let f = free-same plan plan′ m (λ j l. h j (le-trans l (le-suc m))) in
-    ap (λ (x : ℕ). cond (eqb x 0) (suc (free plan′ m)) (free plan′ m)) (h m (omega arith)) ∙ ap (λ (x : ℕ). cond (eqb (usedBy plan m) 0) (suc x) x) f
-
--- one more is used
-pub free-used : (plan plan′ : List ℕ) (r m : ℕ) → r < m → usedBy plan r ≡ 0 → usedBy plan′ r ≡ 1 → ((j : ℕ) → j < m → j ≢ r → usedBy plan′ j ≡ usedBy plan j)
-    → suc (free plan′ m) ≡ free plan m
-free-used plan plan′ r zero h u u′ e = absurd (not-suc-le-zero h)
-free-used plan plan′ r (suc m) h u u′ e = go (ℕ-discrete m r) (λ l. free-used plan plan′ r m l u u′ (λ j g. e j (le-trans g (le-suc m))))
-  where
-    go : Dec (m ≡ r) → (r < m → suc (free plan′ m) ≡ free plan m) → suc (free plan′ (suc m)) ≡ free plan (suc m)
-    go (yes d) ih =
-        let s : free plan′ m ≡ free plan m = free-same plan plan′ m (λ j l. e j (le-trans l (le-suc m)) (λ f. omega arith)) in
-        ap suc (free-suc plan′ m ∙ ap (λ (b : Bool). cond b (suc (free plan′ m)) (free plan′ m)) (ne-eqb (usedBy plan′ m) 0 (λ f. let k : usedBy plan′ m ≡ 1 = ap (usedBy plan′) d ∙ u′ in omega arith)) ∙ s)
-        ∙ sym (free-suc plan m ∙ ap (λ (b : Bool). cond b (suc (free plan m)) (free plan m)) (eq-eqb (usedBy plan m) 0 (ap (usedBy plan) d ∙ u)))
-    go (no d) ih =
-        ap suc (free-suc plan′ m ∙ ap (λ (x : ℕ). cond (eqb x 0) (suc (free plan′ m)) (free plan′ m)) (e m (omega arith) d))
-        ∙ count (eqb (usedBy plan m) 0) (ih (omega arith)) ∙ sym (free-suc plan m)
-      where
-        count : (b : Bool) → suc (free plan′ m) ≡ free plan m → suc (cond b (suc (free plan′ m)) (free plan′ m)) ≡ cond b (suc (free plan m)) (free plan m)
-        count true f = ap suc f
-        count false f = f
-
--- an unused one counts
-pub free-some : (plan : List ℕ) (r m : ℕ) → r < m → usedBy plan r ≡ 0 → 0 < free plan m
-free-some plan r zero h u = absurd (not-suc-le-zero h)
-free-some plan r (suc m) h u = subst⁻¹ (λ (k : ℕ). 0 < k) (free-suc plan m) (go (ℕ-discrete m r) (λ l. free-some plan r m l u))
-  where
-    more : (b : Bool) → 0 < free plan m → 0 < cond b (suc (free plan m)) (free plan m)
-    more true l = omega arith
-    more false l = l
-
-    go : Dec (m ≡ r) → (r < m → 0 < free plan m) → 0 < cond (eqb (usedBy plan m) 0) (suc (free plan m)) (free plan m)
-    go (yes d) ih = subst⁻¹ (λ (b : Bool). 0 < cond b (suc (free plan m)) (free plan m)) (eq-eqb (usedBy plan m) 0 (ap (usedBy plan) d ∙ u)) (omega arith)
-    go (no d) ih = more (eqb (usedBy plan m) 0) (ih (omega arith))

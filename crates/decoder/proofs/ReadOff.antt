@@ -1,14 +1,13 @@
 -- What is read off the reduced rows of the check rows that no step used: whether a codeword agrees, one that does, and that all that agree are the
 -- same where every pivot is solved. lr′ are the reduced rows and d′ their right-hand sides; lw has the reduced rows behind those of the steps.
 -- Assumes nothing.
-use mathlib.Core.Path.{_≡_, refl, sym, ap, ap₂, _∙_, subst}
+use mathlib.Core.Path.{_≡_, refl, sym, ap, _∙_, subst}
 use mathlib.Core.Logic.{_⊎_, _≢_, _↔_, inl, inr}
-use mathlib.Core.Bool.{Bool, true, false, false≢true, cond}
+use mathlib.Core.Bool.{Bool, true, false, false≢true}
 use mathlib.Core.List.{List}
 use Prim.Native.Nat.{ℕ, zero, suc, _+_, _-_, _*_, _<_, _≤_, zero-le}
 use native.Mathlib.Numerals.{add-one}
 use native.Mathlib.Omega.{arith}
-use lib.Dec.{eqb}
 use lib.ListN.{getD}
 use Rattle.algebra.specs.Sums.{_⊕_, sum}
 use Rattle.algebra.specs.Codeword.{Checks, byteAt}
@@ -21,11 +20,13 @@ use Rattle.rows.specs.Reduced.{pivotWord, Done, Reduced}
 use Rattle.rows.specs.Fill.{Consistent, Fails}
 use Rattle.rows.proofs.FillLaws.{word-pivot}
 use Rattle.rows.proofs.Order.{lt-or-le, eq-or-ne}
-use Rattle.decoder.specs.Plan.{kindOf, rowOf, positionOf, pivotOf, usedBy, free, Before, Step, Sort, Plan, Closed, Unsolved}
+use Rattle.decoder.specs.Plan.{kindOf, rowOf, positionOf, pivotOf, usedBy, Before, Step, Sort, Plan, Closed, Unsolved}
 use Rattle.decoder.specs.Values.{StepsHold, Values, Again}
 use Rattle.decoder.specs.Express.{Places, StepsExpressed}
 use Rattle.decoder.specs.Pivots.{Solved, Free, Put, AllSolvedIs}
 use Rattle.decoder.proofs.Triangle.{sum-single, expressed, plan-triangular}
+use Rattle.decoder.proofs.StepLaws.{few-steps, IsPivot, kind-cases}
+use Rattle.decoder.proofs.UnusedRows.{free-same}
 use Rattle.decoder.proofs.Solutions.{System, Along, agreeing-along, agrees-iff, high-absent}
 
 pub clash : {b : Bool} → b ≡ true → b ≡ false → ⊥
@@ -55,10 +56,6 @@ module _ (l : List ℕ) (m words : ℕ) (red : Reduced l m words m) where
 
 -- ---- the kinds of a plan in which no position is open
 
--- position p is a pivot
-abbrev pub IsPivot : List ℕ → ℕ → ℕ → Type 0
-IsPivot plan pivots p = (u : ℕ) × ((u < pivots) × (pivotOf plan u ≡ p))
-
 -- a pivot's place in a row, as Places asks
 abbrev Place : Checks → List ℕ → List ℕ → ℕ → ℕ → ℕ → Type 0
 Place c plan l words steps p = (kindOf plan p ≤ 4096 → kindOf plan p - 1025 < 64 * words)
@@ -66,31 +63,15 @@ Place c plan l words steps p = (kindOf plan p ≤ 4096 → kindOf plan p - 1025 
     × ((kindOf plan p - 4097 < c .m) × ((0 < pivotWord l words (kindOf plan p - 4097)) × (pivotWord l words (kindOf plan p - 4097) ≤ 64 * words))))
 
 module _ {c : Checks} {marks plan : List ℕ} {early steps pivots : ℕ} (P : Plan c marks plan early steps pivots) (closed : Closed c plan) where
-  pub steps-few : steps ≤ 1024
-  steps-few = omega (arith, P .steps-free, P .rows)
-
-  -- a position is known or settled by a step, or is a pivot
-  pub kind-cases : (p : ℕ) → p < c .n → (kindOf plan p ≤ steps) ⊎ IsPivot plan pivots p
-  kind-cases p hp = go (heard marks p) refl
-    where
-      sorted : Sort plan steps pivots p → (kindOf plan p ≤ steps) ⊎ IsPivot plan pivots p
-      sorted (inl e) = absurd (closed p hp e)
-      sorted (inr (inl (t, (ht, e)))) = let k : kindOf plan p ≡ t + 1 = ap (kindOf plan) (sym e) ∙ P .step t ht .kind in inl (omega arith)
-      sorted (inr (inr s)) = inr s
-
-      go : (b : Bool) → heard marks p ≡ b → (kindOf plan p ≤ steps) ⊎ IsPivot plan pivots p
-      go true e = inl (omega (arith, P .known p hp e))
-      go false e = sorted (P .sort p hp e)
-
   -- before any pivot is solved, each has its place in a row
   pub places-unsolved : Unsolved plan pivots → (l : List ℕ) (words : ℕ) → pivots ≤ 64 * words → Places c plan l words steps (c .m)
-  places-unsolved U l words room p hp h = go (kind-cases p hp)
+  places-unsolved U l words room p hp h = go (kind-cases P closed p hp)
     where
       kind : (u : ℕ) → u < pivots → pivotOf plan u ≡ p → (kindOf plan p ≡ 1025 + u) × (u < 3072)
       kind u hu e = (ap (kindOf plan) (sym e) ∙ U u hu, omega (arith, P .pivots-few, P .positions))
 
       go : (kindOf plan p ≤ steps) ⊎ IsPivot plan pivots p → Place c plan l words steps p
-      go (inl k) = absurd (omega (arith, steps-few))
+      go (inl k) = absurd (omega (arith, few-steps P))
       go (inr (u, (hu, e))) = let k = kind u hu e in (λ s. omega (arith, k .0), λ s. absurd (omega (arith, k .0, k .1)))
 
 -- ---- the setting: the symbols along a plan that is made, and the reduced rows
@@ -143,17 +124,12 @@ module _ {c : Checks} {w : ℕ} {block marks plan y l lr d lr′ d′ : List ℕ
           absurd (clash (p .1) (G .same .absent u (p .0)
           (high-absent (G .made) (G .closed) (G .unsolved) (G .values) (G .step-rows) (G .system) (G .room) u h (p .0)) i hi))
 
-  pub words-below : (i : ℕ) → i < rest → pivotWord lr′ words i ≤ pivots
+  words-below : (i : ℕ) → i < rest → pivotWord lr′ words i ≤ pivots
   words-below i hi = go (pivotWord lr′ words i) refl
     where
       go : (k : ℕ) → pivotWord lr′ words i ≡ k → k ≤ pivots
       go zero e = zero-le
       go (suc u) e = pivot-below i u hi (e ∙ sym (add-one u))
-
-  pub words-apart : (i k : ℕ) → i < rest → k < rest → 0 < pivotWord lr′ words i → pivotWord lr′ words i ≡ pivotWord lr′ words k → i ≡ k
-  words-apart i k hi hk h e =
-      let u : ℕ = pivotWord lr′ words i - 1 in
-      same-row lr′ rest words (G .reduced) i k u hi hk (omega arith) (omega arith)
 
   -- the same of the rows in lw, as `put` asks
   module _ {lw : List ℕ} (behind : Behind lr′ lw words steps rest) where
@@ -162,10 +138,6 @@ module _ {c : Checks} {w : ℕ} {block marks plan y l lr d lr′ d′ : List ℕ
 
     pub behind-below : (i : ℕ) → i < rest → pivotWord lw words (steps + i) ≤ pivots
     behind-below i h = rw (word-behind i h) (words-below i h)
-
-    pub behind-apart : (i k : ℕ) → i < rest → k < rest → 0 < pivotWord lw words (steps + i) → pivotWord lw words (steps + i) ≡ pivotWord lw words (steps + k) → i ≡ k
-    behind-apart i k hi hk h e =
-        words-apart i k hi hk (omega (arith, word-behind i hi)) (sym (word-behind i hi) ∙ e ∙ word-behind k hk)
 
     -- ---- the plan after Put: only kinds of pivots changed
 
@@ -192,7 +164,7 @@ module _ {c : Checks} {w : ℕ} {block marks plan y l lr d lr′ d′ : List ℕ
 
       -- a known position, or one that a step settles, is no pivot
       not-pivot : (p : ℕ) → kindOf plan p ≤ steps → (u : ℕ) → u < pivots → p ≢ pivotOf plan u
-      not-pivot p h u hu e = let k : kindOf plan p ≡ 1025 + u = ap (kindOf plan) e ∙ G .unsolved u hu in omega (arith, steps-few P (G .closed))
+      not-pivot p h u hu e = let k : kindOf plan p ≡ 1025 + u = ap (kindOf plan) e ∙ G .unsolved u hu in omega (arith, few-steps P)
 
       -- so its kind stays
       pub kind-same : (p : ℕ) → kindOf plan p ≤ steps → kindOf plan′ p ≡ kindOf plan p
@@ -210,18 +182,13 @@ module _ {c : Checks} {w : ℕ} {block marks plan y l lr d lr′ d′ : List ℕ
       before-put t p ht hp b = go (kind-cases P (G .closed) p hp) b
         where
           few : steps ≤ 1024
-          few = steps-few P (G .closed)
+          few = few-steps P .1
 
           go : (kindOf plan p ≤ steps) ⊎ IsPivot plan pivots p → Before plan early t p → Before plan′ early t p
           go (inl k) (inl h) = inl (omega (arith, kind-same p k))
           go (inl k) (inr h) = absurd (omega (arith, few, h .1 .0))
           go (inr (u, (hu, q))) (inl h) = let k : kindOf plan p ≡ 1025 + u = ap (kindOf plan) (sym q) ∙ G .unsolved u hu in absurd (omega (arith, few))
           go (inr (u, (hu, q))) (inr h) = inr (h .0, subst (λ (x : ℕ). (1024 < kindOf plan′ x) × (kindOf plan′ x < 65535)) q (pivot-kind u hu))
-
-      free-same : (j : ℕ) → free plan′ j ≡ free plan j
-      unfolding free
-      free-same zero = refl
-      free-same (suc j) = ap₂ (λ (a b : ℕ). cond (eqb a 0) (suc b) b) (table-same (8192 + j) (omega arith)) (free-same j)
 
       pub row-same : (t : ℕ) → rowOf plan′ t ≡ rowOf plan t
       row-same t = table-same (6144 + t) (omega arith)
@@ -252,7 +219,7 @@ module _ {c : Checks} {w : ℕ} {block marks plan y l lr d lr′ d′ : List ℕ
           rows = P .rows;
           early-steps = P .early-steps;
           pivots-few = P .pivots-few;
-          steps-free = ap (λ (x : ℕ). steps + x) (free-same (c .m)) ∙ P .steps-free;
+          steps-free = ap (λ (x : ℕ). steps + x) (free-same plan plan′ (c .m) (λ j h. table-same (8192 + j) (omega arith))) ∙ P .steps-free;
           known = λ p hp e. kind-same p (omega (arith, P .known p hp e)) ∙ P .known p hp e;
           sort = λ p hp e. sorted p hp (P .sort p hp e);
           step = step-put;
@@ -276,7 +243,7 @@ module _ {c : Checks} {w : ℕ} {block marks plan y l lr d lr′ d′ : List ℕ
           used-put j (inr (t, (ht, e))) = inr (t, (ht, row-same t ∙ e))
 
           shut : (p : ℕ) → kindOf plan′ p ≡ 65535 → (kindOf plan p ≤ steps) ⊎ IsPivot plan pivots p → ⊥
-          shut p e (inl k) = omega (arith, kind-same p k, steps-few P (G .closed))
+          shut p e (inl k) = omega (arith, kind-same p k, few-steps P)
           shut p e (inr (u, (hu, q))) = let k : kindOf plan′ (pivotOf plan u) ≡ 65535 = ap (kindOf plan′) q ∙ e in omega (arith, pivot-kind u hu)
 
       -- what `peel::again` asks: the steps before `early` have no pivot in their rows, so these still hold
@@ -312,7 +279,7 @@ module _ {c : Checks} {w : ℕ} {block marks plan y l lr d lr′ d′ : List ℕ
               (λ q. omega (arith, G .room), λ q. absurd (omega (arith, pivot-few u hu)))
 
           go : (kindOf plan p ≤ steps) ⊎ IsPivot plan pivots p → Place c plan′ lw words steps p
-          go (inl k) = absurd (omega (arith, kind-same p k, steps-few P (G .closed)))
+          go (inl k) = absurd (omega (arith, kind-same p k, few-steps P))
           go (inr (u, (hu, e))) = pivot u hu e (Q .pivot u hu)
 
       -- ---- pivots that are solved, and free ones

@@ -1,28 +1,29 @@
 -- Restoring: the numbers of a row other than p, and the sums of the rows after a symbol was restored.
 -- Assumes nothing.
 use mathlib.Core.Path.{_≡_, refl, sym, ap, ap₂, _∙_, subst}
-use mathlib.Core.Logic.{_⊎_, inl, inr, _≢_, ⊎-elim}
+use mathlib.Core.Logic.{_⊎_, _≢_, ⊎-elim}
 use mathlib.Core.Bool.{Bool, true, false, not, _&&_, cond}
 use mathlib.Core.List.{List}
 use Prim.Native.Nat.{ℕ, _+_, _*_, _<_, _≤_}
 use native.Mathlib.Nat.{not-suc-le-zero, le-refl}
 use native.Mathlib.Numerals.{add-one}
-use native.Mathlib.Decide.{decLt, ℕ-discrete}
+use native.Mathlib.Decide.{decLt}
 use native.Mathlib.Omega.{arith}
 use lib.Dec.{eqb}
 use lib.ListN.{length, getD, set, length-set}
 use lib.Seq.{getD-set-same, getD-set-other}
-use borrow.Author.Tests.{eq-eqb, ne-eqb, eqb-true}
+use borrow.Author.Tests.{eq-eqb, ne-eqb, eqb-true, eqb-false}
 use Rattle.algebra.specs.Sums.{_⊕_, pick, sum}
 use Rattle.algebra.specs.Codeword.{Checks, byteAt}
 use Rattle.algebra.proofs.Sums as sums
 use Rattle.algebra.proofs.Lists.{and-iff}
-use Rattle.algebra.proofs.Codeword.{slot}
 use Rattle.buffers.specs.Gather.{gathered, Inside, Replaced}
 use Rattle.ccsds.specs.Positions.{RowOf}
 use Rattle.decoder.specs.Plan.{kindOf, rowOf, positionOf, Step, Plan}
 use Rattle.decoder.specs.Values.{rowSum, StepsHold, Again}
 use Rattle.decoder.specs.Unused.{Others}
+use Rattle.decoder.proofs.StepLaws.{few-steps, step-apart}
+use Rattle.decoder.proofs.SymbolLaws.{replaced-other}
 use Rattle.decoder.proofs.CodeSizes.{row-inside}
 
 -- f, and 0 at p
@@ -120,18 +121,6 @@ module _ {c : Checks} {j n k p : ℕ} {xs xs′ : List ℕ} (r : RowOf c j n xs)
 
 -- ---- a symbol that was replaced
 
-pub replaced-by : {f g : ℕ → ℕ} {w p : ℕ} {s s′ : List ℕ} → ((b : ℕ) → f b ≡ g b) → Replaced f w p s s′ → Replaced g w p s s′
-replaced-by e h = record { size = h .size; outside = h .outside; each = λ b l. h .each b l ∙ e b }
-
--- the others are as they were
-replaced-other : {f : ℕ → ℕ} {w p : ℕ} {s s′ : List ℕ} → Replaced f w p s s′ → (i b : ℕ) → b < w → i ≢ p → byteAt w s′ b i ≡ byteAt w s b i
-replaced-other {f} {w} {p} {s} {s′} h i b l ne = go (decLt i p) (decLt p i)
-  where
-    go : Dec (i < p) → Dec (p < i) → byteAt w s′ b i ≡ byteAt w s b i
-    go (yes d) _ = h .outside (i * w + b) (inl (omega (arith, slot i p w d)))
-    go (no d) (yes e) = h .outside (i * w + b) (inr (omega (arith, slot p i w e)))
-    go (no d) (no e) = let q : i ≡ p = omega arith in absurd (ne q)
-
 -- a sum by one of its positions and the others
 sum-without : (a : ℕ → Bool) (f : ℕ → ℕ) (p n : ℕ) → p < n → a p ≡ true → sum a f n ≡ sum a (without p f) n ⊕ f p
 sum-without a f p n l t =
@@ -155,36 +144,17 @@ module _ (c : Checks) (w j p : ℕ) {s s′ : List ℕ} (h : Replaced (λ b. sum
     where
       same : (x : ℕ) (e : Bool) → eqb x p ≡ e → cond e 0 (byteAt w s′ b x) ≡ cond e 0 (byteAt w s b x)
       same x true q = refl
-      same x false q = replaced-other h x b g (λ z. absurd (clash (eqb x p) (eq-eqb x p z) q))
-        where
-          clash : (y : Bool) → y ≡ true → y ≡ false → ⊥
-          clash y a d = let z : _≡_ {A = ℕ} 0 1 = cc in omega arith
+      same x false q = replaced-other h x b (eqb-false x p q) g
 
   -- a row that doesn't have it is as it was
   other-row : (i : ℕ) → ((x : ℕ) → x < c .n → c .has i x ≡ true → x ≢ p) → (b : ℕ) → b < w → rowSum c w s′ i b ≡ rowSum c w s i b
-  other-row i n b g = sums.sum-cong (c .has i) (c .has i) (byteAt w s′ b) (byteAt w s b) (c .n) (λ x l. refl) (λ x l t. replaced-other h x b g (n x l t))
+  other-row i n b g = sums.sum-cong (c .has i) (c .has i) (byteAt w s′ b) (byteAt w s b) (c .n) (λ x l. refl) (λ x l t. replaced-other h x b (n x l t) g)
 
 -- ---- step after step
 
 module _ (c : Checks) (w : ℕ) {marks plan : List ℕ} {early steps pivots : ℕ} (made : Plan c marks plan early steps pivots) where
   pub again-none : {s : List ℕ} → StepsHold c w plan s early → Again c w plan s s early early
   again-none h = record { size = refl; same = λ p b l g k. refl; holds = h }
-
-  pub step-below : (t : ℕ) → t < steps → t < 1024
-  step-below t h = omega (arith, made .steps-free, made .rows)
-
-  -- the rows of earlier steps don't have the position of step t
-  apart : (t i : ℕ) → t < steps → i < t → (x : ℕ) → x < c .n → c .has (rowOf plan i) x ≡ true → x ≢ positionOf plan t
-  apart t i h l x k has q = go (ℕ-discrete x (positionOf plan i))
-    where
-      kind : kindOf plan x ≡ t + 1
-      kind = ap (kindOf plan) q ∙ made .step t h .kind
-
-      go : Dec (x ≡ positionOf plan i) → ⊥
-      go (yes e) =
-          let z : kindOf plan x ≡ i + 1 = ap (kindOf plan) e ∙ made .step i (omega arith) .kind in
-          omega (arith, kind)
-      go (no e) = ⊎-elim (λ b. omega (arith, kind)) (λ b. omega (arith, kind, b .1 .0, step-below t h)) (made .step i (omega arith) .others x k has e)
 
   pub again-more : {s₀ s s′ : List ℕ} {t : ℕ} → early ≤ t → t < steps → Again c w plan s₀ s early t
       → Replaced (λ b. sum (c .has (rowOf plan t)) (without (positionOf plan t) (byteAt w s b)) (c .n)) w (positionOf plan t) s s′ → Again c w plan s₀ s′ early (t + 1)
@@ -194,16 +164,16 @@ module _ (c : Checks) (w : ℕ) {marks plan : List ℕ} {early steps pivots : �
       own = made .step t h
 
       same : (p b : ℕ) → p < c .n → b < w → (kindOf plan p ≤ early) ⊎ (1024 < kindOf plan p) → byteAt w s′ b p ≡ byteAt w s₀ b p
-      same p b l g k = replaced-other r p b g (λ q. ne q k) ∙ a .same p b l g k
+      same p b l g k = replaced-other r p b (λ q. ne q k) g ∙ a .same p b l g k
         where
           ne : p ≡ positionOf plan t → (kindOf plan p ≤ early) ⊎ (1024 < kindOf plan p) → ⊥
-          ne q k = let z : kindOf plan p ≡ t + 1 = ap (kindOf plan) q ∙ own .kind in ⊎-elim (λ d. omega arith) (λ d. omega (arith, step-below t h)) k
+          ne q k = let z : kindOf plan p ≡ t + 1 = ap (kindOf plan) q ∙ own .kind in ⊎-elim (λ d. omega arith) (λ d. omega (arith, few-steps made)) k
 
       holds : StepsHold c w plan s′ (t + 1)
       holds i b l g = go (decLt i t)
         where
           go : Dec (i < t) → rowSum c w s′ (rowOf plan i) b ≡ 0
-          go (yes d) = other-row c w (rowOf plan t) (positionOf plan t) r (rowOf plan i) (apart t i h d) b g ∙ a .holds i b d g
+          go (yes d) = other-row c w (rowOf plan t) (positionOf plan t) r (rowOf plan i) (step-apart made t i h d) b g ∙ a .holds i b d g
           go (no d) =
               let q : i ≡ t = omega arith in
               ap (λ (y : ℕ). rowSum c w s′ (rowOf plan y) b) q ∙ restored-row c w (rowOf plan t) (positionOf plan t) r (own .position) (own .has) b g

@@ -2,16 +2,15 @@
 -- Assumes nothing.
 use mathlib.Core.Path.{_≡_, refl, sym, ap, ap₂, _∙_}
 use mathlib.Core.Logic.{_⊎_, inl, inr, _≢_, ⊎-elim}
-use mathlib.Core.Bool.{Bool, true, false, cond, xor}
+use mathlib.Core.Bool.{Bool, true, false, xor}
 use mathlib.Core.List.{List}
 use Prim.Native.Nat.{ℕ, _+_, _-_, _*_, _/_, _%_, _^_, _<_, _≤_}
 use native.Mathlib.Omega.{arith}
-use borrow.Author.Tests.{eq-eqb, ne-eqb, lt-ltb, le-ltb}
-use lib.Dec.{eqb, ltb}
+use borrow.Author.Tests.{eq-eqb, ne-eqb}
+use lib.Dec.{eqb}
 use lib.ListN.{length, getD, set, length-set}
 use lib.Seq.{getD-set-same, getD-set-other}
-use Rattle.algebra.specs.Sums.{_⊕_, pick}
-use Rattle.algebra.proofs.Codeword.{slot}
+use Rattle.algebra.specs.Sums.{_⊕_}
 use Rattle.buffers.specs.Parts.{added}
 use Rattle.buffers.proofs.Added.{added-length, added-out, added-in}
 use Rattle.rows.specs.Bits.{testBit, rowBit}
@@ -20,6 +19,7 @@ use Rattle.rows.proofs.Order.{lt-or-le, eq-or-ne}
 use Rattle.rows.proofs.Digits.{testBit-xor, testBit-pow}
 use Rattle.rows.proofs.SweepLaws.{rows-beside}
 use Rattle.decoder.specs.Express.{hangs, Reads, OnlyRow, Added, flipRowBit}
+use Rattle.decoder.proofs.Hanging.{hangs-none, hangs-step, hangs-pivot, hangs-solved}
 
 -- ---- tests
 
@@ -130,24 +130,6 @@ row-flipped l words t u fit h = record {
 
 -- ---- what a position of a kind hangs on
 
-module _ (l : List ℕ) (words early kind i : ℕ) where
-  pub hangs-none : kind ≤ early → hangs l words early kind i ≡ false
-  unfolding hangs
-  hangs-none h = rw (le-ltb early kind h)
-
-  pub hangs-step : early < kind → kind ≤ 1024 → hangs l words early kind i ≡ rowBit l ((kind - 1) * (words + 1)) i
-  unfolding hangs
-  hangs-step h g = rw (lt-ltb early kind h, le-ltb 1024 kind g)
-
-  pub hangs-pivot : early < kind → 1024 < kind → kind ≤ 4096 → hangs l words early kind i ≡ eqb i (kind - 1025)
-  unfolding hangs
-  hangs-pivot h g k = rw (lt-ltb early kind h, lt-ltb 1024 kind g, le-ltb 4096 kind k)
-
-  pub hangs-solved : early < kind → 4096 < kind
-      → hangs l words early kind i ≡ xor (rowBit l ((kind - 4097) * (words + 1)) i) (eqb i (pivotWord l words (kind - 4097) - 1))
-  unfolding hangs
-  hangs-solved h k = rw (lt-ltb early kind h, lt-ltb 1024 kind (omega arith), lt-ltb 4096 kind k)
-
 -- row t has a position of a kind added
 pub added-kind : {l l′ : List ℕ} {words early t kind : ℕ} {f : ℕ → Bool} → Changed l l′ words t f → ((i : ℕ) → hangs l words early kind i ≡ f i)
     → Added l l′ words early t kind
@@ -161,7 +143,7 @@ module _ (l : List ℕ) {l′ : List ℕ} (words early rows t kind : ℕ) (fit :
   add-step h g e = rw e (added-kind (row-added l words t (kind - 1) fit) (λ i. hangs-step l words early kind i h g))
 
   pub add-pivot : early < kind → 1024 < kind → kind ≤ 4096 → l′ ≡ flipRowBit l (t * (words + 1)) (kind - 1025) → Added l l′ words early t kind
-  add-pivot h g k e = rw e (added-kind (row-flipped l words t (kind - 1025) fit (r .pivot g k)) (λ i. hangs-pivot l words early kind i h g k))
+  add-pivot h g k e = rw e (added-kind (row-flipped l words t (kind - 1025) fit (r .pivot g k)) (λ i. hangs-pivot l words early kind i (kind - 1025) h (omega arith) (omega arith)))
 
   pub add-solved : {l″ : List ℕ} → early < kind → 4096 < kind → l″ ≡ added l (t * (words + 1)) l ((kind - 4097) * (words + 1)) words
       → l′ ≡ flipRowBit l″ (t * (words + 1)) (pivotWord l words (kind - 4097) - 1) → Added l l′ words early t kind
@@ -171,7 +153,7 @@ module _ (l : List ℕ) {l′ : List ℕ} (words early rows t kind : ℕ) (fit :
       let s = r .solved k .1 .1 in
       let two : Changed l″ l′ words t (λ i. eqb i (pivotWord l words (kind - 4097) - 1)) =
       rw f (row-flipped l″ words t (pivotWord l words (kind - 4097) - 1) (omega arith) (omega arith)) in
-      added-kind (changed-more one two) (λ i. hangs-solved l words early kind i h k)
+      added-kind (changed-more one two) (λ i. hangs-solved l words early kind i (kind - 4097) (pivotWord l words (kind - 4097) - 1) h (omega arith) refl)
 
 pub add-none : {l : List ℕ} {words early t kind : ℕ} → kind ≤ early → Added l l words early t kind
 add-none {l} {words} {early} {kind} h = added-kind changed-none (λ i. hangs-none l words early kind i h)
@@ -201,7 +183,8 @@ module _ {l l′ : List ℕ} {words early rows t kind : ℕ} (only : OnlyRow l l
       high : early < kind → 1024 < kind → hangs l′ words early kind i ≡ hangs l words early kind i
       high some g =
           ⊎-elim
-          (λ s. hangs-solved l′ words early kind i some s
-          ∙ ap₂ (λ (b : Bool) (x : ℕ). xor b (eqb i (x - 1))) (bit-other only (kind - 4097) i (r .solved s .0) h) (same-word s)
-          ∙ sym (hangs-solved l words early kind i some s))
-          (λ u. hangs-pivot l′ words early kind i some g u ∙ sym (hangs-pivot l words early kind i some g u)) (lt-or-le 4096 kind)
+          (λ s. hangs-solved l′ words early kind i (kind - 4097) (pivotWord l words (kind - 4097) - 1) some (omega arith) (ap (λ (x : ℕ). x - 1) (sym (same-word s)))
+          ∙ ap (λ (b : Bool). xor b (eqb i (pivotWord l words (kind - 4097) - 1))) (bit-other only (kind - 4097) i (r .solved s .0) h)
+          ∙ sym (hangs-solved l words early kind i (kind - 4097) (pivotWord l words (kind - 4097) - 1) some (omega arith) refl))
+          (λ u. hangs-pivot l′ words early kind i (kind - 1025) some (omega arith) (omega arith)
+          ∙ sym (hangs-pivot l words early kind i (kind - 1025) some (omega arith) (omega arith))) (lt-or-le 4096 kind)

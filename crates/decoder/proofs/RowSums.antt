@@ -1,27 +1,27 @@
 -- A row as the sum of the positions of a check row.
 -- Assumes nothing.
-use mathlib.Core.Path.{_≡_, refl, sym, ap, ap₂, _∙_}
-use mathlib.Core.Logic.{_≢_, ⊎-elim, inl, inr}
+use mathlib.Core.Path.{_≡_, refl, sym, ap, ap₂, _∙_, subst}
+use mathlib.Core.Logic.{_≢_}
 use mathlib.Core.Bool.{Bool, true, false, cond}
 use mathlib.Core.List.{List, _++_}
-use Prim.Native.Nat.{ℕ, suc, _+_, _-_, _*_, _/_, _%_, _<_, _≤_}
+use Prim.Native.Nat.{ℕ, _+_, _*_, _/_, _%_, _<_, _≤_}
 use native.Mathlib.Numerals.{add-one}
 use native.Mathlib.Omega.{arith}
 use borrow.Author.Tests.{eq-eqb, ne-eqb}
 use lib.Dec.{eqb}
-use lib.ListN.{length, getD, take, drop, replicate, length-append, length-drop, length-replicate, List·getD-append}
-use lib.Seq.{length-take-le, getD-append-add, getD-take, getD-drop}
+use lib.ListN.{length, getD, take, drop, replicate}
 use Rattle.algebra.specs.Sums.{_⊕_, pick, sum}
 use Rattle.algebra.specs.Codeword.{Checks}
 use Rattle.algebra.proofs.Sums.{sum-suc, sum-ext, pick-xor}
 use Rattle.buffers.specs.Gather.{gathered}
-use Rattle.buffers.proofs.Zeros.{zeros}
 use Rattle.ccsds.specs.Positions.{RowOf}
 use Rattle.rows.specs.Bits.{testBit, rowBit}
 use Rattle.rows.proofs.Digits.{testBit-none}
 use Rattle.decoder.specs.Plan.{kindOf}
 use Rattle.decoder.specs.Express.{hangs, hang, Reads, OnlyRow, Added, RowIs, kindBut, ReadsAll}
-use Rattle.decoder.proofs.RowChanges.{only-none, only-more, hangs-none, hangs-same, reads-same, add-none}
+use Rattle.decoder.proofs.Zeroing.{zeros-size, zeros-in, zeros-out, zeroed}
+use Rattle.decoder.proofs.Hanging.{hangs-none}
+use Rattle.decoder.proofs.RowChanges.{only-none, only-more, hangs-same, reads-same, add-none}
 
 -- ---- every position but p
 
@@ -41,30 +41,6 @@ module _ {c : Checks} {plan l l′ : List ℕ} {words early rows t p : ℕ} wher
 
 -- ---- a row is cleared
 
-module _ (l ys : List ℕ) (a k : ℕ) (fit : a + k ≤ length l) (size : length ys ≡ k) where
-  abbrev laid : List ℕ
-  laid = take a l ++ (ys ++ drop k (drop a l))
-
-  front : length (take a l) ≡ a
-  front = length-take-le a l (omega arith)
-
-  laid-size : length laid ≡ length l
-  laid-size = simp (length-append, length-drop) (omega (arith, front))
-
-  laid-below : (i : ℕ) → i < a → getD laid i 0 ≡ getD l i 0
-  laid-below i h = List·getD-append (take a l) (ys ++ drop k (drop a l)) 0 i (omega (arith, front)) ∙ getD-take a l i 0 h
-
-  laid-from : (i : ℕ) → getD laid (a + i) 0 ≡ getD (ys ++ drop k (drop a l)) i 0
-  laid-from i = ap (λ (x : ℕ). getD laid (x + i) 0) (sym front) ∙ getD-append-add (take a l) (ys ++ drop k (drop a l)) i 0
-
-  laid-in : (i : ℕ) → i < k → getD laid (a + i) 0 ≡ getD ys i 0
-  laid-in i h = laid-from i ∙ List·getD-append ys (drop k (drop a l)) 0 i (omega arith)
-
-  laid-above : (i : ℕ) → getD laid (a + (k + i)) 0 ≡ getD l (a + (k + i)) 0
-  laid-above i =
-      laid-from (k + i) ∙ ap (λ (x : ℕ). getD (ys ++ drop k (drop a l)) (x + i) 0) (sym size) ∙ getD-append-add ys (drop k (drop a l)) i 0
-      ∙ getD-drop k (drop a l) i 0 ∙ getD-drop a l (k + i) 0
-
 -- row t of l′ is cleared
 pub record Cleared (l l′ : List ℕ) (words t : ℕ) : Type 0 where
   pub only : OnlyRow l l′ words t
@@ -73,21 +49,10 @@ pub record Cleared (l l′ : List ℕ) (words t : ℕ) : Type 0 where
 -- k is spelled at + (words + 1) - at in the code
 pub cleared : (l ys : List ℕ) (words t k : ℕ) → k ≡ words + 1 → t * (words + 1) + (words + 1) ≤ length l → ys ≡ replicate (length (take k (drop (t * (words + 1)) l))) 0
     → Cleared l (take (t * (words + 1)) l ++ (ys ++ drop k (drop (t * (words + 1)) l))) words t
-cleared l ys words t k e fit r = record {
-  only = record {
-    size = laid-size l ys (t * (words + 1)) k (omega arith) size;
-    outside = λ i h. ⊎-elim (λ lo. laid-below l ys (t * (words + 1)) k (omega arith) size i lo) (λ hi. above i hi) h;
-  };
-  zeros = λ i h. laid-in l ys (t * (words + 1)) k (omega arith) size i (omega arith) ∙ ap (λ (x : List ℕ). getD x i 0) r ∙ zeros (length (take k (drop (t * (words + 1)) l))) i;
-}
-  where
-    size : length ys ≡ k
-    size = ap length r ∙ length-replicate (length (take k (drop (t * (words + 1)) l))) 0 ∙ length-take-le k (drop (t * (words + 1)) l) (simp length-drop (omega arith))
-
-    above : (i : ℕ) → t * (words + 1) + (words + 1) ≤ i → getD (laid l ys (t * (words + 1)) k (omega arith) size) i 0 ≡ getD l i 0
-    above i h =
-        let d : t * (words + 1) + (k + (i - (t * (words + 1) + (words + 1)))) ≡ i = omega arith in
-        rw d at (laid-above l ys (t * (words + 1)) k (omega arith) size (i - (t * (words + 1) + (words + 1))))
+cleared l ys words t k e fit r = subst (λ (x : List ℕ). Cleared l x words t) (sym (zeroed l ys (t * (words + 1)) k (words + 1) e fit r)) (record {
+  only = record { size = zeros-size l (t * (words + 1)) (words + 1); outside = zeros-out l (t * (words + 1)) (words + 1) };
+  zeros = λ i h. zeros-in l (t * (words + 1)) (words + 1) fit i (omega arith);
+})
 
 -- ---- the sum, position by position
 

@@ -2,15 +2,13 @@
 -- Assumes nothing.
 use mathlib.Core.Path.{_≡_, refl, sym, ap, ap₂, _∙_, subst}
 use mathlib.Core.Logic.{_⊎_, inl, inr, _↔_}
-use mathlib.Core.Bool.{Bool, true, false, cond}
+use mathlib.Core.Bool.{Bool, true, false}
 use mathlib.Core.List.{List}
-use Prim.Native.Nat.{ℕ, zero, suc, _+_, _*_, _-_, _<_, _≤_}
-use native.Mathlib.Nat.{not-suc-le-zero}
-use native.Mathlib.Decide.{ℕ-discrete}
+use Prim.Native.Nat.{ℕ, _+_, _*_, _<_, _≤_}
 use native.Mathlib.Omega.{arith}
 use lib.Dec.{eqb}
 use lib.ListN.{length, getD}
-use borrow.Author.Tests.{lt-ltb, le-ltb, eq-eqb, ne-eqb, eqb-true}
+use borrow.Author.Tests.{eq-eqb, ne-eqb, eqb-true}
 use Rattle.algebra.specs.Sums.{_⊕_, pick, sum}
 use Rattle.algebra.specs.Codeword.{Checks, byteAt, rowSum}
 use Rattle.algebra.specs.Closing.{heard}
@@ -21,6 +19,9 @@ use Rattle.rows.specs.System.{leftSide, Solves}
 use Rattle.decoder.specs.Plan.{Plan, Closed, Unsolved, kindOf, rowOf, pivotOf, usedBy, free}
 use Rattle.decoder.specs.Values.{Values, StepsHold, Sides}
 use Rattle.decoder.specs.Express.{hangs, hang, StepsExpressed}
+use Rattle.decoder.proofs.StepLaws.{few-steps}
+use Rattle.decoder.proofs.UnusedRows.{Unused, free-below, free-row}
+use Rattle.decoder.proofs.Hanging.{hangs-none, hangs-pivot}
 use Rattle.decoder.proofs.Triangle.{vanishes, expressed, exchange, sum-add, pick-one, plan-triangular}
 
 -- lr are the packed rows of the check rows that no step used, one after the other, and d their right-hand sides
@@ -37,67 +38,17 @@ pub record Along (c : Checks) (w : ℕ) (block marks plan x : List ℕ) (steps :
   pub heard-byte : (p b : ℕ) → p < c .n → b < w → heard marks p ≡ true → byteAt w x b p ≡ byteAt w block b p
   pub holds : StepsHold c w plan x steps
 
--- ---- the check rows that no step used, by number
-
--- the one with number i is among the first m check rows
-abbrev pub Unused : List ℕ → ℕ → ℕ → Type 0
-Unused plan m i = (j : ℕ) × ((j < m) × ((usedBy plan j ≡ 0) × (free plan j ≡ i)))
-
-free-suc : (plan : List ℕ) (m : ℕ) → usedBy plan m ≡ 0 → free plan (suc m) ≡ suc (free plan m)
-unfolding free
-free-suc plan m e = ap (λ (b : Bool). cond b (suc (free plan m)) (free plan m)) (eq-eqb (usedBy plan m) 0 e)
-
-free-same : (plan : List ℕ) (m : ℕ) → (usedBy plan m ≡ 0 → ⊥) → free plan (suc m) ≡ free plan m
-unfolding free
-free-same plan m e = ap (λ (b : Bool). cond b (suc (free plan m)) (free plan m)) (ne-eqb (usedBy plan m) 0 e)
-
--- row j's number is below how many there are
-pub free-below : (plan : List ℕ) (m j : ℕ) → j < m → usedBy plan j ≡ 0 → free plan j < free plan m
-free-below plan zero j h e = absurd (not-suc-le-zero h)
-free-below plan (suc m) j h e = go (ℕ-discrete j m) (ℕ-discrete (usedBy plan m) 0) (λ l. free-below plan m j l e)
-  where
-    go : Dec (j ≡ m) → Dec (usedBy plan m ≡ 0) → (j < m → free plan j < free plan m) → free plan j < free plan (suc m)
-    go (yes k) u ih = omega (arith, ap (free plan) k, free-suc plan m (ap (usedBy plan) (sym k) ∙ e))
-    go (no k) (yes u) ih = omega (arith, ih (omega arith), free-suc plan m u)
-    go (no k) (no u) ih = omega (arith, ih (omega arith), free-same plan m u)
-
--- and every number below that is some row's
-pub free-row : (plan : List ℕ) (m i : ℕ) → i < free plan m → Unused plan m i
-unfolding free
-free-row plan zero i h = absurd (not-suc-le-zero h)
-free-row plan (suc m) i h = go (ℕ-discrete (usedBy plan m) 0) (ℕ-discrete (free plan m) i) (free-row plan m i)
-  where
-    up : Unused plan m i → Unused plan (suc m) i
-    up (j, (l, e)) = (j, (omega arith, e))
-
-    go : Dec (usedBy plan m ≡ 0) → Dec (free plan m ≡ i) → (i < free plan m → Unused plan m i) → Unused plan (suc m) i
-    go (yes u) (yes e) ih = (m, (omega arith, (u, e)))
-    go (yes u) (no e) ih = up (ih (omega (arith, free-suc plan m u)))
-    go (no u) e ih = up (ih (omega (arith, free-same plan m u)))
-
 -- ---- what a position hangs on
-
--- a known position hangs on nothing
-pub hangs-known : (l : List ℕ) (words early kind i : ℕ) → kind ≡ 0 → hangs l words early kind i ≡ false
-unfolding hangs
-hangs-known l words early kind i e = rw (le-ltb early kind (omega arith), hangs)
-
--- a pivot on itself alone
-pub hangs-pivot : (l : List ℕ) (words early kind u i : ℕ) → early ≤ 1024 → u < 3072 → kind ≡ 1025 + u → hangs l words early kind i ≡ eqb i u
-unfolding hangs
-hangs-pivot l words early kind u i he hu e =
-    let k : kind - 1025 ≡ u = omega arith in
-    rw (lt-ltb early kind (omega arith), lt-ltb 1024 kind (omega arith), le-ltb 4096 kind (omega arith), k, hangs)
 
 module _ {c : Checks} {marks plan : List ℕ} {early steps pivots : ℕ} (P : Plan c marks plan early steps pivots) (closed : Closed c plan) (U : Unsolved plan pivots)
     (l : List ℕ) (words : ℕ) (X : StepsExpressed c plan l words early steps) where
   known-none : (p i : ℕ) → p < c .n → heard marks p ≡ true → hangs l words early (kindOf plan p) i ≡ false
-  known-none p i h e = hangs-known l words early (kindOf plan p) i (P .known p h e)
+  known-none p i h e = hangs-none l words early (kindOf plan p) i (omega (arith, P .known p h e))
 
   pivot-own : (u i : ℕ) → u < pivots → hangs l words early (kindOf plan (pivotOf plan u)) i ≡ eqb i u
   pivot-own u i h =
-      hangs-pivot l words early (kindOf plan (pivotOf plan u)) u i (omega (arith, P .early-steps, P .steps-free, P .rows))
-      (omega (arith, P .pivots-few, P .positions)) (U u h)
+      hangs-pivot l words early (kindOf plan (pivotOf plan u)) i u (omega (arith, P .early-steps, few-steps P, U u h)) (U u h)
+      (omega (arith, P .pivots-few, P .positions))
 
   -- no position hangs on a pivot that there is not
   pub high-hangs : (u : ℕ) → pivots ≤ u → u < 64 * words → (p : ℕ) → p < c .n → hangs l words early (kindOf plan p) u ≡ false
@@ -189,6 +140,6 @@ module _ {c : Checks} {w : ℕ} {block marks plan y l lr d : List ℕ} {words ea
             → rowSum c w x j b ≡ 0
         row s j hj b hb (inl un) =
             unused-sum j b hj un hb
-            ∙ ap (_⊕_ (getD d (free plan j * w + b) 0)) (s (free plan j) b (subst (λ (k : ℕ). free plan j < k) (sym (S .count)) (free-below plan (c .m) j hj un)) hb)
+            ∙ ap (_⊕_ (getD d (free plan j * w + b) 0)) (s (free plan j) b (subst (λ (k : ℕ). free plan j < k) (sym (S .count)) (free-below plan j (c .m) hj un)) hb)
             ∙ self (getD d (free plan j * w + b) 0)
         row s j hj b hb (inr (t, (l, e))) = ap (λ (k : ℕ). rowSum c w x k b) (sym e) ∙ A .holds t b l hb

@@ -1,29 +1,27 @@
--- The check rows that no step used: their numbers, whether they add up to zero, and their sums.
+-- The check rows that no step used: how many there are, and their numbers.
 -- Assumes nothing.
 use mathlib.Core.Path.{_≡_, refl, sym, ap, _∙_}
-use mathlib.Core.Logic.{_≢_, inl}
-use mathlib.Core.Bool.{Bool, true, false, not, cond, false≢true}
+use mathlib.Core.Logic.{_≢_}
+use mathlib.Core.Bool.{Bool, true, false, cond}
 use mathlib.Core.List.{List}
-use Prim.Native.Nat.{ℕ, zero, suc, _+_, _*_, _<_, _≤_}
-use native.Mathlib.Nat.{not-suc-le-zero}
+use Prim.Native.Nat.{ℕ, zero, suc, _+_, _<_, _≤_}
+use native.Mathlib.Nat.{not-suc-le-zero, le-trans, le-suc}
 use native.Mathlib.Numerals.{add-one}
-use native.Mathlib.Decide.{decLt}
+use native.Mathlib.Decide.{decLt, ℕ-discrete}
 use native.Mathlib.Omega.{arith}
 use lib.Dec.{eqb}
-use lib.ListN.{length, getD}
 use borrow.Author.Tests.{eq-eqb, ne-eqb}
-use Rattle.algebra.specs.Sums.{_⊕_}
-use Rattle.algebra.specs.Codeword.{Checks, byteAt}
-use Rattle.algebra.specs.Staircase.{before}
-use Rattle.algebra.proofs.Sums.{unit-l}
-use Rattle.algebra.proofs.Codeword.{slot}
-use Rattle.buffers.specs.Gather.{gathered, Replaced, CancelIs}
-use Rattle.ccsds.specs.Positions.{RowOf}
 use Rattle.decoder.specs.Plan.{usedBy, free}
-use Rattle.decoder.specs.Values.{rowSum, HoldIs, Sides}
-use Rattle.decoder.specs.Unused.{PassIs, SidesTo}
 
--- ---- how many there are
+-- the one with number i is among the first m check rows
+abbrev pub Unused : List ℕ → ℕ → ℕ → Type 0
+Unused plan m i = (j : ℕ) × ((j < m) × ((usedBy plan j ≡ 0) × (free plan j ≡ i)))
+
+free-suc : (plan : List ℕ) (j : ℕ) → free plan (suc j) ≡ cond (eqb (usedBy plan j) 0) (suc (free plan j)) (free plan j)
+unfolding free
+free-suc plan j = refl
+
+-- ---- one plan
 
 module _ (plan : List ℕ) where
   free-next : (j : ℕ) (u : Bool) → eqb (usedBy plan j) 0 ≡ u → free plan (j + 1) ≡ cond u (suc (free plan j)) (free plan j)
@@ -61,73 +59,56 @@ module _ (plan : List ℕ) where
           let s : free plan (x + 1) ≡ free plan (suc j) = ap (free plan) (add-one x ∙ ap suc q) in
           omega (arith, free-unused x e)
 
--- ---- whether they add up to zero
+  -- an unused one counts
+  pub free-some : (r m : ℕ) → r < m → usedBy plan r ≡ 0 → 0 < free plan m
+  free-some r m h u = omega (arith, free-below r m h u)
 
--- a row's sum, from its positions
-sum-is : {c : Checks} {j n : ℕ} {xs : List ℕ} (w : ℕ) (symbols : List ℕ) → RowOf c j n xs → (b : ℕ) → gathered (byteAt w symbols b) xs n ≡ rowSum c w symbols j b
-sum-is w symbols r b = r .total (byteAt w symbols b)
+-- every number below how many there are is some row's
+pub free-row : (plan : List ℕ) (m i : ℕ) → i < free plan m → Unused plan m i
+unfolding free
+free-row plan zero i h = absurd (not-suc-le-zero h)
+free-row plan (suc m) i h = go (ℕ-discrete (usedBy plan m) 0) (ℕ-discrete (free plan m) i) (free-row plan m i)
+  where
+    up : Unused plan m i → Unused plan (suc m) i
+    up (j, (l, e)) = (j, (omega arith, e))
 
-pub pass-row : {c : Checks} {j n : ℕ} {xs : List ℕ} (w : ℕ) (plan symbols : List ℕ) → RowOf c j n xs → usedBy plan j ≡ 0
-    → (r : Bool) → CancelIs w symbols xs n r → PassIs c w plan symbols j r
-pass-row w plan symbols h u true z = λ e b l. sym (sum-is w symbols h b) ∙ z b l
-pass-row w plan symbols h u false z = (u, (z .0, (z .1 .0, λ e. z .1 .1 (sum-is w symbols h (z .0) ∙ e))))
+    go : Dec (usedBy plan m ≡ 0) → Dec (free plan m ≡ i) → (i < free plan m → Unused plan m i) → Unused plan (suc m) i
+    go (yes u) (yes e) ih = (m, (omega arith, (u, e)))
+    go (yes u) (no e) ih = up (ih (omega (arith, free-unused plan m u, ap (free plan) (add-one m))))
+    go (no u) e ih = up (ih (omega (arith, free-used plan m u, ap (free plan) (add-one m))))
 
-module _ (c : Checks) (w : ℕ) (plan symbols : List ℕ) where
-  -- the first j rows pass
-  abbrev pub Passed : ℕ → Type 0
-  Passed j = (x b : ℕ) → x < j → usedBy plan x ≡ 0 → b < w → rowSum c w symbols x b ≡ 0
+-- no row is used
+pub free-all : (plan : List ℕ) (m : ℕ) → ((j : ℕ) → j < m → usedBy plan j ≡ 0) → free plan m ≡ m
+unfolding free
+free-all plan zero h = refl
+free-all plan (suc m) h =
+    ap (λ (b : Bool). cond b (suc (free plan m)) (free plan m)) (eq-eqb (usedBy plan m) 0 (h m (omega arith))) ∙ ap suc (free-all plan m (λ j l. h j (le-trans l (le-suc m))))
 
-  pub pass-more : (j : ℕ) (r : Bool) → Passed j → PassIs c w plan symbols j r → not r ≡ false → Passed (j + 1)
-  pass-more j false h z e = absurd (false≢true (sym e))
-  pass-more j true h z e = λ x b l u g. go x b u g l (decLt x j)
-    where
-      go : (x b : ℕ) → usedBy plan x ≡ 0 → b < w → x < j + 1 → Dec (x < j) → rowSum c w symbols x b ≡ 0
-      go x b u g l (yes d) = h x b d u g
-      go x b u g l (no d) =
-          let q : x ≡ j = omega arith in
-          ap (λ (y : ℕ). rowSum c w symbols y b) q ∙ z (ap (usedBy plan) (sym q) ∙ u) b g
+-- ---- two plans
 
-  pub pass-not : (j : ℕ) (r : Bool) → j < c .m → PassIs c w plan symbols j r → not r ≡ true → HoldIs c w plan symbols false
-  pass-not j true l z e = absurd (false≢true e)
-  pass-not j false l z e = (j, (z .1 .0, (l, (z .0, (z .1 .1 .0, z .1 .1 .1)))))
+-- the same rows are used
+pub free-same : (plan plan′ : List ℕ) (m : ℕ) → ((j : ℕ) → j < m → usedBy plan′ j ≡ usedBy plan j) → free plan′ m ≡ free plan m
+unfolding free
+free-same plan plan′ zero h = refl
+free-same plan plan′ (suc m) h =
+    let f = free-same plan plan′ m (λ j l. h j (le-trans l (le-suc m))) in
+    ap (λ (x : ℕ). cond (eqb x 0) (suc (free plan′ m)) (free plan′ m)) (h m (omega arith)) ∙ ap (λ (x : ℕ). cond (eqb (usedBy plan m) 0) (suc x) x) f
 
-  -- ---- their sums
-
-  pub sides-none : (d : List ℕ) → length d ≡ c .m * w → SidesTo c w plan symbols d 0 0
-  unfolding free
-  sides-none d e = record { size = e; count = refl; each = λ x b l. absurd (not-suc-le-zero l) }
-
-  pub sides-used : {d : List ℕ} {j i : ℕ} → SidesTo c w plan symbols d j i → usedBy plan j ≢ 0 → SidesTo c w plan symbols d (j + 1) i
-  sides-used {d} {j} s u = record {
-    size = s .size;
-    count = s .count ∙ sym (free-used plan j u);
-    each = λ x b l e g. go x b l e g (decLt x j);
-  }
-    where
-      go : (x b : ℕ) → x < j + 1 → usedBy plan x ≡ 0 → b < w → Dec (x < j) → getD d (free plan x * w + b) 0 ≡ rowSum c w symbols x b
-      go x b l e g (yes k) = s .each x b k e g
-      go x b l e g (no k) = let q : j ≡ x = omega arith in absurd (u (ap (usedBy plan) q ∙ e))
-
-  -- there is room for the next
-  pub sides-room : {d : List ℕ} {j i : ℕ} → SidesTo c w plan symbols d j i → j < c .m → i * w + w ≤ length d
-  sides-room {d} {j} {i} s l = omega (arith, slot i (c .m) w (omega (arith, s .count, free-le plan j)), s .size)
-
-  pub sides-put : {d d′ xs : List ℕ} {j i n : ℕ} → SidesTo c w plan symbols d j i → usedBy plan j ≡ 0 → RowOf c j n xs
-      → Replaced (λ b. before (byteAt w d b) 0 ⊕ gathered (byteAt w symbols b) xs n) w i d d′ → SidesTo c w plan symbols d′ (j + 1) (i + 1)
-  sides-put {d} {d′} {xs} {j} {i} {n} s u r p = record {
-    size = p .size ∙ s .size;
-    count = ap (λ (k : ℕ). k + 1) (s .count) ∙ sym (free-unused plan j u);
-    each = λ x b l e g. go x b l e g (decLt x j);
-  }
-    where
-      go : (x b : ℕ) → x < j + 1 → usedBy plan x ≡ 0 → b < w → Dec (x < j) → getD d′ (free plan x * w + b) 0 ≡ rowSum c w symbols x b
-      go x b l e g (yes k) =
-          p .outside (free plan x * w + b) (inl (omega (arith, slot (free plan x) i w (omega (arith, s .count, free-below plan x j k e)))))
-          ∙ s .each x b k e g
-      go x b l e g (no k) =
-          let q : x ≡ j = omega arith in
-          ap (λ (y : ℕ). getD d′ (y * w + b) 0) (ap (free plan) q ∙ sym (s .count)) ∙ p .each b g ∙ unit-l (gathered (byteAt w symbols b) xs n)
-          ∙ sum-is w symbols r b ∙ ap (λ (y : ℕ). rowSum c w symbols y b) (sym q)
-
-  pub sides-all : {d : List ℕ} {j i : ℕ} → SidesTo c w plan symbols d j i → j ≡ c .m → Sides c w plan symbols d
-  sides-all s q = λ x b l e g. s .each x b (omega arith) e g
+-- a step uses one more
+pub free-settled : (plan plan′ : List ℕ) (r m : ℕ) → r < m → usedBy plan r ≡ 0 → usedBy plan′ r ≡ 1 → ((j : ℕ) → j < m → j ≢ r → usedBy plan′ j ≡ usedBy plan j)
+    → suc (free plan′ m) ≡ free plan m
+free-settled plan plan′ r zero h u u′ e = absurd (not-suc-le-zero h)
+free-settled plan plan′ r (suc m) h u u′ e = go (ℕ-discrete m r) (λ l. free-settled plan plan′ r m l u u′ (λ j g. e j (le-trans g (le-suc m))))
+  where
+    go : Dec (m ≡ r) → (r < m → suc (free plan′ m) ≡ free plan m) → suc (free plan′ (suc m)) ≡ free plan (suc m)
+    go (yes d) ih =
+        let s : free plan′ m ≡ free plan m = free-same plan plan′ m (λ j l. e j (le-trans l (le-suc m)) (λ f. omega arith)) in
+        ap suc (free-suc plan′ m ∙ ap (λ (b : Bool). cond b (suc (free plan′ m)) (free plan′ m)) (ne-eqb (usedBy plan′ m) 0 (λ f. let k : usedBy plan′ m ≡ 1 = ap (usedBy plan′) d ∙ u′ in omega arith)) ∙ s)
+        ∙ sym (free-suc plan m ∙ ap (λ (b : Bool). cond b (suc (free plan m)) (free plan m)) (eq-eqb (usedBy plan m) 0 (ap (usedBy plan) d ∙ u)))
+    go (no d) ih =
+        ap suc (free-suc plan′ m ∙ ap (λ (x : ℕ). cond (eqb x 0) (suc (free plan′ m)) (free plan′ m)) (e m (omega arith) d))
+        ∙ count (eqb (usedBy plan m) 0) (ih (omega arith)) ∙ sym (free-suc plan m)
+      where
+        count : (b : Bool) → suc (free plan′ m) ≡ free plan m → suc (cond b (suc (free plan′ m)) (free plan′ m)) ≡ cond b (suc (free plan m)) (free plan m)
+        count true f = ap suc f
+        count false f = f

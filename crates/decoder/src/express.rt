@@ -20,7 +20,15 @@ fn flip(words: &mut [u64], base: usize, u: usize)
 }
 
 // Row t gets the expression of position p added.
-fn add(early: usize, packed: usize, rows: usize, t: usize, p: usize, plan: &[u16], words: &mut [u64])
+fn add(
+    early: usize,
+    packed: usize,
+    rows: usize,
+    t: usize,
+    p: usize,
+    plan: &[u16],
+    words: &mut [u64],
+)
     requires { ⌜ (packed ≤ 48) × (rows * (packed + 1) ≤ length (now words)) ⌝ }
     requires { ⌜ (t < rows) × ((p < 3072) × (length (now plan) ≡ 9216)) ⌝ }
     requires { ⌜ Reads (now words) packed early rows t (kindOf (now plan) p) ⌝ }
@@ -184,7 +192,22 @@ fn remaining_row(
     if plan[8192 + j] != 0 {
         return t;
     }
-    row(number, l, early, packed, l.m, t, j, 3072, firsts, ends, classes, xs, plan, words);
+    row(
+        number,
+        l,
+        early,
+        packed,
+        l.m,
+        t,
+        j,
+        3072,
+        firsts,
+        ends,
+        classes,
+        xs,
+        plan,
+        words,
+    );
     t + 1
 }
 

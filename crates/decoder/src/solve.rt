@@ -49,12 +49,47 @@ fn express_all(
     ensures { λ _. ⌜ StepsExpressed (checksOf (codeOf number)) (now (plan .entry)) (now (words .exit)) packed early steps ⌝ }
     ensures { λ _. ⌜ RestExpressed (checksOf (codeOf number)) (now (plan .entry)) (now (words .exit)) packed early steps ⌝ }
 {
-    express::steps(number, l, early, steps, pivots, packed, firsts, ends, classes, xs, marks, plan, words);
-    express::remaining(number, l, early, steps, pivots, packed, firsts, ends, classes, xs, marks, plan, words);
+    express::steps(
+        number,
+        l,
+        early,
+        steps,
+        pivots,
+        packed,
+        firsts,
+        ends,
+        classes,
+        xs,
+        marks,
+        plan,
+        words,
+    );
+    express::remaining(
+        number,
+        l,
+        early,
+        steps,
+        pivots,
+        packed,
+        firsts,
+        ends,
+        classes,
+        xs,
+        marks,
+        plan,
+        words,
+    );
 }
 
 // Reduces the rows that begin at word `from`.
-fn reduce_from(words: &mut [u64], bytes: &mut [u8], from: usize, rest: usize, packed: usize, w: usize)
+fn reduce_from(
+    words: &mut [u64],
+    bytes: &mut [u8],
+    from: usize,
+    rest: usize,
+    packed: usize,
+    w: usize,
+)
     requires { ⌜ (packed ≤ 48) × (rest ≤ 1024) ⌝ }
     requires { ⌜ (from + rest * (packed + 1) ≤ length (now words)) × (rest * w ≤ length (now bytes)) ⌝ }
     ensures { λ _. ⌜ Same (drop from (now (words .entry))) (now (bytes .entry)) (drop from (now (words .exit))) (now (bytes .exit)) rest packed w ⌝ }
@@ -64,7 +99,14 @@ fn reduce_from(words: &mut [u64], bytes: &mut [u8], from: usize, rest: usize, pa
 }
 
 // The reduced rows that begin at word `from` have a solution.
-fn consistent_from(words: &[u64], bytes: &[u8], from: usize, rest: usize, packed: usize, w: usize) -> bool
+fn consistent_from(
+    words: &[u64],
+    bytes: &[u8],
+    from: usize,
+    rest: usize,
+    packed: usize,
+    w: usize,
+) -> bool
     requires { ⌜ (from + rest * (packed + 1) ≤ length (now words)) × (rest * w ≤ length (now bytes)) ⌝ }
     requires { ⌜ Reduced (drop from (now words)) rest packed rest ⌝ }
     ensures { λ r. ⌜ ConsistentIs (drop from (now (words .entry))) (now (bytes .entry)) rest packed w r ⌝ }
@@ -99,8 +141,33 @@ fn reduce(
     ensures { λ _. ⌜ length (now (xs .exit)) ≡ 64 ⌝ }
     ensures { λ r. ⌜ Equations (checksOf (codeOf number)) w (now (plan .entry)) (now (symbols .entry)) packed early steps r (now (words .exit)) (now (bytes .exit)) ⌝ }
 {
-    let rest = remaining::sums(number, l, w, firsts, ends, classes, xs, plan, symbols, bytes);
-    express_all(number, l, early, steps, pivots, packed, firsts, ends, classes, xs, marks, plan, words);
+    let rest = remaining::sums(
+        number,
+        l,
+        w,
+        firsts,
+        ends,
+        classes,
+        xs,
+        plan,
+        symbols,
+        bytes,
+    );
+    express_all(
+        number,
+        l,
+        early,
+        steps,
+        pivots,
+        packed,
+        firsts,
+        ends,
+        classes,
+        xs,
+        marks,
+        plan,
+        words,
+    );
     let from = steps * (packed + 1);
     reduce_from(words, bytes, from, rest, packed, w);
     rest
@@ -136,8 +203,35 @@ fn put_in(
     ensures { λ _. ⌜ length (now (xs .exit)) ≡ 64 ⌝ }
     ensures { λ _. ⌜ PutIn (checksOf (codeOf number)) w packed early steps rest pivots (now (words .entry)) (now (bytes .entry)) (now (plan .entry)) (now (symbols .entry)) (now (plan .exit)) (now (symbols .exit)) ⌝ }
 {
-    pivots::put(number, w, steps, rest, early, pivots, packed, marks, words, bytes, plan, symbols);
-    again::again(number, l, w, early, steps, pivots, firsts, ends, classes, xs, marks, plan, symbols);
+    pivots::put(
+        number,
+        w,
+        steps,
+        rest,
+        early,
+        pivots,
+        packed,
+        marks,
+        words,
+        bytes,
+        plan,
+        symbols,
+    );
+    again::again(
+        number,
+        l,
+        w,
+        early,
+        steps,
+        pivots,
+        firsts,
+        ends,
+        classes,
+        xs,
+        marks,
+        plan,
+        symbols,
+    );
 }
 
 // Fills what hangs on no free pivot, where the reduced rows have a solution.
@@ -170,12 +264,44 @@ fn fill(
     requires { ⌜ (length (now bytes) ≡ checksOf (codeOf number) .m * w) × ((0 < w) × (length (now marks) ≡ checksOf (codeOf number) .n)) ⌝ }
     ensures { λ _. ⌜ Outcome (checksOf (codeOf number)) w (now (symbols .entry)) (now (marks .entry)) (now (symbols .exit)) (now (marks .exit)) true ⌝ }
 {
-    put_in(number, l, w, early, steps, pivots, rest, packed, firsts, ends, classes, xs, marks, words, bytes, plan, symbols);
+    put_in(
+        number,
+        l,
+        w,
+        early,
+        steps,
+        pivots,
+        rest,
+        packed,
+        firsts,
+        ends,
+        classes,
+        xs,
+        marks,
+        words,
+        bytes,
+        plan,
+        symbols,
+    );
     if pivots::all_solved(pivots, plan) {
         marks::fill_missing(marks);
         return;
     }
-    express::steps(number, l, early, steps, pivots, packed, firsts, ends, classes, xs, marks, plan, words);
+    express::steps(
+        number,
+        l,
+        early,
+        steps,
+        pivots,
+        packed,
+        firsts,
+        ends,
+        classes,
+        xs,
+        marks,
+        plan,
+        words,
+    );
     marks::fill_determined(w, early, packed, l.m, plan, words, symbols, marks);
 }
 
@@ -206,10 +332,45 @@ fn by_pivots(
     ensures { λ ok. ⌜ Outcome (checksOf (codeOf number)) w (now (symbols .entry)) (now (marks .entry)) (now (symbols .exit)) (now (marks .exit)) ok ⌝ }
 {
     let packed = (pivots + 63) / 64;
-    let rest = reduce(number, l, w, early, steps, pivots, packed, firsts, ends, classes, xs, marks, plan, symbols, words, bytes);
+    let rest = reduce(
+        number,
+        l,
+        w,
+        early,
+        steps,
+        pivots,
+        packed,
+        firsts,
+        ends,
+        classes,
+        xs,
+        marks,
+        plan,
+        symbols,
+        words,
+        bytes,
+    );
     let from = steps * (packed + 1);
     if consistent_from(words, bytes, from, rest, packed, w) {
-        fill(number, l, w, early, steps, pivots, rest, packed, firsts, ends, classes, xs, plan, symbols, marks, words, bytes);
+        fill(
+            number,
+            l,
+            w,
+            early,
+            steps,
+            pivots,
+            rest,
+            packed,
+            firsts,
+            ends,
+            classes,
+            xs,
+            plan,
+            symbols,
+            marks,
+            words,
+            bytes,
+        );
         return true;
     }
     marks::clear_missing(w, symbols, marks);
@@ -276,9 +437,50 @@ pub fn solve(
     let mut xs = [0usize; 64];
     let mut plan = blank();
     positions::lay(number, l, &mut firsts, &mut ends, &mut classes);
-    let g = peel::peel(number, l, w, &firsts, &ends, &classes, &mut xs, marks, &mut plan, symbols);
+    let g = peel::peel(
+        number,
+        l,
+        w,
+        &firsts,
+        &ends,
+        &classes,
+        &mut xs,
+        marks,
+        &mut plan,
+        symbols,
+    );
     if g.pivots == 0 {
-        return by_steps(number, l, w, g.early, g.steps, g.pivots, &firsts, &ends, &classes, &mut xs, &plan, symbols, marks);
+        return by_steps(
+            number,
+            l,
+            w,
+            g.early,
+            g.steps,
+            g.pivots,
+            &firsts,
+            &ends,
+            &classes,
+            &mut xs,
+            &plan,
+            symbols,
+            marks,
+        );
     }
-    by_pivots(number, l, w, g.early, g.steps, g.pivots, &firsts, &ends, &classes, &mut xs, &mut plan, symbols, marks, words, bytes)
+    by_pivots(
+        number,
+        l,
+        w,
+        g.early,
+        g.steps,
+        g.pivots,
+        &firsts,
+        &ends,
+        &classes,
+        &mut xs,
+        &mut plan,
+        symbols,
+        marks,
+        words,
+        bytes,
+    )
 }

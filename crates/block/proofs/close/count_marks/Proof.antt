@@ -47,13 +47,13 @@ loop-again c =
     let filled = c .if2 in (
       omega arith,
       ⊎-elim
-      (λ w. (omega arith, count-one (a .marks .now) (l .i) h 1 (l .heard) (heard .heard) (w .0 .taken) (w .1) (l .inv .1 .1)))
-      (λ w. (omega arith, count-other (a .marks .now) (l .i) h 1 (l .heard) (heard .heard) (w .0 .left) (w .1) (l .inv .1 .1)))
-      (heard .came),
+          (λ w. (omega arith, count-one (a .marks .now) (l .i) h 1 (l .heard) (heard .heard) (w .0 .taken) (w .1) (l .inv .1 .1)))
+          (λ w. (omega arith, count-other (a .marks .now) (l .i) h 1 (l .heard) (heard .heard) (w .0 .left) (w .1) (l .inv .1 .1)))
+          (heard .came),
       ⊎-elim
-      (λ w. (omega arith, count-one (a .marks .now) (l .i) h 2 (l .filled) (filled .filled) (w .0 .taken) (w .1) (l .inv .2 .1)))
-      (λ w. (omega arith, count-other (a .marks .now) (l .i) h 2 (l .filled) (filled .filled) (w .0 .left) (w .1) (l .inv .2 .1)))
-      (filled .came),
+          (λ w. (omega arith, count-one (a .marks .now) (l .i) h 2 (l .filled) (filled .filled) (w .0 .taken) (w .1) (l .inv .2 .1)))
+          (λ w. (omega arith, count-other (a .marks .now) (l .i) h 2 (l .filled) (filled .filled) (w .0 .left) (w .1) (l .inv .2 .1)))
+          (filled .came),
     )
 
 returns : tie.Need-returns Inv-loop μ-loop

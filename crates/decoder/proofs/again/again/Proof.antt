@@ -7,7 +7,8 @@ use lib.ListN.{length}
 use Rattle.ccsds.specs.Codes.{checksOf}
 use Rattle.ccsds.specs.Tables.{codeOf}
 use Rattle.decoder.specs.Values.{Again}
-use Rattle.decoder.proofs.Restored.{step-below, again-none, again-more, again-all}
+use Rattle.decoder.proofs.StepLaws.{few-steps}
+use Rattle.decoder.proofs.Restored.{again-none, again-more, again-all}
 use Rattle.decoder.proofs.again.again.Statement.{statement}
 use Rattle.decoder.proofs.again.again.Tie as tie
 
@@ -19,7 +20,7 @@ abbrev μ-loop : tie.MeasureT-loop
 μ-loop number l w early steps pivots firsts ends classes xs₀ marks plan symbols₀ t₀ xs symbols t = steps - t
 
 few : (c : tie.In-loop Inv-loop μ-loop) → c .before .loop .t < 1024
-few c = step-below _ (c .before .before .before .before .before .args .w) (c .before .before .before .before .before .pre .1 .1 .0 .0) _ (omega arith)
+few c = omega (arith, few-steps (c .before .before .before .before .before .pre .1 .1 .0 .0))
 
 loop-holds : tie.Need-loop-holds Inv-loop μ-loop
 loop-holds c = ((omega arith, omega (arith, c .before .before .before .pre .1 .1 .0 .0 .early-steps)), c .before .before .before .pre .1 .0, again-none _ _ (c .before .before .before .pre .1 .1 .0 .0) (c .before .before .before .pre .1 .1 .1 .1))

@@ -5,7 +5,8 @@ use native.Mathlib.Omega.{arith}
 use Rattle.algebra.specs.Codeword.{byteAt}
 use Rattle.algebra.proofs.Codeword.{slot}
 use Rattle.decoder.proofs.CodeSizes.{row-known}
-use Rattle.decoder.proofs.Restored.{others-inside, others-sum, replaced-by}
+use Rattle.decoder.proofs.Restored.{others-inside, others-sum}
+use Rattle.decoder.proofs.SymbolLaws.{replaced-by}
 use borrow.Author.Needs.{needs}
 use Rattle.decoder.proofs.again.restore_by.Statement.{statement}
 use Rattle.decoder.proofs.again.restore_by.Tie as tie

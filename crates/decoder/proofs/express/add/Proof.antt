@@ -1,7 +1,6 @@
-use mathlib.Core.Path.{_≡_}
-use Prim.Native.Nat.{_+_, _-_, _<_, _≤_}
+use Prim.Native.Nat.{_+_, _-_}
 use native.Mathlib.Omega.{arith}
-use lib.ListN.{length, getD}
+use lib.ListN.{getD}
 use Rattle.algebra.proofs.Codeword.{slot}
 use Rattle.rows.proofs.SweepLaws.{rows-beside}
 use Rattle.decoder.proofs.RowChanges.{add-none, add-step, add-pivot, add-solved}

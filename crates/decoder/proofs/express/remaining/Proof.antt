@@ -1,5 +1,5 @@
-use mathlib.Core.Path.{_≡_, sym, _∙_}
-use Prim.Native.Nat.{_+_, _-_, _<_, _≤_}
+use mathlib.Core.Path.{_≡_}
+use Prim.Native.Nat.{_+_, _-_, _≤_}
 use native.Mathlib.Omega.{arith}
 use lib.ListN.{length}
 use Rattle.algebra.specs.Codeword.{Checks}
@@ -7,7 +7,7 @@ use Rattle.ccsds.specs.Codes.{checksOf}
 use Rattle.ccsds.specs.Tables.{codeOf}
 use Rattle.decoder.specs.Plan.{free}
 use Rattle.decoder.specs.Express.{Places, SameBelow, RestTo}
-use Rattle.decoder.proofs.Sizes.{row-count}
+use Rattle.decoder.proofs.CodeSizes.{row-count}
 use Rattle.decoder.proofs.Expressed.{below-none, below-more, places-any}
 use Rattle.decoder.proofs.express.remaining.Statement.{statement}
 use Rattle.decoder.proofs.express.remaining.Tie as tie

@@ -1,13 +1,14 @@
 use mathlib.Core.Path.{_≡_, sym, ap, _∙_}
 use mathlib.Core.Logic.{_≢_}
-use Prim.Native.Nat.{ℕ, _+_, _*_, _<_, _≤_}
+use Prim.Native.Nat.{ℕ, _+_, _*_, _<_}
 use native.Mathlib.Omega.{arith}
 use Rattle.algebra.specs.Codeword.{Checks}
 use Rattle.ccsds.specs.Codes.{checksOf}
 use Rattle.ccsds.specs.Tables.{codeOf}
-use Rattle.decoder.specs.Plan.{usedBy, free}
-use Rattle.decoder.proofs.Sizes.{row-count}
-use Rattle.decoder.proofs.Expressed.{below-none, below-only, reads-rows, free-used, free-next, rest-below, reads-rest, rest-more, rest-skip}
+use Rattle.decoder.specs.Plan.{usedBy}
+use Rattle.decoder.proofs.CodeSizes.{row-count}
+use Rattle.decoder.proofs.UnusedRows.{free-used, free-unused}
+use Rattle.decoder.proofs.Expressed.{below-none, below-only, reads-rows, rest-below, reads-rest, rest-more, rest-skip}
 use borrow.Author.Needs.{needs}
 use Rattle.decoder.proofs.express.remaining_row.Statement.{statement}
 use Rattle.decoder.proofs.express.remaining_row.Tie as tie
@@ -63,7 +64,7 @@ returns-2 c =
     let unused : usedBy (c .before .before .before .before .before .before .before .before .before .before .args .plan .now) (c .before .before .before .before .before .before .before .before .before .before .args .j) ≡ 0 = omega arith in
     let e = c .before .before .before .before .before .before .before .before .before .before .pre .1 .1 .1 .1 .1 .1 .0 .1 in
     let r = c .before .before .row .ensures in
-    (r .0, (omega (arith, free-next (c .before .before .before .before .before .before .before .before .before .before .args .plan .now) (c .before .before .before .before .before .before .before .before .before .before .args .j) unused), (rest-more (c .before .before .before .before .before .before .before .before .before .before .pre .1 .1 .0 .0) (c .before .before .before .before .before .before .before .before .before .before .pre .1 .1 .0 .1) (c .before .before .before .before .before .before .before .before .before .before .pre .1 .1 .1 .1 .1 .0) (c .before .before .before .before .before .before .before .before .before .before .pre .1 .1 .1 .1 .0) (c .before .before .before .before .before .before .before .before .before .before .args .j) e unused (r .1) (c .before .before .before .before .before .before .before .before .before .before .pre .1 .1 .1 .1 .1 .1 .1), below-only (r .1 .only) (omega arith))))
+    (r .0, (omega (arith, free-unused (c .before .before .before .before .before .before .before .before .before .before .args .plan .now) (c .before .before .before .before .before .before .before .before .before .before .args .j) unused), (rest-more (c .before .before .before .before .before .before .before .before .before .before .pre .1 .1 .0 .0) (c .before .before .before .before .before .before .before .before .before .before .pre .1 .1 .0 .1) (c .before .before .before .before .before .before .before .before .before .before .pre .1 .1 .1 .1 .1 .0) (c .before .before .before .before .before .before .before .before .before .before .pre .1 .1 .1 .1 .0) (c .before .before .before .before .before .before .before .before .before .before .args .j) e unused (r .1) (c .before .before .before .before .before .before .before .before .before .before .pre .1 .1 .1 .1 .1 .1 .1), below-only (r .1 .only) (omega arith))))
 
 pub remaining-row-spec : {M : Type 1} → statement M
 remaining-row-spec =

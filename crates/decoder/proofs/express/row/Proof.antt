@@ -1,11 +1,10 @@
-use mathlib.Core.Path.{_≡_}
 use Prim.Native.Nat.{_+_, _-_, _*_, _≤_}
 use native.Mathlib.Omega.{arith}
 use Rattle.algebra.proofs.Codeword.{slot}
 use Rattle.ccsds.specs.Codes.{checksOf}
 use Rattle.ccsds.specs.Tables.{codeOf}
 use Rattle.decoder.specs.Express.{ReadsAll}
-use Rattle.decoder.proofs.Sizes.{few-positions}
+use Rattle.decoder.proofs.CodeSizes.{few-positions}
 use Rattle.decoder.proofs.RowChanges.{reads-same}
 use Rattle.decoder.proofs.RowSums.{SumTo, cleared, reads-all-same, sum-none, sum-more, row-is}
 use Rattle.decoder.proofs.express.row.Statement.{statement}

@@ -6,8 +6,9 @@ use Rattle.algebra.specs.Codeword.{Checks}
 use Rattle.ccsds.specs.Codes.{checksOf}
 use Rattle.ccsds.specs.Tables.{codeOf}
 use Rattle.decoder.specs.Express.{Places, StepsExpressed, SameFrom}
-use Rattle.decoder.proofs.Sizes.{row-count}
-use Rattle.decoder.proofs.Expressed.{few-steps, from-none, from-more, places-from, reads-rows, reads-step, steps-none, steps-more}
+use Rattle.decoder.proofs.CodeSizes.{row-count}
+use Rattle.decoder.proofs.StepLaws.{few-steps}
+use Rattle.decoder.proofs.Expressed.{from-none, from-more, places-from, reads-rows, reads-step, steps-none, steps-more}
 use Rattle.decoder.proofs.express.steps.Statement.{statement}
 use Rattle.decoder.proofs.express.steps.Tie as tie
 use Rattle.decoder.proofs.express.steps.Reads as reads
@@ -27,15 +28,15 @@ loop-holds c = (c .before .before .before .pre .1 .0, (omega arith, (c .before .
 
 -- src/express.rt:140:18
 add-row : tie.Need-add-row Inv-loop μ-loop
-add-row c = omega (arith, few-steps (c .before .before .before .before .before .pre .1 .1 .0 .0) (c .before .before .before .before .before .pre .1 .1 .0 .1) .1)
+add-row c = omega (arith, few-steps (c .before .before .before .before .before .pre .1 .1 .0 .0) .1)
 
 -- src/express.rt:140:13
 mul-row : tie.Need-mul-row Inv-loop μ-loop
-mul-row c = omega (arith, few-steps (c .before .before .before .before .before .pre .1 .1 .0 .0) (c .before .before .before .before .before .pre .1 .1 .0 .1) .1)
+mul-row c = omega (arith, few-steps (c .before .before .before .before .before .pre .1 .1 .0 .0) .1)
 
 -- src/express.rt:140:13
 shared-slice-read-row : tie.Need-shared-slice-read-row Inv-loop μ-loop
-shared-slice-read-row c = omega (arith, few-steps (c .before .before .before .before .before .before .pre .1 .1 .0 .0) (c .before .before .before .before .before .before .pre .1 .1 .0 .1) .1, c .before .before .before .before .before .before .pre .1 .1 .0 .0 .size)
+shared-slice-read-row c = omega (arith, few-steps (c .before .before .before .before .before .before .pre .1 .1 .0 .0) .1, c .before .before .before .before .before .before .pre .1 .1 .0 .0 .size)
 
 -- src/express.rt:140:13
 cast-row : tie.Need-cast-row Inv-loop μ-loop
@@ -43,15 +44,15 @@ cast-row c = omega (arith, c .shared-slice-known3 .given (6144 + c .before .befo
 
 -- src/express.rt:141:18
 add-row-2 : tie.Need-add-row-2 Inv-loop μ-loop
-add-row-2 c = omega (arith, few-steps (c .before .before .before .before .before .before .pre .1 .1 .0 .0) (c .before .before .before .before .before .before .pre .1 .1 .0 .1) .1)
+add-row-2 c = omega (arith, few-steps (c .before .before .before .before .before .before .pre .1 .1 .0 .0) .1)
 
 -- src/express.rt:141:13
 mul-row-2 : tie.Need-mul-row-2 Inv-loop μ-loop
-mul-row-2 c = omega (arith, few-steps (c .before .before .before .before .before .before .pre .1 .1 .0 .0) (c .before .before .before .before .before .before .pre .1 .1 .0 .1) .1)
+mul-row-2 c = omega (arith, few-steps (c .before .before .before .before .before .before .pre .1 .1 .0 .0) .1)
 
 -- src/express.rt:141:13
 shared-slice-read-row-2 : tie.Need-shared-slice-read-row-2 Inv-loop μ-loop
-shared-slice-read-row-2 c = omega (arith, few-steps (c .before .before .before .before .before .before .before .pre .1 .1 .0 .0) (c .before .before .before .before .before .before .before .pre .1 .1 .0 .1) .1, c .before .before .before .before .before .before .before .pre .1 .1 .0 .0 .size)
+shared-slice-read-row-2 c = omega (arith, few-steps (c .before .before .before .before .before .before .before .pre .1 .1 .0 .0) .1, c .before .before .before .before .before .before .before .pre .1 .1 .0 .0 .size)
 
 -- src/express.rt:141:13
 cast-row-2 : tie.Need-cast-row-2 Inv-loop μ-loop
@@ -63,7 +64,7 @@ row-requires c κs =
     let k : Checks = checksOf (codeOf (c .before .before .before .before .before .before .before .before .before .args .number)) in
     let e : c .before .before .before .before .before .before .before .before .before .args .l .m ≡ k .m = c .before .before .before .before .before .before .before .before .before .pre .0 .given .m ∙ sym (row-count (c .before .before .before .before .before .before .before .before .before .args .number)) in
     let f = ap (λ (x : ℕ). x * (c .before .before .before .before .before .before .before .before .before .args .packed + 1)) e in
-    let small = few-steps (c .before .before .before .before .before .before .before .before .before .pre .1 .1 .0 .0) (c .before .before .before .before .before .before .before .before .before .pre .1 .1 .0 .1) in
+    let small = few-steps (c .before .before .before .before .before .before .before .before .before .pre .1 .1 .0 .0) in
     let h : c .before .before .before .before .before .loop .t < c .before .before .before .before .before .before .before .before .before .args .steps = omega arith in
     let i = c .before .before .before .before .before .loop .inv in
     let places : Places k (c .before .before .before .before .before .before .before .before .before .args .plan .now) (c .before .before .before .before .before .loop .words) (c .before .before .before .before .before .before .before .before .before .args .packed) (c .before .before .before .before .before .before .before .before .before .args .steps) (k .m) = places-from k (c .before .before .before .before .before .before .before .before .before .args .plan .now) (i .1 .1 .1 .1) (c .before .before .before .before .before .before .before .before .before .pre .1 .1 .1 .1) in

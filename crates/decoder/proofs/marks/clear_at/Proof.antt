@@ -2,7 +2,8 @@
 -- Assumes nothing.
 use mathlib.Core.Path.{_∙_}
 use borrow.Author.Needs.{needs}
-use Rattle.decoder.proofs.Clearing.{heard-one, heard-not, stays, goes, zeroed}
+use Rattle.decoder.proofs.Clearing.{heard-one, heard-not, stays, goes}
+use Rattle.decoder.proofs.SymbolLaws.{zeroed-symbol}
 use Rattle.decoder.proofs.marks.clear_at.Statement.{statement}
 use Rattle.decoder.proofs.marks.clear_at.Tie as tie
 
@@ -46,7 +47,7 @@ returns-2 c =
     let s = c .before .before .before .before .before .before .before .before in
     let a = s .args in
     let h = heard-not (a .marks .now) (a .i) (c .before .before .before .before .if1 .left) in
-    (zeroed (a .symbols .now) _ (a .i) (a .w) (s .pre .1) (c .before .before .clear .ensures) ∙ goes _ _ _ h, goes _ _ _ h)
+    (zeroed-symbol (a .symbols .now) (a .i) (a .w) (s .pre .1) _ (c .before .before .clear .ensures) ∙ goes _ _ _ h, goes _ _ _ h)
 
 pub clear-at-spec : {M : Type 1} → statement M
 clear-at-spec =

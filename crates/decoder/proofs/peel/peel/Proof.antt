@@ -9,7 +9,8 @@ use Rattle.ccsds.specs.Codes.{checksOf}
 use Rattle.ccsds.specs.Tables.{codeOf}
 use Rattle.decoder.specs.Hints.{Hinted}
 use Rattle.decoder.specs.Peel.{State, left}
-use Rattle.decoder.proofs.HintLaws.{fits-of, few-symbols}
+use Rattle.decoder.proofs.HintLaws.{fits-of}
+use Rattle.decoder.proofs.CodeSizes.{few-positions, few-rows}
 use Rattle.decoder.proofs.PeelLaws.{state-start, state-here, state-then}
 use Rattle.decoder.proofs.peel.peel.Statement.{statement}
 use Rattle.decoder.proofs.peel.peel.Tie as tie
@@ -23,7 +24,7 @@ abbrev μ-loop : tie.MeasureT-loop
     left (checksOf (codeOf number) .n) g
 
 few : (s : tie.Start Inv-loop μ-loop) → length (s .args .marks .now) ≤ 3072
-few s = omega (arith, few-symbols (s .args .number) (s .pre .0 .known), s .pre .1 .1 .1 .0)
+few s = omega (arith, few-positions (s .args .number), s .pre .1 .1 .1 .0)
 
 addresses-requires : tie.Need-addresses-requires Inv-loop μ-loop
 addresses-requires c κs = c .before .before .before .pre .0 .given
@@ -43,12 +44,11 @@ first-ready-requires c κs =
 
 loop-holds : tie.Need-loop-holds Inv-loop μ-loop
 loop-holds c =
-    let s = c .before .before .before .before .before .before .before .before .before .before .before .before .before .before in
-    let n = few-symbols (s .args .number) (s .pre .0 .known) in (
+    let s = c .before .before .before .before .before .before .before .before .before .before .before .before .before .before in (
       s .pre .1 .0,
       (
         record { table-size = c .before .before .before .before .before .before .before .before .before .before .addresses .ensures; counts-size = c .before .before .before .count .ensures; ready-size = c .first-ready .ensures },
-        state-start _ (s .args .w) _ _ _ _ 32768 (n .0) (n .1) (s .pre .1 .1 .1 .1) (s .pre .1 .1 .1 .0) (c .before .before .before .before .before .before .before .before .open-missing .ensures),
+        state-start _ (s .args .w) _ _ _ _ 32768 (few-positions (s .args .number)) (few-rows (s .pre .0)) (s .pre .1 .1 .1 .1) (s .pre .1 .1 .1 .0) (c .before .before .before .before .before .before .before .before .open-missing .ensures),
       ),
     )
 

@@ -9,7 +9,8 @@ use Rattle.algebra.proofs.Codeword.{slot}
 use Rattle.ccsds.specs.Codes.{checksOf}
 use Rattle.ccsds.specs.Tables.{codeOf}
 use Rattle.decoder.specs.Peel.{State}
-use Rattle.decoder.proofs.HintLaws.{fits-of, symbols-of}
+use Rattle.decoder.proofs.HintLaws.{fits-of}
+use Rattle.decoder.proofs.CodeSizes.{symbols-of}
 use Rattle.decoder.proofs.PlanLaws.{deferred}
 use Rattle.decoder.proofs.PeelLaws.{state-pass, state-defer}
 use Rattle.decoder.proofs.peel.put_off.Statement.{statement}

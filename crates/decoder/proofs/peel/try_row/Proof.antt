@@ -6,13 +6,14 @@ use native.Mathlib.Omega.{arith}
 use borrow.Author.Needs.{needs}
 use Rattle.ccsds.specs.Codes.{checksOf}
 use Rattle.ccsds.specs.Tables.{codeOf}
-use Rattle.decoder.proofs.HintLaws.{fits-of, rows-of}
+use Rattle.decoder.proofs.HintLaws.{fits-of}
+use Rattle.decoder.proofs.CodeSizes.{row-count}
 use Rattle.decoder.proofs.PeelLaws.{state-late, settle-ready, state-settled}
 use Rattle.decoder.proofs.peel.try_row.Statement.{statement}
 use Rattle.decoder.proofs.peel.try_row.Tie as tie
 
 row-lt : (s : tie.Start) → s .args .r < checksOf (codeOf (s .args .number)) .m
-row-lt s = omega (arith, s .pre .1 .1 .1 .0 .0, rows-of (s .args .number))
+row-lt s = omega (arith, s .pre .1 .1 .1 .0 .0, row-count (s .args .number))
 
 few-steps : (e : tie.Else2) → e .before .before .before .before .before .before .before .before .before .before .before .before .args .g .steps < 1024
 few-steps e =

@@ -8,7 +8,7 @@ use lib.ListN.{length}
 use Rattle.algebra.proofs.Codeword.{slot}
 use Rattle.rows.specs.Reduced.{pivotWord}
 use Rattle.decoder.specs.Plan.{kindOf}
-use Rattle.decoder.proofs.Hanging.{determined-early, determined-step, determined-pivot, determined-solved}
+use Rattle.decoder.proofs.Determined.{determined-early, determined-step, determined-pivot, determined-solved}
 use borrow.Author.Needs.{needs}
 use Rattle.decoder.proofs.pivots.determined.Statement.{statement}
 use Rattle.decoder.proofs.pivots.determined.Tie as tie

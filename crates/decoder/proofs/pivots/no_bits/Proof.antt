@@ -8,7 +8,7 @@ use lib.ListN.{getD}
 use borrow.Author.Count.{below-more}
 use Rattle.buffers.specs.AllZero.{AllZeroIs}
 use Rattle.buffers.proofs.AllZeroLaws.{all-more, all-done}
-use Rattle.decoder.proofs.Hanging.{no-bits}
+use Rattle.decoder.proofs.Determined.{no-bits}
 use Rattle.decoder.proofs.pivots.no_bits.Statement.{statement}
 use Rattle.decoder.proofs.pivots.no_bits.Tie as tie
 

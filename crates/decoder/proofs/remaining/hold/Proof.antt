@@ -7,7 +7,7 @@ use lib.ListN.{length}
 use Rattle.ccsds.specs.Codes.{checksOf}
 use Rattle.ccsds.specs.Tables.{codeOf}
 use Rattle.decoder.proofs.CodeSizes.{layout-rows}
-use Rattle.decoder.proofs.UnusedRows.{Passed, pass-more, pass-not}
+use Rattle.decoder.proofs.UnusedSums.{Passed, pass-more, pass-not}
 use Rattle.decoder.proofs.remaining.hold.Statement.{statement}
 use Rattle.decoder.proofs.remaining.hold.Tie as tie
 

@@ -2,7 +2,7 @@
 -- Assumes nothing.
 use native.Mathlib.Omega.{arith}
 use Rattle.decoder.proofs.CodeSizes.{few-rows, row-known, row-inside}
-use Rattle.decoder.proofs.UnusedRows.{pass-row}
+use Rattle.decoder.proofs.UnusedSums.{pass-row}
 use borrow.Author.Needs.{needs}
 use Rattle.decoder.proofs.remaining.passes.Statement.{statement}
 use Rattle.decoder.proofs.remaining.passes.Tie as tie

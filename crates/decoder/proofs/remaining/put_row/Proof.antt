@@ -2,7 +2,8 @@
 -- Assumes nothing.
 use native.Mathlib.Omega.{arith}
 use Rattle.decoder.proofs.CodeSizes.{few-rows, row-known, row-inside}
-use Rattle.decoder.proofs.UnusedRows.{free-le, sides-used, sides-room, sides-put}
+use Rattle.decoder.proofs.UnusedRows.{free-le}
+use Rattle.decoder.proofs.UnusedSums.{sides-used, sides-room, sides-put}
 use borrow.Author.Needs.{needs}
 use Rattle.decoder.proofs.remaining.put_row.Statement.{statement}
 use Rattle.decoder.proofs.remaining.put_row.Tie as tie

@@ -9,7 +9,7 @@ use Rattle.ccsds.specs.Tables.{codeOf}
 use Rattle.decoder.specs.Plan.{free}
 use Rattle.decoder.specs.Unused.{SidesTo}
 use Rattle.decoder.proofs.CodeSizes.{layout-rows}
-use Rattle.decoder.proofs.UnusedRows.{sides-none, sides-all}
+use Rattle.decoder.proofs.UnusedSums.{sides-none, sides-all}
 use Rattle.decoder.proofs.remaining.sums.Statement.{statement}
 use Rattle.decoder.proofs.remaining.sums.Tie as tie
 

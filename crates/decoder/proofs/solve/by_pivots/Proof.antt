@@ -67,9 +67,25 @@ fill-requires c κs =
     let sizes = s .pre .1 .1 .1 .1 .0 in
     let block = s .pre .1 .1 .1 .1 .1 in
     let room = room-of (s .args .number) (s .pre .0 .known) (made .0) (sizes .0) in
-    let e = c .before .before .before .before .before .before .before .before .before .before .before .before .before .before .reduce .ensures .1 in
-    (s .pre .0, (c .before .before .before .before .before .before .before .before .before .before .before .before .before .before .reduce .ensures .0, (made, (y, (e, (subst (ConsistentIs (behind ((s .args .pivots + 63) / 64) (s .args .steps) (c .before .before .before .before .before .before .before .before .before .before .before .before .before .before .reduce .last .1 .1 .1 .1 .1 .1 .1 .1 .1 .1 .1 .1 .1 .1 .0)) (c .before .before .before .before .before .before .before .before .before .before .before .before .before .before .reduce .last .1 .1 .1 .1 .1 .1 .1 .1 .1 .1 .1 .1 .1 .1 .1 .0) (c .before .before .before .before .before .before .before .before .before .before .before .before .before .before .reduce .result) ((s .args .pivots + 63) / 64) (s .args .w)) (c .before .before .before .before .before .before .if1 .taken) (c .before .before .before .before .before .before .before .consistent-from .ensures),
-    (record { few = room .few; fit = omega (arith, room .fit, c .before .before .before .before .before .before .before .before .before .before .before .before .before .before .reduce .kept .1 .1 .1 .1 .1 .1 .1 .1 .1 .1 .1 .1 .1 .1 .0); enough = room .enough }, (c .before .before .before .before .before .before .before .before .before .before .before .before .before .before .reduce .kept .1 .1 .1 .1 .1 .1 .1 .1 .1 .1 .1 .1 .1 .1 .1 .0 ∙ sizes .1, block))))))))
+    let e = c .before .before .before .before .before .before .before .before .before .before .before .before .before .before .reduce .ensures .1 in (
+      s .pre .0,
+      (
+        c .before .before .before .before .before .before .before .before .before .before .before .before .before .before .reduce .ensures .0,
+        (
+          made,
+          (
+            y,
+            (
+              e,
+              (
+                subst (ConsistentIs (behind ((s .args .pivots + 63) / 64) (s .args .steps) (c .before .before .before .before .before .before .before .before .before .before .before .before .before .before .reduce .last .1 .1 .1 .1 .1 .1 .1 .1 .1 .1 .1 .1 .1 .1 .0)) (c .before .before .before .before .before .before .before .before .before .before .before .before .before .before .reduce .last .1 .1 .1 .1 .1 .1 .1 .1 .1 .1 .1 .1 .1 .1 .1 .0) (c .before .before .before .before .before .before .before .before .before .before .before .before .before .before .reduce .result) ((s .args .pivots + 63) / 64) (s .args .w)) (c .before .before .before .before .before .before .if1 .taken) (c .before .before .before .before .before .before .before .consistent-from .ensures),
+                (record { few = room .few; fit = omega (arith, room .fit, c .before .before .before .before .before .before .before .before .before .before .before .before .before .before .reduce .kept .1 .1 .1 .1 .1 .1 .1 .1 .1 .1 .1 .1 .1 .1 .0); enough = room .enough }, (c .before .before .before .before .before .before .before .before .before .before .before .before .before .before .reduce .kept .1 .1 .1 .1 .1 .1 .1 .1 .1 .1 .1 .1 .1 .1 .1 .0 ∙ sizes .1, block)),
+              ),
+            ),
+          ),
+        ),
+      ),
+    )
 
 -- src/solve.rt:210:9
 same-length : tie.Need-same-length

@@ -110,16 +110,20 @@ fill-determined-requires c κs =
     let m = layout-rows (s .pre .0) in
     let t = c .before .before .before .before .before .before .steps .ensures in
     let r = reads g b q (i .again) (t .1 .0) (t .1 .1) in
-    let h = reads-here g b q (i .again) (t .1 .0) (t .1 .1) in
-    (record {
-      few = room .few;
-      fit = subst (λ (k : ℕ). k * (s .args .packed + 1) ≤ length (c .before .before .before .before .before .before .steps .last .1 .1 .1 .1 .1 .1 .1 .1 .1 .1 .1 .1 .0)) (sym m) (omega (arith, room .fit, c .before .before .before .before .before .before .steps .kept .1 .1 .1 .1 .1 .1 .1 .1 .1 .1 .1 .1 .0));
-      plan-size = p .size;
-      positions = omega (arith, sizes .1 .1, p .positions);
-    }, (i .again .size ∙ q .symbols-size ∙ y .size ∙ ap (λ (n : ℕ). n * s .args .w) (sym (sizes .1 .1)),
-    λ x k e.
-    let k′ : x < checksOf (codeOf (s .args .number)) .n = subst (λ (n : ℕ). x < n) (sizes .1 .1) k in
-    subst (λ (n : ℕ). Readable (c .before .before .before .before .before .before .steps .last .1 .1 .1 .1 .1 .1 .1 .1 .1 .1 .1 .1 .0) (c .before .before .before .before .before .before .before .before .before .before .before .before .before .before .before .before .before .before .put-in .last .1 .1 .1 .1 .1 .1 .1 .1 .1 .1 .1 .1 .1 .1 .1 .0) (s .args .packed) (s .args .early) n x) (sym m) (record { reads = r x k′; here = h x k′ })))
+    let h = reads-here g b q (i .again) (t .1 .0) (t .1 .1) in (
+      record {
+        few = room .few;
+        fit = subst (λ (k : ℕ). k * (s .args .packed + 1) ≤ length (c .before .before .before .before .before .before .steps .last .1 .1 .1 .1 .1 .1 .1 .1 .1 .1 .1 .1 .0)) (sym m) (omega (arith, room .fit, c .before .before .before .before .before .before .steps .kept .1 .1 .1 .1 .1 .1 .1 .1 .1 .1 .1 .1 .0));
+        plan-size = p .size;
+        positions = omega (arith, sizes .1 .1, p .positions);
+      },
+      (
+        i .again .size ∙ q .symbols-size ∙ y .size ∙ ap (λ (n : ℕ). n * s .args .w) (sym (sizes .1 .1)),
+        λ x k e.
+            let k′ : x < checksOf (codeOf (s .args .number)) .n = subst (λ (n : ℕ). x < n) (sizes .1 .1) k in
+            subst (λ (n : ℕ). Readable (c .before .before .before .before .before .before .steps .last .1 .1 .1 .1 .1 .1 .1 .1 .1 .1 .1 .1 .0) (c .before .before .before .before .before .before .before .before .before .before .before .before .before .before .before .before .before .before .put-in .last .1 .1 .1 .1 .1 .1 .1 .1 .1 .1 .1 .1 .1 .1 .1 .0) (s .args .packed) (s .args .early) n x) (sym m) (record { reads = r x k′; here = h x k′ }),
+      ),
+    )
 
 -- src/solve.rt:141:1
 same-length-5 : tie.Need-same-length-5

@@ -48,17 +48,19 @@ same-length-2 c = search needs
 
 -- src/solve.rt:73:1
 returns : tie.Need-returns
-returns c =
-    (c .before .before .before .before .before .before .before .before .before .express-all .ensures .0, record {
-      rows = c .before .before .before .before .before .before .before .before .before .express-all .last .1 .1 .1 .1 .1 .1 .1 .1 .1 .1 .1 .1 .0;
-      sides = c .before .before .before .before .before .before .before .before .before .before .before .before .before .before .sums .last .1 .1 .1 .1 .1 .1 .1 .1 .1 .0;
-      count = c .before .before .before .before .before .before .before .before .before .before .before .before .before .before .sums .ensures .1 .0;
-      step-rows = c .before .before .before .before .before .before .before .before .before .express-all .ensures .1 .0;
-      rest-rows = c .before .before .before .before .before .before .before .before .before .express-all .ensures .1 .1;
-      sums = c .before .before .before .before .before .before .before .before .before .before .before .before .before .before .sums .ensures .1 .1;
-      same = c .before .before .before .before .reduce-from .ensures .0;
-      reduced = c .before .before .before .before .reduce-from .ensures .1;
-    })
+returns c = (
+  c .before .before .before .before .before .before .before .before .before .express-all .ensures .0,
+  record {
+    rows = c .before .before .before .before .before .before .before .before .before .express-all .last .1 .1 .1 .1 .1 .1 .1 .1 .1 .1 .1 .1 .0;
+    sides = c .before .before .before .before .before .before .before .before .before .before .before .before .before .before .sums .last .1 .1 .1 .1 .1 .1 .1 .1 .1 .0;
+    count = c .before .before .before .before .before .before .before .before .before .before .before .before .before .before .sums .ensures .1 .0;
+    step-rows = c .before .before .before .before .before .before .before .before .before .express-all .ensures .1 .0;
+    rest-rows = c .before .before .before .before .before .before .before .before .before .express-all .ensures .1 .1;
+    sums = c .before .before .before .before .before .before .before .before .before .before .before .before .before .before .sums .ensures .1 .1;
+    same = c .before .before .before .before .reduce-from .ensures .0;
+    reduced = c .before .before .before .before .reduce-from .ensures .1;
+  },
+)
 
 pub reduce-spec : {M : Type 1} → statement M
 reduce-spec =

@@ -51,10 +51,11 @@ returns c =
     let l = c .before .before .before .before .eliminate .last .0 in
     let d = c .before .before .before .before .eliminate .last .1 .0 in
     let b = part-back (a .from) (a .words .now) l h in
-    let e = c .before .before .before .before .eliminate .ensures in
-    (subst (λ (z : List ℕ). Same (drop (a .from) (a .words .now)) (a .bytes .now) z d (a .rest) (a .packed) (a .w)) (sym b)
-    (subst (λ (z : List ℕ). Same z (a .bytes .now) l d (a .rest) (a .packed) (a .w)) (part-all (a .from) (a .words .now)) (e .1)),
-    subst (λ (z : List ℕ). Reduced z (a .rest) (a .packed) (a .rest)) (sym b) (e .0))
+    let e = c .before .before .before .before .eliminate .ensures in (
+      subst (λ (z : List ℕ). Same (drop (a .from) (a .words .now)) (a .bytes .now) z d (a .rest) (a .packed) (a .w)) (sym b)
+          (subst (λ (z : List ℕ). Same z (a .bytes .now) l d (a .rest) (a .packed) (a .w)) (part-all (a .from) (a .words .now)) (e .1)),
+      subst (λ (z : List ℕ). Reduced z (a .rest) (a .packed) (a .rest)) (sym b) (e .0),
+    )
 
 pub reduce-from-spec : {M : Type 1} → statement M
 reduce-from-spec =
