@@ -1,6 +1,6 @@
 # make demo     the layer's main job on a sample
 # make test     all that decides whether a change may land: the C example, the Rust tests, then the gate
-# make archive  the library for C and Rust, target/staticlib/libboundary.a
+# make archive  the library for C and Rust, target/staticlib/liblipvezor.a
 # make soak     the Rust tests for SECONDS (3600) with a new seed; SEED=... runs an earlier one again
 # make bench    speeds, from Rust; LIPVEZOR_EARLIER=FOLDER with an earlier version's archive measures that too
 # make bench-peers  encode and close beside Reed-Solomon codes of ISA-L and cm256cc, where these are installed
@@ -23,7 +23,7 @@ version = $(shell sed -n 's/^version = "\(.*\)"/\1/p' rust/Cargo.toml)
 
 # the archive that speeds are measured of, and what makes it
 given = $(LIPVEZOR_LIB_DIR)
-library = $(if $(given),$(firstword $(wildcard $(given)/libboundary.a $(given)/liblipvezor.a)),target/staticlib/libboundary.a)
+library = $(if $(given),$(given),target/staticlib)/liblipvezor.a
 built = $(if $(given),,archive)
 
 # $(call quietly,log,command): its output is shown only if it fails
@@ -34,15 +34,15 @@ demo:
 	@target/bin/demo <crates/demo/stdin
 
 archive:
-	$(call quietly,archive,rt staticlib boundary)
+	$(call quietly,archive,rt staticlib lipvezor)
 
 # rt ci comes last: it removes target/, and its last line is the verdict
 test: archive
 	$(call quietly,gather,rt check gather)
-	$(CC) $(CFLAGS) -Iinclude examples/roundtrip.c target/staticlib/libboundary.a -o target/roundtrip
+	$(CC) $(CFLAGS) -Iinclude examples/roundtrip.c target/staticlib/liblipvezor.a -o target/roundtrip
 	target/roundtrip
 	valgrind -q --error-exitcode=1 --leak-check=full --malloc-fill=A5 target/roundtrip
-	$(CC) $(CFLAGS) -Iinclude tests/stack/stack.c target/staticlib/libboundary.a -o target/stack
+	$(CC) $(CFLAGS) -Iinclude tests/stack/stack.c target/staticlib/liblipvezor.a -o target/stack
 	target/stack
 	$(CARGO) test --offline --release --manifest-path rust/Cargo.toml
 	rt ci
@@ -65,7 +65,7 @@ bench-peers: $(built)
 
 install: archive
 	install -d $(DESTDIR)$(prefix)/lib/pkgconfig $(DESTDIR)$(prefix)/include
-	install -m 644 target/staticlib/libboundary.a $(DESTDIR)$(prefix)/lib/liblipvezor.a
+	install -m 644 target/staticlib/liblipvezor.a $(DESTDIR)$(prefix)/lib
 	install -m 644 include/lipvezor.h $(DESTDIR)$(prefix)/include
 	sed 's|@PREFIX@|$(prefix)|; s|@VERSION@|$(version)|' include/lipvezor.pc.in >target/lipvezor.pc
 	install -m 644 target/lipvezor.pc $(DESTDIR)$(prefix)/lib/pkgconfig

@@ -5,7 +5,7 @@
  * Receiving: lipvezor_open, lipvezor_take for each unit that arrives, in any order, and lipvezor_close. A block may be closed more than
  *            once, and units may be taken between two closes.
  *
- * Link with -llipvezor after make install (pkg-config knows it as lipvezor), or in the repository with target/staticlib/libboundary.a,
+ * Link with -llipvezor after make install (pkg-config knows it as lipvezor), or in the repository with target/staticlib/liblipvezor.a,
  * which is the same archive. It is for x86-64 Linux and needs no library but C's own. Nothing is allocated, no call keeps a pointer, and
  * no call reads or writes anything but what it was lent: two threads may call at the same time on different buffers. lipvezor_close takes
  * less than 40 KB of stack, lipvezor_encode less than 4 KB, every other call less than 1 KB (tests/stack measures it).
@@ -13,7 +13,7 @@
  * Numbers. Every call may be handed any numbers, bytes and lengths. What does not fit is refused: a refusal has a number from 1 on, the
  * first that applies is answered, in the order in which lipvezor_answer lists them, and a refused call has changed nothing that it was
  * lent. This is proved, for all inputs, of the code in the archive's source, together with what each call answers and leaves in each
- * buffer: crates/boundary states it.
+ * buffer: crates/lipvezor states it.
  *
  * What the caller must see to, as always in C:
  *  - a buffer is a pointer and, after it, its length in elements; the pointer is valid for that many, aligned for its type, and not NULL,

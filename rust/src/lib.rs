@@ -4,7 +4,7 @@
 //! takes the units that arrive, in any order, and [`Block::close`] fills every lost symbol that the received ones determine. Its
 //! [`Verdict`] is whole, ambiguous or inconsistent.
 //!
-//! The work is done by an archive, `libboundary.a`, whose source is proved: each call ends, reads and writes nothing out of range, and
+//! The work is done by an archive, `liblipvezor.a`, whose source is proved: each call ends, reads and writes nothing out of range, and
 //! answers what its definition says, for all inputs. This crate hands it slices and makes its numbers into types; only one private module
 //! has unsafe code. [`calls`] has the archive's calls one to one; [`Codeword`] and [`Block`] keep the buffers for them.
 //!

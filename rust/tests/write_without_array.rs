@@ -129,21 +129,21 @@ fn with_array<'a>(program: &Program<'a>, start: &'a str) -> Vec<String> {
 }
 
 /// The MIR of the archive's crate and those below it, which `make archive` has proved.
-fn boundary() -> &'static str {
+fn printed() -> &'static str {
     static MIR: OnceLock<String> = OnceLock::new();
     MIR.get_or_init(|| {
         let root = Path::new(env!("CARGO_MANIFEST_DIR")).join("..");
-        let output = Command::new("rt").args(["mir", "boundary"]).current_dir(root).output();
+        let output = Command::new("rt").args(["mir", "lipvezor"]).current_dir(root).output();
         let output =
             output.unwrap_or_else(|error| panic!("rt does not start: {error}; it is in the Rattle kit, whose bin/ belongs in PATH"));
-        assert!(output.status.success(), "`rt mir boundary`, {}: {}", output.status, String::from_utf8_lossy(&output.stderr));
+        assert!(output.status.success(), "`rt mir lipvezor`, {}: {}", output.status, String::from_utf8_lossy(&output.stderr));
         String::from_utf8(output.stdout).unwrap()
     })
 }
 
 #[test]
 fn write_reaches_no_array() {
-    let (program, start) = (program(boundary()), "boundary::lipvezor_write");
+    let (program, start) = (program(printed()), "lipvezor::lipvezor_write");
     let reached = reached(&program, start);
     assert!(reached.contains_key("ccsds::writer::write"), "{reached:?}");
     let found = with_array(&program, start);
@@ -153,8 +153,8 @@ fn write_reaches_no_array() {
 
 #[test]
 fn arrays_of_take_and_encode_are_found() {
-    let program = program(boundary());
-    for start in ["boundary::lipvezor_take", "boundary::lipvezor_encode"] {
+    let program = program(printed());
+    for start in ["lipvezor::lipvezor_take", "lipvezor::lipvezor_encode"] {
         let found = with_array(&program, start);
         assert!(!found.is_empty(), "{start} has arrays, and the walk finds none");
         println!("{start} reaches {} functions with an array", found.len());

@@ -7,3 +7,4 @@ pub mod Agreeing
 pub mod SameHeard
 pub mod Demand
 pub mod Counts
+pub mod Fronts

@@ -4,7 +4,7 @@ use mathlib.Core.Bool.{Bool}
 use mathlib.Core.List.{List}
 use Prim.Native.Nat.{ℕ, _+_, _*_}
 use lib.Dec.{eqb}
-use lib.ListN.{getD}
+use lib.ListN.{getD, take, drop}
 use Rattle.algebra.specs.Sums.{sum}
 use Rattle.algebra.specs.Lists.{every}
 
@@ -17,6 +17,10 @@ pub record Checks : Type 0 where
 -- byte b of the symbol at position i of x
 abbrev pub byteAt : ℕ → List ℕ → ℕ → ℕ → ℕ
 byteAt w x b i = getD x (i * w + b) 0
+
+-- the symbol at position i of x
+abbrev pub symbolAt : ℕ → List ℕ → ℕ → List ℕ
+symbolAt w x i = take w (drop (i * w) x)
 
 -- check row j's sum over x, in byte b of each symbol
 unfoldable pub rowSum : Checks → ℕ → List ℕ → ℕ → ℕ → ℕ

@@ -12,7 +12,7 @@ use Rattle.ccsds.specs.Refusals.{firstOf, wrongCode, wrongWidth, wrongLabel, wr
 use Rattle.ccsds.proofs.Refusals.{or-false, code-known, width-right, length-right, length-same, length-wrong, bytes-right, first-is, first-on, first-end, first-none}
 use Rattle.block.specs.Block.{checks, wrongBuffers, blockRefusal}
 use Rattle.block.specs.Close.{wrongWork, wrongMarks, closeRefusal}
-use Rattle.block.specs.Ready.{Ready}
+use Rattle.block.specs.inner.Ready.{Ready}
 use Rattle.block.specs.declared.Block.{Block}
 use Rattle.block.proofs.BlockRefusal.{block-right}
 

@@ -11,12 +11,11 @@ use native.Mathlib.Omega.{arith}
 use lib.Dec.{eqb}
 use lib.ListN.{length, getD, take, drop, length-append, length-drop, List·getD-append}
 use lib.Seq.{take-length, length-take-le, getD-append-add, getD-take, getD-drop, ext-getD}
-use Rattle.algebra.specs.Codeword.{byteAt}
+use Rattle.algebra.specs.Codeword.{byteAt, symbolAt}
 use Rattle.algebra.proofs.Lists.{and-iff, eqb-iff}
 use Rattle.algebra.proofs.Codeword.{slot}
 use Rattle.buffers.specs.Parts.{put}
 use Rattle.buffers.proofs.Put.{put-paste}
-use Rattle.block.specs.Block.{symbolAt}
 use Rattle.block.specs.Take.{sameBytes, stored}
 
 pub same-bytes : (x y : List ℕ) → (sameBytes x y ≡ true) ↔ (x ≡ y)

@@ -13,7 +13,8 @@ use Rattle.ccsds.specs.Tables.{codeOf}
 use Rattle.ccsds.specs.Refusals.{wrongPosition, wrongSymbol, Outcome, refused, answered, outcome, _⟫_}
 use Rattle.ccsds.specs.Reader.{Parts, readUnit}
 use Rattle.ccsds.proofs.Refusals.{or-false, first-is, first-on, first-end, first-none, refused-by, answered-by}
-use Rattle.block.specs.Block.{checks, symbolAt, blockRefusal, wrongMark}
+use Rattle.block.specs.Block.{checks, blockRefusal, wrongMark}
+use Rattle.algebra.specs.Codeword.{symbolAt}
 use Rattle.block.specs.Take.{wrongParameters, foreign, unitRefusal, Placed, admission, Arrival, kept, repeated, Take, sameBytes, stored, unchanged, arrival, takeAdmitted, takeBy, takeOf}
 use Rattle.block.specs.declared.Block.{Block}
 use Rattle.block.proofs.BlockRefusal.{checks-n}

@@ -15,10 +15,6 @@ use Rattle.block.specs.declared.Block.{Block}
 unfoldable pub checks : Block → Checks
 checks b = checksOf (codeOf (b .code))
 
--- the symbol at position i
-abbrev pub symbolAt : ℕ → List ℕ → ℕ → List ℕ
-symbolAt w symbols i = take w (drop (i * w) symbols)
-
 -- 4, length, of the lent buffers: n × W symbol bytes and n marks
 unfoldable pub wrongBuffers : Block → ℕ → ℕ → Bool
 wrongBuffers b symbols marks = wrongLength symbols (checks b .n * b .w) || wrongLength marks (checks b .n)

@@ -9,7 +9,8 @@ use lib.ListN.{length, getD, take, drop, set}
 use Rattle.ccsds.specs.Tables.{codeOf}
 use Rattle.ccsds.specs.Refusals.{firstOf, wrongPosition, wrongSymbol, Outcome, refused, answered, outcome, _⟫_}
 use Rattle.ccsds.specs.Reader.{Coding, Parts, readUnit}
-use Rattle.block.specs.Block.{checks, symbolAt, blockRefusal, wrongMark}
+use Rattle.block.specs.Block.{checks, blockRefusal, wrongMark}
+use Rattle.algebra.specs.Codeword.{symbolAt}
 use Rattle.block.specs.declared.Block.{Block}
 use Rattle.block.specs.declared.take.Taken.{Taken}
 use Rattle.block.specs.declared.take.Taken.the-variants.{Kept, Repeated, Refused}

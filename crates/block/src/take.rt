@@ -2,7 +2,7 @@
 use crate::Block;
 use crate::checks;
 use ccsds::code::Code;
-use ccsds::expected::Expected;
+use unit_claims::expected::Expected;
 use ccsds::reader::Extension;
 use ccsds::reader::UnitParts;
 use ccsds::reader::UnitRead;
@@ -12,7 +12,7 @@ ghost use lib.ListN.{length};
 ghost use Rattle.ccsds.specs.Refusals.{answered};
 ghost use Rattle.ccsds.specs.Reader.{extensionAs, readUnit};
 ghost use Rattle.block.specs.Take.{wrongParameters, foreign, unitRefusal, admission, arrival, takeOf, takenAs};
-ghost use Rattle.block.specs.Steps.{partsAs, admittedAs};
+ghost use Rattle.block.specs.inner.Steps.{partsAs, admittedAs};
 
 // What take answers: that the symbol is kept, that it was heard before, or the number of the refusal.
 pub enum Taken {
@@ -95,7 +95,7 @@ fn admit_parts(b: Block, p: UnitParts, unit: &[u8]) -> Admitted
 fn admit(b: Block, unit: &[u8]) -> Admitted
     ensures { λ r. ⌜ admittedAs (now (unit .entry)) r ≡ admission b (now (unit .entry)) ⌝ }
 {
-    if let Expected::Parts(p) = ccsds::expected::read(b.code, b.w, b.protocol, b.lsc, unit) {
+    if let Expected::Parts(p) = unit_claims::expected::read(b.code, b.w, b.protocol, b.lsc, unit) {
         return admit_parts(b, p, unit);
     }
     match ccsds::reader::read_unit(unit) {

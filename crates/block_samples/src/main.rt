@@ -250,7 +250,7 @@ fn main() {
     let mut info = information();
     let mut parity = parity_symbols();
     fill(&mut info);
-    ccsds::encode::encode(1, 4, &info, &mut parity);
+    encoder::encode::encode(1, 4, &info, &mut parity);
     sample(1, c1, 0, &info, &parity);
     let zero = information();
     let mut last = parity_symbols();

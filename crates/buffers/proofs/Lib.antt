@@ -1,6 +1,5 @@
 pub mod Added
 pub mod AllZeroLaws
-pub mod Fronts
 pub mod Laid
 pub mod Put
 pub mod Sums

@@ -12,7 +12,7 @@ use lib.Seq.{getD-drop}
 use borrow.Author.Tests.{ne-eqb}
 use Rattle.ccsds.specs.Codes.{Params}
 use Rattle.ccsds.specs.Tables.{codeOf, codeIn, codes, c0, c1, c2}
-use Rattle.ccsds.specs.Layout.{Given, Small, degreeOf, startOf, joined}
+use Rattle.ccsds.specs.inner.Layout.{Given, Small, degreeOf, startOf, joined}
 use Rattle.ccsds.specs.declared.tables.Layout.{Layout}
 use Rattle.ccsds.proofs.Table.{every, at, both-left, both-right}
 

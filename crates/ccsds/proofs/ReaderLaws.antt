@@ -10,10 +10,11 @@ use lib.Dec.{eqb, ltb, leb}
 use lib.ListN.{length, getD}
 use borrow.Author.Tests.{ltb-false, leb-false, lt-leb, eqb-true, not-false}
 use Rattle.ccsds.specs.Refusals.{Outcome, refused, answered, _⟫_}
-use Rattle.ccsds.specs.Sdnv.{Number, Reading, finished, unfinished, wrong, numberAt, numberOr}
-use Rattle.ccsds.specs.Reader.{Coding, Said, Parts, part, pairAt, lengthAt, codingOf, valueOf, wrongType, extensionAt, isSome, oneMore, extensionsOf, wrongHeader, readUnit}
+use Rattle.wire.specs.Sdnv.{Number, Reading, finished, unfinished, wrong, numberAt}
+use Rattle.ccsds.specs.Reader.{numberOr, Coding, Said, Parts, lengthAt, codingOf, valueOf, wrongType, extensionAt, isSome, oneMore, extensionsOf, wrongHeader, readUnit}
+use Rattle.wire.specs.Bytes.{part, pairAt}
 use Rattle.ccsds.proofs.Refusals.{or-false, never, the-answer, of-steps, of-test}
-use Rattle.ccsds.proofs.SdnvLaws.{Fine, is-fine}
+use Rattle.wire.proofs.SdnvLaws.{Fine, is-fine}
 
 -- past the type byte and the length the value decides
 pub from-value : (s : List ℕ) (came : Bool) (at : ℕ) {len : Number} → at < length s → wrongType came (getD s at 0) ≡ false

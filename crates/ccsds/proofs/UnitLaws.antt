@@ -9,11 +9,11 @@ use lib.ListN.{length, length-append}
 use Rattle.ccsds.specs.Codes.{Params, nOf}
 use Rattle.ccsds.specs.Tables.{codeOf, Known}
 use Rattle.ccsds.specs.Refusals.{wrongCode, wrongWidth, wrongLabel, wrongLength, wrongPosition, wrongSymbol}
-use Rattle.ccsds.specs.Sdnv.{sdnvBytes}
-use Rattle.ccsds.specs.Put.{Compact}
+use Rattle.wire.specs.Sdnv.{sdnvBytes}
+use Rattle.ccsds.specs.inner.Compact.{Compact}
 use Rattle.ccsds.specs.Writer.{headerOf, valueBytes, extensionOf, unitOf, symbolStart, unitLength, unitBytes, writeRefusal}
 use Rattle.ccsds.proofs.Refusals.{first-none, code-known, width-right, label-right, length-right, position-right, symbol-right}
-use Rattle.ccsds.proofs.SdnvRound.{most-five, in-one, two-long}
+use Rattle.wire.proofs.SdnvRound.{most-five, in-one, two-long}
 use Rattle.ccsds.proofs.Valid.{valid-of}
 
 pub value-length : (w k n : ℕ) → length (valueBytes w k n) ≡ length (sdnvBytes w) + length (sdnvBytes k) + length (sdnvBytes n) + length (sdnvBytes 0)

@@ -1,16 +1,7 @@
 pub mod Codes
 pub mod Tables
 pub mod Refusals
-pub mod Encode
-pub mod Claims
-pub mod Samples
-pub mod Sdnv
 pub mod Reader
 pub mod Writer
 pub mod Show
-pub mod UnitClaims
-pub mod Layout
-pub mod Positions
-pub mod Steps
-pub mod Put
-pub mod Expected
+pub mod inner

@@ -9,7 +9,8 @@ use Prim.Native.Nat.{ℕ, zero, suc, _+_, _-_, _*_, _/_, _%_}
 use lib.Dec.{eqb, ltb, leb}
 use lib.ListN.{length, getD, take, drop}
 use Rattle.ccsds.specs.Refusals.{Outcome, refused, answered, _⟫_, refuseIf}
-use Rattle.ccsds.specs.Sdnv.{Number, numberAt, numberOr}
+use Rattle.wire.specs.Bytes.{part, pairAt}
+use Rattle.wire.specs.Sdnv.{Number, Reading, finished, unfinished, wrong, numberAt}
 use Rattle.ccsds.specs.declared.reader.NumberRead.{NumberRead}
 use Rattle.ccsds.specs.declared.reader.NumberRead.the-variants as number
 use Rattle.ccsds.specs.declared.reader.Parameters.{Parameters}
@@ -43,13 +44,11 @@ pub record Parts : Type 0 where
   pub coding : Option Coding
   pub symbol : ℕ
 
--- the bytes of s from position a up to position e
-abbrev pub part : List ℕ → ℕ → ℕ → List ℕ
-part s a e = take (e - a) (drop a s)
-
--- two bytes of s, big-endian
-abbrev pub pairAt : List ℕ → ℕ → ℕ
-pairAt s at = getD s at 0 * 256 + getD s (at + 1) 0
+-- a reading as an answer: 19 for a byte that can't be accepted, and its own number, `early`, where the bytes end early
+abbrev pub numberOr : ℕ → Reading → Outcome Number
+numberOr early (finished x) = answered x
+numberOr early unfinished = refused early
+numberOr early wrong = refused 19
 
 -- a length at a position: bytes that end early are 6, and so is a value that reaches past them
 unfoldable pub lengthAt : List ℕ → ℕ → Outcome Number

@@ -7,17 +7,10 @@ use lib.ListN.{length}
 use Rattle.ccsds.specs.Codes.{Params, nOf}
 use Rattle.ccsds.specs.Tables.{codeOf}
 use Rattle.ccsds.specs.Refusals.{firstOf, wrongCode, wrongWidth, wrongLabel, wrongLength, wrongPosition, wrongSymbol, Outcome, refused, answered}
-use Rattle.ccsds.specs.Sdnv.{sdnvBytes}
+use Rattle.wire.specs.Bytes.{twoBytes}
+use Rattle.wire.specs.Sdnv.{sdnvBytes}
 use Rattle.ccsds.specs.declared.writer.Written.{Written}
 use Rattle.ccsds.specs.declared.writer.Written.the-variants.{Done, Refused}
-
--- the LWC of a position
-abbrev pub lwcOf : ℕ → ℕ
-lwcOf position = position + 1
-
--- a number in 16 bits, big-endian
-abbrev pub twoBytes : ℕ → List ℕ
-twoBytes x = x / 256 ∷ x % 256 ∷ []
 
 -- a header: version 1, protocol ID and reserved bit 0, one extension, LWC, LSC
 unfoldable pub headerOf : ℕ → ℕ → ℕ → List ℕ

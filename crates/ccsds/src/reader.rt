@@ -1,8 +1,8 @@
 // The unit reader: what a unit's bytes say, by themselves.
-use crate::big_endian;
-use crate::sdnv;
-use crate::sdnv::Number;
-use crate::sdnv::Sdnv;
+use wire::big_endian;
+use wire::sdnv;
+use wire::sdnv::Number;
+use wire::sdnv::Sdnv;
 ghost use mathlib.Core.Path.{_≡_};
 ghost use Rattle.ccsds.specs.Reader.{numberAs, lengthAt, parameterAt, codingOf, wrongType, extensionAt, extensionsOf, wrongHeader, readUnit, codingAs, walkAs, readAs};
 

@@ -5,7 +5,7 @@ ghost use mathlib.Core.List.{[]};
 ghost use Prim.Native.Nat.{_<_, _≤_};
 ghost use lib.ListN.{length, getD};
 ghost use Rattle.ccsds.specs.Tables.{codeOf};
-ghost use Rattle.ccsds.specs.Layout.{Given, Front, startIn};
+ghost use Rattle.ccsds.specs.inner.Layout.{Given, Front, startIn};
 
 // Table 4-2, row by row.
 const C1: [u16; 80] = [

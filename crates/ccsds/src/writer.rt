@@ -1,15 +1,16 @@
 // The unit writer.
 use crate::checks;
 use crate::code::Code;
-use crate::copy;
-use crate::put;
+use wire::copy;
+use wire::put;
 ghost use mathlib.Core.Path.{_≡_};
 ghost use Prim.Native.Nat.{_+_, _<_, _≤_};
 ghost use lib.ListN.{length};
 ghost use Rattle.ccsds.specs.Tables.{codeOf};
 ghost use Rattle.ccsds.specs.Refusals.{outcome, afterwards};
 ghost use Rattle.ccsds.specs.Writer.{headerOf, valueBytes, extensionOf, unitOf, unitBytes, writeRefusal, writtenAs};
-ghost use Rattle.ccsds.specs.Put.{Put, Compact};
+ghost use Rattle.wire.specs.inner.Put.{Put};
+ghost use Rattle.ccsds.specs.inner.Compact.{Compact};
 
 // The length of the coding parameters' value: k and n have two bytes each in every code, and the seed has one.
 fn value_bytes(w: usize, k: usize, n: usize) -> usize

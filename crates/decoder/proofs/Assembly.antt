@@ -17,11 +17,11 @@ use Rattle.ccsds.specs.Codes.{nOf, checksOf}
 use Rattle.ccsds.specs.Tables.{codeOf, Known}
 use Rattle.ccsds.proofs.Valid.{valid-of}
 use Rattle.algebra.specs.Demand.{Agreeing, Some, Common}
-use Rattle.rows.specs.Fill.{Consistent, ConsistentIs}
-use Rattle.decoder.specs.Plan.{free, Plan, Closed, Unsolved}
-use Rattle.decoder.specs.Values.{Values, HoldIs}
+use Rattle.elimination.specs.Fill.{Consistent, ConsistentIs}
+use Rattle.peeling.specs.Plan.{free, Plan, Closed, Unsolved}
+use Rattle.peeling.specs.Values.{Values, HoldIs}
 use Rattle.decoder.specs.Pivots.{AllSolvedIs, DeterminedIs}
-use Rattle.decoder.specs.Express.{StepsExpressed, SameFrom}
+use Rattle.pivot_equations.specs.Express.{StepsExpressed, SameFrom}
 use Rattle.decoder.specs.Equations.{behind, Equations, PutIn, Room}
 use Rattle.decoder.specs.Marks.{missing, Cleared, FilledMissing, FilledDetermined, Settles, Hangs}
 use Rattle.decoder.specs.Outcome.{Stays, Fills, Leaves, Differs, Outcome}

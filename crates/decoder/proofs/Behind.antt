@@ -14,13 +14,13 @@ use Rattle.algebra.specs.Sums.{pick}
 use Rattle.algebra.specs.Codeword.{Checks}
 use Rattle.algebra.proofs.Sums.{sum-ext}
 use Rattle.algebra.proofs.Codeword.{slot}
-use Rattle.rows.specs.Bits.{rowBit, testBit}
-use Rattle.rows.proofs.Order.{lt-or-le}
-use Rattle.decoder.specs.Plan.{kindOf, rowOf, Plan, Closed, Unsolved}
-use Rattle.decoder.specs.Express.{hangs, hang, StepsExpressed, SameBelow}
+use Rattle.elimination.specs.Bits.{rowBit, testBit}
+use Rattle.elimination.proofs.Order.{lt-or-le}
+use Rattle.peeling.specs.Plan.{kindOf, rowOf, Plan, Closed, Unsolved}
+use Rattle.pivot_equations.specs.Express.{hangs, hang, StepsExpressed, SameBelow}
 use Rattle.decoder.specs.Equations.{behind}
-use Rattle.decoder.proofs.StepLaws.{few-steps, IsPivot, kind-cases}
-use Rattle.decoder.proofs.Hanging.{hangs-none, hangs-step, hangs-pivot}
+use Rattle.peeling.proofs.StepLaws.{few-steps, IsPivot, kind-cases}
+use Rattle.pivot_equations.proofs.Hanging.{hangs-none, hangs-step, hangs-pivot}
 
 -- row i behind the steps is row steps + i
 module _ (l : List ℕ) (words steps : ℕ) where

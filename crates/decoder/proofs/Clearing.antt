@@ -15,8 +15,8 @@ use Rattle.algebra.specs.Codeword.{byteAt}
 use Rattle.algebra.specs.Closing.{heard}
 use Rattle.algebra.proofs.Codeword.{slot}
 use Rattle.decoder.specs.Marks.{missing, Cleared}
-use Rattle.decoder.proofs.Zeroing.{zerosAt}
-use Rattle.decoder.proofs.SymbolLaws.{replaced-other, zero-symbol}
+use Rattle.peeling.proofs.Zeroing.{zerosAt}
+use Rattle.peeling.proofs.SymbolLaws.{replaced-other, zero-symbol}
 
 pub cleared-none : (w : ℕ) (s marks : List ℕ) → Cleared w s marks s marks 0
 cleared-none w s marks = record { mark = λ i. rw (le-ltb i 0 (omega arith)); byte = λ i b h. rw (le-ltb i 0 (omega arith)) }

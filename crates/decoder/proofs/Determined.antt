@@ -10,12 +10,12 @@ use lib.Count.{trailingZeros}
 use lib.ListN.{getD}
 use borrow.Author.Tests.{eq-eqb, ne-eqb}
 use Rattle.buffers.specs.AllZero.{AllZeroIs}
-use Rattle.rows.specs.Bits.{testBit, rowBit, OnlyIs}
-use Rattle.rows.specs.Reduced.{pivotWord}
-use Rattle.rows.proofs.Digits.{testBit-none, LowestSet, trailing-lowest}
-use Rattle.rows.proofs.Order.{eq-or-ne}
+use Rattle.elimination.specs.Bits.{testBit, rowBit, OnlyIs}
+use Rattle.elimination.specs.Reduced.{pivotWord}
+use Rattle.elimination.proofs.Digits.{testBit-none, LowestSet, trailing-lowest}
+use Rattle.elimination.proofs.Order.{eq-or-ne}
 use Rattle.decoder.specs.Pivots.{NoBitsIs, DeterminedIs}
-use Rattle.decoder.proofs.Hanging.{hangs-none, hangs-step, hangs-pivot, hangs-solved}
+use Rattle.pivot_equations.proofs.Hanging.{hangs-none, hangs-step, hangs-pivot, hangs-solved}
 
 -- a row has no pivot where its words are all zero
 pub no-bits : (l : List ℕ) (at len : ℕ) → ((k : ℕ) → k < len → getD l (at + k) 0 < 2 ^ 64) → (r : Bool) → AllZeroIs l at len r → NoBitsIs l at len r

@@ -11,12 +11,12 @@ use lib.ListN.{length, getD, set}
 use borrow.Author.Tests.{eq-eqb, ne-eqb}
 use lib.Seq.{getD-set-same, getD-set-other}
 use Rattle.algebra.specs.Closing.{heard}
-use Rattle.rows.proofs.Order.{eq-or-ne}
-use Rattle.decoder.specs.Plan.{kindOf}
+use Rattle.elimination.proofs.Order.{eq-or-ne}
+use Rattle.peeling.specs.Plan.{kindOf}
 use Rattle.decoder.specs.Pivots.{DeterminedIs}
 use Rattle.decoder.specs.Marks.{Untouched, FilledAt, FilledOne, FillRoom}
-use Rattle.decoder.proofs.Zeroing.{zerosAt}
-use Rattle.decoder.proofs.SymbolLaws.{replaced-other, zero-symbol}
+use Rattle.peeling.proofs.Zeroing.{zerosAt}
+use Rattle.peeling.proofs.SymbolLaws.{replaced-other, zero-symbol}
 
 -- the same room
 pub room-same : {words rows plan l m m′ : ℕ} → FillRoom words rows plan l m → m′ ≡ m → FillRoom words rows plan l m′

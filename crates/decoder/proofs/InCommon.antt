@@ -19,19 +19,19 @@ use Rattle.algebra.specs.Closing.{heard}
 use Rattle.algebra.specs.Demand.{Agreeing, Common}
 use Rattle.algebra.proofs.Sums.{unit, unit-l, cancel-l, self, add-byte, add-ne, sum-ext, sum-none, sum-only, sum-tests, sum-terms, sum-xor, sum-zeros}
 use Rattle.algebra.proofs.Lists.{length-tab, getD-tab}
-use Rattle.rows.specs.Bits.{testBit, rowBit}
-use Rattle.rows.specs.Reduced.{pivotWord, Pivot, Done}
-use Rattle.rows.specs.Fill.{Consistent}
-use Rattle.rows.proofs.Order.{lt-or-le, eq-or-ne}
-use Rattle.decoder.specs.Plan.{kindOf, rowOf, pivotOf, Plan, Closed}
-use Rattle.decoder.specs.Values.{Again}
-use Rattle.decoder.specs.Express.{hangs, Reads, StepsExpressed, SameFrom}
+use Rattle.elimination.specs.Bits.{testBit, rowBit}
+use Rattle.elimination.specs.Reduced.{pivotWord, Pivot, Done}
+use Rattle.elimination.specs.Fill.{Consistent}
+use Rattle.elimination.proofs.Order.{lt-or-le, eq-or-ne}
+use Rattle.peeling.specs.Plan.{kindOf, rowOf, pivotOf, Plan, Closed}
+use Rattle.peeling.specs.Values.{Again}
+use Rattle.pivot_equations.specs.Express.{hangs, Reads, StepsExpressed, SameFrom}
 use Rattle.decoder.specs.Pivots.{Solved, Free, Put, DeterminedIs}
 use Rattle.decoder.specs.Outcome.{Differs}
 use Rattle.decoder.proofs.Triangle.{sum-add, pick-one, vanishes, expressed, plan-triangular}
-use Rattle.decoder.proofs.StepLaws.{few-steps, IsPivot, kind-cases}
-use Rattle.decoder.proofs.Hanging.{hangs-none, hangs-pivot, hangs-solved}
-use Rattle.decoder.proofs.RowChanges.{xor-false}
+use Rattle.peeling.proofs.StepLaws.{few-steps, IsPivot, kind-cases}
+use Rattle.pivot_equations.proofs.Hanging.{hangs-none, hangs-pivot, hangs-solved}
+use Rattle.pivot_equations.proofs.RowChanges.{xor-false}
 use Rattle.decoder.proofs.Solutions.{Along, agreeing-along, high-absent}
 use Rattle.decoder.proofs.ReadOff.{clash, row-here, row-others, Setting, pivotByte, Behind, agrees-reduced, solves-reduced, pivot-below}
 use Rattle.decoder.proofs.ReadOff.{word-behind, pivot-few, kind-same, row-same, plan-put, places, solved-word, row-solved, other-free}

@@ -13,10 +13,10 @@ use Rattle.algebra.proofs.Codeword.{slot}
 use Rattle.buffers.specs.Parts.{put}
 use Rattle.buffers.proofs.Laid.{laid-length}
 use Rattle.buffers.proofs.Put.{put-laid, put-in, put-out}
-use Rattle.rows.specs.Reduced.{pivotWord}
-use Rattle.rows.proofs.Order.{eq-or-ne}
-use Rattle.rows.proofs.SweepLaws.{rows-apart}
-use Rattle.decoder.specs.Plan.{kindOf, pivotOf, Plan, Unsolved}
+use Rattle.elimination.specs.Reduced.{pivotWord}
+use Rattle.elimination.proofs.Order.{eq-or-ne}
+use Rattle.elimination.proofs.SweepLaws.{rows-apart}
+use Rattle.peeling.specs.Plan.{kindOf, pivotOf, Plan, Unsolved}
 use Rattle.decoder.specs.Pivots.{Solved, Free, Put, PutRoom, PutOne}
 
 pub put-none : (c : Checks) (w words steps pivots : ℕ) (l d plan symbols : List ℕ) → Put c w words steps 0 pivots l d plan symbols plan symbols

@@ -14,19 +14,19 @@ use Rattle.algebra.specs.Codeword.{Checks, byteAt}
 use Rattle.algebra.specs.Closing.{heard}
 use Rattle.algebra.specs.Demand.{Agreeing, Some, Common}
 use Rattle.algebra.proofs.Sums.{unit, sum-cong, sum-none, sum-zeros}
-use Rattle.rows.specs.Bits.{rowBit}
-use Rattle.rows.specs.System.{Solves, Same}
-use Rattle.rows.specs.Reduced.{pivotWord, Done, Reduced}
-use Rattle.rows.specs.Fill.{Consistent, Fails}
-use Rattle.rows.proofs.FillLaws.{word-pivot}
-use Rattle.rows.proofs.Order.{lt-or-le, eq-or-ne}
-use Rattle.decoder.specs.Plan.{kindOf, rowOf, positionOf, pivotOf, usedBy, Before, Step, Sort, Plan, Closed, Unsolved}
-use Rattle.decoder.specs.Values.{StepsHold, Values, Again}
-use Rattle.decoder.specs.Express.{Places, StepsExpressed}
+use Rattle.elimination.specs.Bits.{rowBit}
+use Rattle.elimination.specs.System.{Solves, Same}
+use Rattle.elimination.specs.Reduced.{pivotWord, Done, Reduced}
+use Rattle.elimination.specs.Fill.{Consistent, Fails}
+use Rattle.elimination.proofs.FillLaws.{word-pivot}
+use Rattle.elimination.proofs.Order.{lt-or-le, eq-or-ne}
+use Rattle.peeling.specs.Plan.{kindOf, rowOf, positionOf, pivotOf, usedBy, Before, Step, Sort, Plan, Closed, Unsolved}
+use Rattle.peeling.specs.Values.{StepsHold, Values, Again}
+use Rattle.pivot_equations.specs.Express.{Places, StepsExpressed}
 use Rattle.decoder.specs.Pivots.{Solved, Free, Put, AllSolvedIs}
 use Rattle.decoder.proofs.Triangle.{sum-single, expressed, plan-triangular}
-use Rattle.decoder.proofs.StepLaws.{few-steps, IsPivot, kind-cases}
-use Rattle.decoder.proofs.UnusedRows.{free-same}
+use Rattle.peeling.proofs.StepLaws.{few-steps, IsPivot, kind-cases}
+use Rattle.peeling.proofs.UnusedRows.{free-same}
 use Rattle.decoder.proofs.Solutions.{System, Along, agreeing-along, agrees-iff, high-absent}
 
 pub clash : {b : Bool} → b ≡ true → b ≡ false → ⊥

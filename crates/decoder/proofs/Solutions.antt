@@ -14,14 +14,14 @@ use Rattle.algebra.specs.Codeword.{Checks, byteAt, rowSum}
 use Rattle.algebra.specs.Closing.{heard}
 use Rattle.algebra.specs.Demand.{Agreeing}
 use Rattle.algebra.proofs.Sums.{unit, unit-l, self, eq-of-add, sum-ext, sum-none, sum-only, sum-tests, sum-zeros}
-use Rattle.rows.specs.Bits.{rowBit}
-use Rattle.rows.specs.System.{leftSide, Solves}
-use Rattle.decoder.specs.Plan.{Plan, Closed, Unsolved, kindOf, rowOf, pivotOf, usedBy, free}
-use Rattle.decoder.specs.Values.{Values, StepsHold, Sides}
-use Rattle.decoder.specs.Express.{hangs, hang, StepsExpressed}
-use Rattle.decoder.proofs.StepLaws.{few-steps}
-use Rattle.decoder.proofs.UnusedRows.{Unused, free-below, free-row}
-use Rattle.decoder.proofs.Hanging.{hangs-none, hangs-pivot}
+use Rattle.elimination.specs.Bits.{rowBit}
+use Rattle.elimination.specs.System.{leftSide, Solves}
+use Rattle.peeling.specs.Plan.{Plan, Closed, Unsolved, kindOf, rowOf, pivotOf, usedBy, free}
+use Rattle.peeling.specs.Values.{Values, StepsHold, Sides}
+use Rattle.pivot_equations.specs.Express.{hangs, hang, StepsExpressed}
+use Rattle.peeling.proofs.StepLaws.{few-steps}
+use Rattle.peeling.proofs.UnusedRows.{Unused, free-below, free-row}
+use Rattle.pivot_equations.proofs.Hanging.{hangs-none, hangs-pivot}
 use Rattle.decoder.proofs.Triangle.{vanishes, expressed, exchange, sum-add, pick-one, plan-triangular}
 
 -- lr are the packed rows of the check rows that no step used, one after the other, and d their right-hand sides

@@ -14,7 +14,7 @@ use Rattle.algebra.specs.Sums.{_⊕_, pick, sum}
 use Rattle.algebra.specs.Codeword.{Checks}
 use Rattle.algebra.specs.Closing.{heard}
 use Rattle.algebra.proofs.Sums.{unit, self, eq-of-add, add4, sum-terms, sum-zeros, sum-only, sum-none, odd, pick-xor}
-use Rattle.decoder.specs.Plan.{Plan, Closed, Sort, Before, kindOf, rowOf, positionOf, pivotOf}
+use Rattle.peeling.specs.Plan.{Plan, Closed, Sort, Before, kindOf, rowOf, positionOf, pivotOf}
 
 -- position p is known, settled by one of the first s steps, or a pivot
 abbrev pub Sorted : (ℕ → Bool) → (ℕ → ℕ) → ℕ → (ℕ → ℕ) → ℕ → ℕ → Type 0

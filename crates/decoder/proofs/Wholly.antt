@@ -12,8 +12,8 @@ use Rattle.algebra.specs.Sums.{_⊕_, sum}
 use Rattle.algebra.specs.Codeword.{Checks, byteAt, rowSum}
 use Rattle.algebra.specs.Demand.{Agreeing, Some, Common}
 use Rattle.algebra.proofs.Sums.{unit, self, eq-of-add, sum-ext}
-use Rattle.decoder.specs.Plan.{Plan, Closed, rowOf, usedBy}
-use Rattle.decoder.specs.Values.{Values, HoldIs}
+use Rattle.peeling.specs.Plan.{Plan, Closed, rowOf, usedBy}
+use Rattle.peeling.specs.Values.{Values, HoldIs}
 use Rattle.decoder.proofs.Triangle.{vanishes, plan-triangular, sum-add}
 
 module _ (c : Checks) (w : ℕ) (block marks plan symbols : List ℕ) (early steps pivots : ℕ) (none : pivots ≡ 0)

@@ -5,11 +5,11 @@ use mathlib.Core.List.{List}
 use Prim.Native.Nat.{ℕ, _+_, _*_, _<_, _≤_}
 use lib.ListN.{drop}
 use Rattle.algebra.specs.Codeword.{Checks}
-use Rattle.rows.specs.System.{Same}
-use Rattle.rows.specs.Reduced.{Reduced}
-use Rattle.decoder.specs.Plan.{free}
-use Rattle.decoder.specs.Values.{Sides, Again}
-use Rattle.decoder.specs.Express.{StepsExpressed, RestExpressed}
+use Rattle.elimination.specs.System.{Same}
+use Rattle.elimination.specs.Reduced.{Reduced}
+use Rattle.peeling.specs.Plan.{free}
+use Rattle.peeling.specs.Values.{Sides, Again}
+use Rattle.pivot_equations.specs.Express.{StepsExpressed, RestExpressed}
 use Rattle.decoder.specs.Pivots.{Put}
 
 -- where the rows of the check rows that no step used begin

@@ -1,11 +1,4 @@
-pub mod Table
-pub mod Plan
-pub mod Values
-pub mod Hints
-pub mod Peel
-pub mod Express
-pub mod Pivots
 pub mod Equations
-pub mod Unused
-pub mod Outcome
+pub mod Pivots
 pub mod Marks
+pub mod Outcome

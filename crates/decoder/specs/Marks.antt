@@ -9,7 +9,7 @@ use lib.Dec.{ltb}
 use lib.ListN.{length, getD}
 use Rattle.algebra.specs.Codeword.{byteAt}
 use Rattle.algebra.specs.Closing.{heard}
-use Rattle.decoder.specs.Plan.{kindOf}
+use Rattle.peeling.specs.Plan.{kindOf}
 use Rattle.decoder.specs.Pivots.{DeterminedIs}
 use Rattle.decoder.specs.Outcome.{Leaves}
 

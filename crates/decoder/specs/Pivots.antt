@@ -9,10 +9,10 @@ use Prim.Native.Nat.{ℕ, _+_, _-_, _*_, _<_, _≤_}
 use lib.ListN.{length, getD, set}
 use Rattle.algebra.specs.Codeword.{Checks, byteAt}
 use Rattle.buffers.specs.Parts.{put}
-use Rattle.rows.specs.Bits.{rowBit}
-use Rattle.rows.specs.Reduced.{pivotWord}
-use Rattle.decoder.specs.Plan.{kindOf, pivotOf}
-use Rattle.decoder.specs.Express.{hangs, Reads}
+use Rattle.elimination.specs.Bits.{rowBit}
+use Rattle.elimination.specs.Reduced.{pivotWord}
+use Rattle.peeling.specs.Plan.{kindOf, pivotOf}
+use Rattle.pivot_equations.specs.Express.{hangs, Reads}
 
 -- pivot u is solved: reduced row i has it
 pub record Solved (w words steps rest : ℕ) (l d plan′ symbols′ : List ℕ) (u p : ℕ) : Type 0 where

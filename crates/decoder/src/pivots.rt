@@ -4,8 +4,8 @@ ghost use Prim.Native.Nat.{ℕ, _+_, _*_, _<_, _≤_};
 ghost use lib.ListN.{length};
 ghost use Rattle.ccsds.specs.Codes.{checksOf};
 ghost use Rattle.ccsds.specs.Tables.{codeOf};
-ghost use Rattle.rows.specs.Reduced.{pivotWord};
-ghost use Rattle.decoder.specs.Plan.{pivotOf, kindOf, Plan, Unsolved};
+ghost use Rattle.elimination.specs.Reduced.{pivotWord};
+ghost use Rattle.peeling.specs.Plan.{pivotOf, kindOf, Plan, Unsolved};
 ghost use Rattle.decoder.specs.Pivots.{Put, PutRoom, PutOne, AllSolvedIs, NoBitsIs, Readable, DeterminedIs};
 
 // Where row steps + i of the reduced rows has a pivot, its symbol is that row's right-hand side.
@@ -122,5 +122,5 @@ pub fn determined(
     let h = (kind - 4097) * stride;
     let k = h + packed;
     let u = words[k] as usize;
-    rows::bits::only(words, h, packed, u - 1)
+    elimination::bits::only(words, h, packed, u - 1)
 }

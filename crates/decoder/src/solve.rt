@@ -1,12 +1,12 @@
 // From a block's heard symbols to the missing symbols that they determine. Peeling settles what it can and puts off the rest as pivots; the check rows
 // that no step used give equations for the pivots; what then hangs on no free pivot is filled.
-use crate::again;
-use crate::express;
+use pivot_equations::again;
+use pivot_equations::express;
 use crate::marks;
-use crate::peel;
+use peeling::peel;
 use crate::pivots;
-use crate::remaining;
-use ccsds::positions;
+use pivot_equations::remaining;
+use encoder::positions;
 use ccsds::tables;
 use ccsds::tables::Layout;
 ghost use mathlib.Core.Path.{_≡_};
@@ -15,13 +15,13 @@ ghost use Prim.Native.Nat.{_+_, _*_, _/_, _<_, _≤_};
 ghost use lib.ListN.{length, drop, replicate};
 ghost use Rattle.ccsds.specs.Codes.{nOf, checksOf};
 ghost use Rattle.ccsds.specs.Tables.{codeOf, Known};
-ghost use Rattle.rows.specs.System.{Same};
-ghost use Rattle.rows.specs.Reduced.{Reduced};
-ghost use Rattle.rows.specs.Fill.{Consistent, ConsistentIs};
-ghost use Rattle.decoder.specs.Table.{Table};
-ghost use Rattle.decoder.specs.Plan.{Plan, Closed, Unsolved};
-ghost use Rattle.decoder.specs.Values.{Values};
-ghost use Rattle.decoder.specs.Express.{StepsExpressed, RestExpressed};
+ghost use Rattle.elimination.specs.System.{Same};
+ghost use Rattle.elimination.specs.Reduced.{Reduced};
+ghost use Rattle.elimination.specs.Fill.{Consistent, ConsistentIs};
+ghost use Rattle.peeling.specs.Table.{Table};
+ghost use Rattle.peeling.specs.Plan.{Plan, Closed, Unsolved};
+ghost use Rattle.peeling.specs.Values.{Values};
+ghost use Rattle.pivot_equations.specs.Express.{StepsExpressed, RestExpressed};
 ghost use Rattle.decoder.specs.Equations.{Room, behind, Equations, PutIn};
 ghost use Rattle.decoder.specs.Outcome.{Outcome, Decoded};
 
@@ -95,7 +95,7 @@ fn reduce_from(
     ensures { λ _. ⌜ Same (drop from (now (words .entry))) (now (bytes .entry)) (drop from (now (words .exit))) (now (bytes .exit)) rest packed w ⌝ }
     ensures { λ _. ⌜ Reduced (drop from (now (words .exit))) rest packed rest ⌝ }
 {
-    rows::eliminate(&mut words[from..], bytes, rest, packed, w);
+    elimination::eliminate(&mut words[from..], bytes, rest, packed, w);
 }
 
 // The reduced rows that begin at word `from` have a solution.
@@ -111,7 +111,7 @@ fn consistent_from(
     requires { ⌜ Reduced (drop from (now words)) rest packed rest ⌝ }
     ensures { λ r. ⌜ ConsistentIs (drop from (now (words .entry))) (now (bytes .entry)) rest packed w r ⌝ }
 {
-    rows::solution::consistent(&words[from..], bytes, rest, packed, w)
+    elimination::solution::consistent(&words[from..], bytes, rest, packed, w)
 }
 
 // The equations of the pivots, reduced, in the rows behind the steps; answers how many.

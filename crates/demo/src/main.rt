@@ -3,7 +3,7 @@
 use block::Block;
 use block::open::Opened;
 use block::take::Taken;
-use ccsds::encode::Encoded;
+use encoder::encode::Encoded;
 use ccsds::writer::Written;
 use libc::STDIN_FILENO;
 ghost use Prim.Native.Nat.{_<_, _≤_};
@@ -17,7 +17,7 @@ const UNIT: usize = 30;
 fn encode(b: Block, info: &[u8], parity: &mut [u8]) {
     report::print(b"information");
     report::print_buffer(info);
-    let answer = ccsds::encode::encode(b.code, b.w, info, parity);
+    let answer = encoder::encode::encode(b.code, b.w, info, parity);
     match answer {
         Encoded::Done => report::print(b"parity"),
         Encoded::Refused(number) => block_report::print_refusal(number),

@@ -1,7 +1,7 @@
 // Encodes a fixed pattern with each code at several widths, and prints the parity's first bytes and checksum. The expected output is
 // made by tests/vectors/encode.py, which shares no code with this repository's encoder.
 use ccsds::code::Code;
-use ccsds::encode::Encoded;
+use encoder::encode::Encoded;
 ghost use Prim.Native.Nat.{_<_};
 
 // The generator x → (1,103,515,245 x + 12,345) mod 2,147,483,648 from x = seed, a byte of x for each byte of the buffer.
@@ -25,7 +25,7 @@ fn one(code: usize, w: usize, info: &mut [u8], parity: &mut [u8]) {
     report::print_number(code);
     report::print(b" W ");
     report::print_number(w);
-    let answer = ccsds::encode::encode(code, w, info, parity);
+    let answer = encoder::encode::encode(code, w, info, parity);
     match answer {
         Encoded::Done => report::print(b" parity"),
         Encoded::Refused(r) => {

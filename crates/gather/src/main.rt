@@ -2,7 +2,7 @@
 use block::Block;
 use block::close::Closed;
 use block::open::Opened;
-use ccsds::big_endian;
+use wire::big_endian;
 use libc::STDIN_FILENO;
 ghost use mathlib.Core.Path.{_≡_};
 ghost use lib.ListN.{length};

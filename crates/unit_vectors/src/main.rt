@@ -1,6 +1,6 @@
 // Runs vectors from outside through the unit reader, the unit writer and show, and prints a line for each. tests/vectors/units.py makes
 // the vectors (stdin) and the lines (stdout); it shares no code with this repository.
-use ccsds::big_endian;
+use wire::big_endian;
 use ccsds::code::Code;
 use ccsds::reader::Extension;
 use ccsds::reader::UnitRead;

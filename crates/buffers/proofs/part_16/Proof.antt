@@ -4,7 +4,7 @@ use mathlib.Core.Path.{refl}
 use Prim.Native.Nat.{ℕ, _+_, _-_}
 use native.Mathlib.Omega.{arith}
 use lib.ListN.{getD}
-use Rattle.buffers.proofs.Fronts.{Filled, filled-none, filled-more, filled-all}
+use Rattle.algebra.proofs.Fronts.{Filled, filled-none, filled-more, filled-all}
 use Rattle.buffers.proofs.part_16.Statement.{statement}
 use Rattle.buffers.proofs.part_16.Tie as tie
 

@@ -5,7 +5,7 @@ use Prim.Native.Nat.{ℕ, _+_, _-_}
 use native.Mathlib.Omega.{arith}
 use lib.ListN.{getD}
 use Rattle.algebra.specs.Sums.{_⊕_}
-use Rattle.buffers.proofs.Fronts.{Filled, filled-none, filled-more, filled-all}
+use Rattle.algebra.proofs.Fronts.{Filled, filled-none, filled-more, filled-all}
 use Rattle.buffers.proofs.sum_16.Statement.{statement}
 use Rattle.buffers.proofs.sum_16.Tie as tie
 

@@ -2,8 +2,8 @@
 -- Assumes nothing.
 use mathlib.Core.Path.{sym, ap, _∙_, subst}
 use Rattle.ccsds.specs.Reader.{readUnit, readAs}
-use Rattle.ccsds.specs.Expected.{Agrees}
-use Rattle.ccsds.specs.declared.expected.Expected.{Expected}
+use Rattle.unit_claims.specs.inner.Expected.{Agrees}
+use Rattle.unit_claims.specs.declared.expected.Expected.{Expected}
 use Rattle.block.proofs.Taking.{unread}
 use borrow.Author.Needs.{needs}
 use Rattle.block.proofs.take.admit.Statement.{statement}

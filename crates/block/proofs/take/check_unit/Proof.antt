@@ -8,7 +8,7 @@ use Rattle.ccsds.specs.Codes.{nOf}
 use Rattle.ccsds.specs.Tables.{codeOf}
 use Rattle.ccsds.specs.Refusals.{wrongPosition}
 use Rattle.block.specs.Take.{wrongParameters, foreign}
-use Rattle.block.specs.Steps.{partsAs}
+use Rattle.block.specs.inner.Steps.{partsAs}
 use Rattle.block.proofs.Taking.{parameters-refused, foreign-refused, position-refused, symbol-refused, unit-admitted}
 use Rattle.block.proofs.take.check_unit.Statement.{statement}
 use Rattle.block.proofs.take.check_unit.Tie as tie

@@ -11,7 +11,7 @@ use Rattle.ccsds.specs.Refusals.{Outcome, refused, answered}
 use Rattle.ccsds.proofs.Refusals.{width-right}
 use Rattle.block.specs.Block.{checks, blockRefusal}
 use Rattle.block.specs.Take.{Arrival, Take, admission, arrival, takeOf}
-use Rattle.block.specs.Steps.{admittedAs}
+use Rattle.block.specs.inner.Steps.{admittedAs}
 use Rattle.block.specs.declared.Block.{Block}
 use Rattle.block.proofs.BlockRefusal.{block-right}
 use Rattle.block.proofs.Taking.{Inside, admitted-inside, take-refused, take-by, apart}

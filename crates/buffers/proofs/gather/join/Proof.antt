@@ -5,7 +5,7 @@ use Prim.Native.Nat.{ℕ, _-_}
 use native.Mathlib.Omega.{arith}
 use lib.Bits.{bitOr}
 use lib.ListN.{getD}
-use Rattle.buffers.proofs.Fronts.{Filled, filled-none, filled-more, filled-all}
+use Rattle.algebra.proofs.Fronts.{Filled, filled-none, filled-more, filled-all}
 use Rattle.buffers.proofs.gather.join.Statement.{statement}
 use Rattle.buffers.proofs.gather.join.Tie as tie
 

@@ -8,12 +8,12 @@ use types.Run.{OneOf}
 use denote.Enum.Declared.{tagOf}
 use borrow.Author.Tests.{lt-ltb, le-ltb}
 use borrow.Author.Needs.{needs}
-use Rattle.ccsds.specs.Sdnv.{unfinished, sdnvAs}
+use Rattle.wire.specs.Sdnv.{unfinished, sdnvAs}
 use Rattle.ccsds.specs.Reader.{lengthAt}
-use Rattle.ccsds.specs.declared.sdnv.Sdnv.{Sdnv}
-use Rattle.ccsds.specs.declared.sdnv.Sdnv.the-variants.{Whole, Unfinished, Wrong}
-use Rattle.ccsds.proofs.sdnv.Sdnv.{the-type}
-use Rattle.ccsds.proofs.SdnvLaws.{Fine, is-fine}
+use Rattle.wire.specs.declared.sdnv.Sdnv.{Sdnv}
+use Rattle.wire.specs.declared.sdnv.Sdnv.the-variants.{Whole, Unfinished, Wrong}
+use Rattle.wire.proofs.sdnv.Sdnv.{the-type}
+use Rattle.wire.proofs.SdnvLaws.{Fine, is-fine}
 use Rattle.ccsds.proofs.reader.read_length.Statement.{statement}
 use Rattle.ccsds.proofs.reader.read_length.Tie as tie
 

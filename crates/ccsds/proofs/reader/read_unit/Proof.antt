@@ -7,7 +7,8 @@ use Prim.Native.Nat.{ℕ, _/_, _%_}
 use native.Mathlib.Omega.{arith}
 use lib.ListN.{getD}
 use Rattle.ccsds.specs.Refusals.{refused, answered}
-use Rattle.ccsds.specs.Reader.{Said, wrongHeader, pairAt, extensionsOf, readUnit, walkAs}
+use Rattle.ccsds.specs.Reader.{Said, wrongHeader, extensionsOf, readUnit, walkAs}
+use Rattle.wire.specs.Bytes.{pairAt}
 use Rattle.ccsds.proofs.ReaderLaws.{six-bytes}
 use borrow.Author.Needs.{needs}
 use Rattle.ccsds.proofs.reader.read_unit.Statement.{statement}

@@ -8,7 +8,7 @@ use native.Mathlib.Omega.{arith}
 use lib.ListN.{length, getD}
 use borrow.Author.Needs.{needs}
 use Rattle.ccsds.specs.Codes.{Params}
-use Rattle.ccsds.specs.Layout.{joined}
+use Rattle.ccsds.specs.inner.Layout.{joined}
 use Rattle.ccsds.specs.Tables.{codeOf, c0, c1, c2, rows1, rows2}
 use Rattle.ccsds.proofs.FlatTable.{is-1, is-2, is-none}
 use Rattle.ccsds.proofs.tables.address.Statement.{statement}

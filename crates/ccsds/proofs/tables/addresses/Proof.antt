@@ -8,7 +8,7 @@ use native.Mathlib.Omega.{arith}
 use lib.Dec.{ltb}
 use lib.ListN.{length, getD}
 use Rattle.ccsds.specs.Tables.{codeOf}
-use Rattle.buffers.proofs.Fronts.{Filled, filled-none, filled-more}
+use Rattle.algebra.proofs.Fronts.{Filled, filled-none, filled-more}
 use Rattle.ccsds.proofs.tables.addresses.Statement.{statement}
 use Rattle.ccsds.proofs.tables.addresses.Tie as tie
 

@@ -4,9 +4,9 @@ use mathlib.Core.Path.{ap}
 use Prim.Native.Nat.{ℕ}
 use native.Mathlib.Omega.{arith}
 use lib.ListN.{length}
-use Rattle.ccsds.specs.Sdnv.{sdnvBytes}
+use Rattle.wire.specs.Sdnv.{sdnvBytes}
 use Rattle.ccsds.specs.Writer.{extensionOf}
-use Rattle.ccsds.proofs.PutLaws.{then-put}
+use Rattle.wire.proofs.PutLaws.{then-put}
 use Rattle.ccsds.proofs.UnitLaws.{extension-length, value-most}
 use borrow.Author.Needs.{needs}
 use Rattle.ccsds.proofs.writer.put_extension.Statement.{statement}

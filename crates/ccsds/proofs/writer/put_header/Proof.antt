@@ -1,7 +1,7 @@
 -- `ccsds::writer::put_header` meets its contract: the header's bytes, one after the other.
 -- Assumes nothing.
 use Rattle.ccsds.specs.Writer.{headerOf}
-use Rattle.ccsds.proofs.PutLaws.{then-put}
+use Rattle.wire.proofs.PutLaws.{then-put}
 use borrow.Author.Needs.{needs}
 use Rattle.ccsds.proofs.writer.put_header.Statement.{statement}
 use Rattle.ccsds.proofs.writer.put_header.Tie as tie

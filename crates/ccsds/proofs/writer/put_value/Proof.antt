@@ -3,8 +3,8 @@
 use native.Mathlib.Omega.{arith}
 use lib.Dec.{lit<}
 use Rattle.ccsds.specs.Writer.{valueBytes}
-use Rattle.ccsds.proofs.PutLaws.{then-put}
-use Rattle.ccsds.proofs.SdnvRound.{in-one, two-long}
+use Rattle.wire.proofs.PutLaws.{then-put}
+use Rattle.wire.proofs.SdnvRound.{in-one, two-long}
 use Rattle.ccsds.proofs.UnitLaws.{value-compact}
 use borrow.Author.Needs.{needs}
 use Rattle.ccsds.proofs.writer.put_value.Statement.{statement}

@@ -1,7 +1,7 @@
 -- `ccsds::writer::value_bytes` meets its contract: the lengths of four numbers.
 -- Assumes nothing.
 use native.Mathlib.Omega.{arith}
-use Rattle.ccsds.proofs.SdnvRound.{most-five}
+use Rattle.wire.proofs.SdnvRound.{most-five}
 use Rattle.ccsds.proofs.UnitLaws.{value-compact}
 use Rattle.ccsds.proofs.writer.value_bytes.Statement.{statement}
 use Rattle.ccsds.proofs.writer.value_bytes.Tie as tie

@@ -9,7 +9,7 @@ use Rattle.ccsds.specs.Tables.{codeOf}
 use Rattle.ccsds.specs.Writer.{extensionOf, unitOf, unitLength, symbolStart}
 use Rattle.ccsds.proofs.Valid.{few-of}
 use Rattle.ccsds.proofs.Refusals.{refused-by, kept-by, not-refused, answered-by, changed-by}
-use Rattle.ccsds.proofs.PutLaws.{then-put, put-whole}
+use Rattle.wire.proofs.PutLaws.{then-put, put-whole}
 use Rattle.ccsds.proofs.UnitLaws.{header-length, compact-of, unit-length, Writable, writable}
 use borrow.Author.Needs.{needs}
 use Rattle.ccsds.proofs.writer.write.Statement.{statement}

@@ -3,7 +3,7 @@
 use mathlib.Core.Path.{_∙_}
 use borrow.Author.Needs.{needs}
 use Rattle.decoder.proofs.Clearing.{heard-one, heard-not, stays, goes}
-use Rattle.decoder.proofs.SymbolLaws.{zeroed-symbol}
+use Rattle.peeling.proofs.SymbolLaws.{zeroed-symbol}
 use Rattle.decoder.proofs.marks.clear_at.Statement.{statement}
 use Rattle.decoder.proofs.marks.clear_at.Tie as tie
 

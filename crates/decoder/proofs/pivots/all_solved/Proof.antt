@@ -3,7 +3,7 @@
 use Prim.Native.Nat.{ℕ, _+_, _-_, _≤_, _<_}
 use native.Mathlib.Omega.{arith}
 use borrow.Author.Count.{below-more}
-use Rattle.decoder.specs.Plan.{kindOf, pivotOf}
+use Rattle.peeling.specs.Plan.{kindOf, pivotOf}
 use Rattle.decoder.proofs.pivots.all_solved.Statement.{statement}
 use Rattle.decoder.proofs.pivots.all_solved.Tie as tie
 

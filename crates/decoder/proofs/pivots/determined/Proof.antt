@@ -6,8 +6,8 @@ use native.Mathlib.Nat.{le-trans}
 use native.Mathlib.Omega.{arith}
 use lib.ListN.{length}
 use Rattle.algebra.proofs.Codeword.{slot}
-use Rattle.rows.specs.Reduced.{pivotWord}
-use Rattle.decoder.specs.Plan.{kindOf}
+use Rattle.elimination.specs.Reduced.{pivotWord}
+use Rattle.peeling.specs.Plan.{kindOf}
 use Rattle.decoder.proofs.Determined.{determined-early, determined-step, determined-pivot, determined-solved}
 use borrow.Author.Needs.{needs}
 use Rattle.decoder.proofs.pivots.determined.Statement.{statement}

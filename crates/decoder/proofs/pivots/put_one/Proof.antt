@@ -5,8 +5,8 @@ use Prim.Native.Nat.{ℕ, _+_, _-_, _*_, _<_, _≤_}
 use native.Mathlib.Omega.{arith}
 use lib.ListN.{length, set}
 use Rattle.buffers.specs.Parts.{put}
-use Rattle.rows.specs.Reduced.{pivotWord}
-use Rattle.decoder.specs.Plan.{pivotOf}
+use Rattle.elimination.specs.Reduced.{pivotWord}
+use Rattle.peeling.specs.Plan.{pivotOf}
 use borrow.Author.Needs.{needs}
 use Rattle.decoder.proofs.pivots.put_one.Statement.{statement}
 use Rattle.decoder.proofs.pivots.put_one.Tie as tie

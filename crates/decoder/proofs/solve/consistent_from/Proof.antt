@@ -5,15 +5,15 @@ use mathlib.Core.List.{List}
 use Prim.Native.Nat.{ℕ}
 use native.Mathlib.Omega.{arith}
 use lib.ListN.{length, length-drop}
-use Rattle.rows.specs.Reduced.{Reduced}
-use Rattle.rows.specs.Fill.{ConsistentIs}
+use Rattle.elimination.specs.Reduced.{Reduced}
+use Rattle.elimination.specs.Fill.{ConsistentIs}
 use Rattle.decoder.proofs.Behind.{part-all}
 use borrow.Author.Needs.{needs}
 use Rattle.decoder.proofs.solve.consistent_from.Statement.{statement}
 use Rattle.decoder.proofs.solve.consistent_from.Tie as tie
 use Rattle.decoder.proofs.solve.consistent_from.Reads as reads
 use Rattle.decoder.proofs.solve.consistent_from.Lts as lts
-use Rattle.rows.proofs.solution.consistent.Reads as consistent-reads
+use Rattle.elimination.proofs.solution.consistent.Reads as consistent-reads
 
 -- src/solve.rt:69:32
 mul-consistent : tie.Need-mul-consistent

@@ -10,13 +10,13 @@ use Rattle.decoder.specs.Pivots.{Readable}
 use Rattle.decoder.proofs.Assembly.{setting, back, by-rows-all, by-rows-some}
 use Rattle.decoder.proofs.ReadOff.{plan-put, places}
 use Rattle.decoder.proofs.InCommon.{reads, reads-here}
-use Rattle.decoder.proofs.CodeSizes.{layout-rows}
+use Rattle.peeling.proofs.CodeSizes.{layout-rows}
 use borrow.Author.Needs.{needs}
 use Rattle.decoder.proofs.solve.fill.Statement.{statement}
 use Rattle.decoder.proofs.solve.fill.Tie as tie
 use Rattle.decoder.proofs.solve.fill.Reads as reads
 use Rattle.decoder.proofs.solve.fill.Lts as lts
-use Rattle.decoder.proofs.express.steps.Reads as steps-reads
+use Rattle.pivot_equations.proofs.express.steps.Reads as steps-reads
 use Rattle.decoder.proofs.marks.fill_determined.Reads as fill-determined-reads
 use Rattle.decoder.proofs.marks.fill_missing.Reads as fill-missing-reads
 use Rattle.decoder.proofs.pivots.all_solved.Reads as all-solved-reads

@@ -7,7 +7,7 @@ use Rattle.decoder.proofs.solve.reduce.Statement.{statement}
 use Rattle.decoder.proofs.solve.reduce.Tie as tie
 use Rattle.decoder.proofs.solve.reduce.Reads as reads
 use Rattle.decoder.proofs.solve.reduce.Lts as lts
-use Rattle.decoder.proofs.remaining.sums.Reads as sums-reads
+use Rattle.pivot_equations.proofs.remaining.sums.Reads as sums-reads
 use Rattle.decoder.proofs.solve.express_all.Reads as express-all-reads
 use Rattle.decoder.proofs.solve.reduce_from.Reads as reduce-from-reads
 

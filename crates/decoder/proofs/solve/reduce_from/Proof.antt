@@ -5,15 +5,15 @@ use mathlib.Core.List.{List}
 use Prim.Native.Nat.{ℕ, _≤_}
 use native.Mathlib.Omega.{arith}
 use lib.ListN.{length, drop}
-use Rattle.rows.specs.System.{Same}
-use Rattle.rows.specs.Reduced.{Reduced}
+use Rattle.elimination.specs.System.{Same}
+use Rattle.elimination.specs.Reduced.{Reduced}
 use Rattle.decoder.proofs.Behind.{part-all, part-back}
 use borrow.Author.Needs.{needs}
 use Rattle.decoder.proofs.solve.reduce_from.Statement.{statement}
 use Rattle.decoder.proofs.solve.reduce_from.Tie as tie
 use Rattle.decoder.proofs.solve.reduce_from.Reads as reads
 use Rattle.decoder.proofs.solve.reduce_from.Lts as lts
-use Rattle.rows.proofs.eliminate.Reads as eliminate-reads
+use Rattle.elimination.proofs.eliminate.Reads as eliminate-reads
 
 -- src/solve.rt:60:21
 mul-eliminate : tie.Need-mul-eliminate

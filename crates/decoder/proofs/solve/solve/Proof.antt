@@ -11,9 +11,9 @@ use Rattle.decoder.proofs.solve.solve.Statement.{statement}
 use Rattle.decoder.proofs.solve.solve.Tie as tie
 use Rattle.decoder.proofs.solve.solve.Reads as reads
 use Rattle.decoder.proofs.solve.solve.Lts as lts
-use Rattle.ccsds.proofs.positions.lay.Reads as lay-reads
+use Rattle.encoder.proofs.positions.lay.Reads as lay-reads
 use Rattle.ccsds.proofs.tables.layout_of.Reads as layout-of-reads
-use Rattle.decoder.proofs.peel.peel.Reads as peel-reads
+use Rattle.peeling.proofs.peel.peel.Reads as peel-reads
 use Rattle.decoder.proofs.solve.blank.Reads as blank-reads
 use Rattle.decoder.proofs.solve.by_pivots.Reads as by-pivots-reads
 use Rattle.decoder.proofs.solve.by_steps.Reads as by-steps-reads

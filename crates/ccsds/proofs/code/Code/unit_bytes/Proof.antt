@@ -9,10 +9,10 @@ use lib.ListN.{length}
 use Rattle.ccsds.specs.Codes.{nOf}
 use Rattle.ccsds.specs.Tables.{codeOf}
 use Rattle.ccsds.specs.Refusals.{wrongCode, wrongWidth}
-use Rattle.ccsds.specs.Sdnv.{sdnvBytes}
+use Rattle.wire.specs.Sdnv.{sdnvBytes}
 use Rattle.ccsds.specs.Writer.{valueBytes, unitLength, unitBytes}
 use Rattle.ccsds.proofs.Refusals.{code-known, width-right}
-use Rattle.ccsds.proofs.SdnvRound.{most-five}
+use Rattle.wire.proofs.SdnvRound.{most-five}
 use Rattle.ccsds.proofs.UnitLaws.{extension-length, value-most, compact-of, unit-right}
 use borrow.Author.Needs.{needs}
 use Rattle.ccsds.proofs.code.Code.unit_bytes.Statement.{statement}

@@ -1,0 +1,8 @@
+pub mod Cycle
+pub mod Touched
+pub mod Arrays
+pub mod WholeRow
+pub mod Parity
+pub mod EncodeRefusal
+pub mod Claims
+pub mod Samples

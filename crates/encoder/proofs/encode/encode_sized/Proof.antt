@@ -1,0 +1,78 @@
+-- `ccsds::encode::encode_sized` meets its contract: after s turns, s * a parity symbols are there.
+-- Assumes nothing.
+use mathlib.Core.Path.{_≡_, refl, sym, ap, _∙_}
+use Prim.Native.Nat.{ℕ, _≤_, _*_, _-_}
+use native.Mathlib.Nat.{zero-mul, suc-mul}
+use native.Mathlib.Numerals.{add-one}
+use native.Mathlib.Omega.{arith}
+use lib.ListN.{length}
+use borrow.Author.Needs.{needs}
+use Rattle.ccsds.specs.Tables.{codeOf}
+use Rattle.encoder.specs.inner.Steps.{Done}
+use Rattle.ccsds.proofs.Valid.{valid-of}
+use Rattle.encoder.proofs.Parity.{done-at, done-none, done-all}
+use Rattle.encoder.proofs.encode.encode_sized.Statement.{statement}
+use Rattle.encoder.proofs.encode.encode_sized.Tie as tie
+
+abbrev Inv-loop : tie.InvT-loop
+Inv-loop number w info parity₀ l q firsts ends counts xs₀ s₀ parity xs s =
+    (s ≤ q) × (length xs ≡ 64) × Done (codeOf number) w info (s * codeOf number .a) parity
+
+abbrev μ-loop : tie.MeasureT-loop
+μ-loop number w info parity₀ l q firsts ends counts xs₀ s₀ parity xs s = q - s
+
+layout-of-requires : tie.Need-layout-of-requires Inv-loop μ-loop
+layout-of-requires c κs = search needs
+
+lay-requires : tie.Need-lay-requires Inv-loop μ-loop
+lay-requires c κs = ((c .before .before .before .before .before .before .pre .0 .0, c .before .before .before .layout-of .ensures), (refl, refl, refl))
+
+loop-holds : tie.Need-loop-holds Inv-loop μ-loop
+loop-holds c =
+    let s = c .before .before .before .before .before .before .before in
+    (omega arith, refl, done-at (done-none _ (valid-of _ (s .pre .0 .0)) _ _ (s .pre .1 .parity)) (sym (zero-mul (codeOf (s .args .number) .a))))
+
+put-rows-requires : tie.Need-put-rows-requires Inv-loop μ-loop
+put-rows-requires c κs =
+    let s = c .before .before .before .before .before .before .before .before .before .before .before .before .before .before in
+    let g = c .before .before .before .before .before .before .before .before .before .before .before .layout-of .ensures in
+    let l = c .before .before .before .before .before .before .loop in
+    ((s .pre .0 .0, g, omega (arith, g .q)), ((c .before .before .before .before .before .before .before .lay .ensures .0, c .before .before .before .before .before .before .before .lay .ensures .1, l .inv .1), (s .pre .1 .info, l .inv .2)))
+
+add-s : tie.Need-add-s Inv-loop μ-loop
+add-s c = omega arith
+
+loop-less : tie.Need-loop-less Inv-loop μ-loop
+loop-less c = omega arith
+
+loop-again : tie.Need-loop-again Inv-loop μ-loop
+loop-again c =
+    let l = c .before .before .before .before .before .before .before .before .before .loop in
+    let a = codeOf (c .before .before .before .before .before .before .before .before .before .before .before .before .before .before .before .before .before .args .number) .a in
+    (omega arith, c .before .before .put-rows .ensures .0, done-at (c .before .before .put-rows .ensures .1) (sym (ap (λ (k : ℕ). k * a) (add-one (l .s)) ∙ suc-mul (l .s) a)))
+
+same-length : tie.Need-same-length Inv-loop μ-loop
+same-length c = c .before .loop .inv .2 .size ∙ sym (c .before .before .before .before .before .before .before .before .before .pre .1 .parity)
+
+returns : tie.Need-returns Inv-loop μ-loop
+returns c =
+    let s = c .before .before .before .before .before .before .before .before .before in
+    let v = valid-of _ (s .pre .0 .0) in
+    let e : c .before .loop .s ≡ codeOf (s .args .number) .q = omega (arith, c .before .before .before .before .before .before .layout-of .ensures .q) in
+    done-all _ v _ _ (s .pre .0 .1) (done-at (c .before .loop .inv .2) (ap (λ (k : ℕ). k * codeOf (s .args .number) .a) e ∙ v .step))
+
+pub encode-sized-spec : {M : Type 1} → statement M
+encode-sized-spec =
+    tie.close
+    (tie.spec
+    Inv-loop
+    μ-loop
+    layout-of-requires
+    lay-requires
+    loop-holds
+    put-rows-requires
+    add-s
+    loop-less
+    loop-again
+    same-length
+    returns)

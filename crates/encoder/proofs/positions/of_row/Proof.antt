@@ -1,0 +1,110 @@
+-- `ccsds::positions::of_row` meets its contract: the information positions, and then those of the parity symbols.
+-- Assumes nothing.
+use mathlib.Core.Path.{_≡_, subst, subst⁻¹}
+use Prim.Native.Nat.{ℕ, _+_, _*_, _/_, _%_, _<_}
+use native.Mathlib.Nat.{mod-lt, div-add-mod'}
+use native.Mathlib.Omega.{arith}
+use borrow.Author.Needs.{needs}
+use Rattle.ccsds.specs.Tables.{codeOf}
+use Rattle.ccsds.proofs.Valid.{Valid, valid-of, some-a}
+use Rattle.encoder.proofs.Touched.{quotient-lt}
+use Rattle.encoder.proofs.WholeRow.{information-at, first-row, later-row}
+use Rattle.encoder.proofs.positions.of_row.Statement.{statement}
+use Rattle.encoder.proofs.positions.of_row.Tie as tie
+
+-- the check row by its quotient and remainder
+module _ (s : tie.Start) where
+  v : Valid (codeOf (s .args .number))
+  v = valid-of _ (s .pre .0 .0)
+
+  some : 0 < s .args .l .a
+  some = omega (arith, some-a _ v, s .pre .0 .1 .a)
+
+  class-lt : s .args .j % s .args .l .a < codeOf (s .args .number) .a
+  class-lt = omega (arith, mod-lt (s .args .j) some, s .pre .0 .1 .a)
+
+  step-lt : s .args .j / s .args .l .a < codeOf (s .args .number) .q
+  step-lt = subst⁻¹ (λ (a : ℕ). s .args .j / a < codeOf (s .args .number) .q) (s .pre .0 .1 .a) (quotient-lt _ v (s .args .j) (s .pre .1 .0))
+
+  row-is : s .args .j / s .args .l .a * codeOf (s .args .number) .a + s .args .j % s .args .l .a ≡ s .args .j
+  row-is =
+      subst (λ (a : ℕ). s .args .j / s .args .l .a * a + s .args .j % s .args .l .a ≡ s .args .j) (s .pre .0 .1 .a) (div-add-mod' (s .args .j) (s .args .l .a))
+
+rem-r : tie.Need-rem-r
+rem-r c = omega (arith, some (c .before))
+
+mul-n : tie.Need-mul-n
+mul-n c = omega (arith, class-lt (c .before), c .before .pre .1 .1 .0 .0 .few .classes)
+
+element-copy-out-n : tie.Need-element-copy-out-n
+element-copy-out-n c = omega (arith, class-lt (c .before), c .before .pre .1 .1 .0 .0 .few .classes, c .before .pre .1 .1 .0 .1 .size)
+
+div-information : tie.Need-div-information
+div-information c = omega (arith, some (c .before .before .before))
+
+information-requires : tie.Need-information-requires
+information-requires c κs =
+    let s = c .before .before .before .before in
+    ((s .pre .0 .0, s .pre .0 .1 .q), ((class-lt s, step-lt s, s .pre .1 .1 .0 .1 .each _ (class-lt s)), (s .pre .1 .1 .0 .0, s .pre .1 .1 .1)))
+
+add-xs : tie.Need-add-xs
+add-xs c = search needs
+
+mul-xs : tie.Need-mul-xs
+mul-xs c = search needs
+
+element-write-xs : tie.Need-element-write-xs
+element-write-xs c = search needs
+
+add-result : tie.Need-add-result
+add-result c = search needs
+
+returns : tie.Need-returns
+returns c =
+    let s = c .before .before .before .before .before .before .before in
+    first-row _ (v s) (information-at (c .before .before .information .ensures) (row-is s)) (s .pre .1 .0) _ (s .pre .0 .1 .k) (c .if1 .taken)
+
+add-xs-2 : tie.Need-add-xs-2
+add-xs-2 c = search needs
+
+sub-xs : tie.Need-sub-xs
+sub-xs c = search needs
+
+add-xs-3 : tie.Need-add-xs-3
+add-xs-3 c = search needs
+
+mul-xs-2 : tie.Need-mul-xs-2
+mul-xs-2 c = search needs
+
+element-write-xs-2 : tie.Need-element-write-xs-2
+element-write-xs-2 c = search needs
+
+add-result-2 : tie.Need-add-result-2
+add-result-2 c = search needs
+
+returns-2 : tie.Need-returns-2
+returns-2 c =
+    let s = c .before .before .before .before .before .before .before .before in
+    later-row _ (v s) (information-at (c .before .before .before .information .ensures) (row-is s)) (s .pre .1 .0) _ (s .pre .0 .1 .k) (omega arith)
+
+pub of-row-spec : {M : Type 1} → statement M
+of-row-spec =
+    tie.close
+    (tie.spec
+    rem-r
+    mul-n
+    element-copy-out-n
+    div-information
+    information-requires
+    add-xs
+    mul-xs
+    element-write-xs
+    add-result
+    returns
+    add-xs-2
+    sub-xs
+    add-xs-3
+    mul-xs-2
+    element-write-xs-2
+    add-result-2
+    returns-2)

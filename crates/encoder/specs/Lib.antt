@@ -1,0 +1,4 @@
+pub mod Encode
+pub mod Claims
+pub mod Samples
+pub mod inner

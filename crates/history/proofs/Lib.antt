@@ -1,0 +1,2 @@
+pub mod FromTheList
+pub mod Demand3

@@ -1,0 +1,145 @@
+-- Document 01, "The whole list": lists of takes and closes on an opened block. `run` goes call by call, by what the calls' contracts say;
+-- `stateOf` and `answerOf` say the same from the list alone, and `FromTheList` is the claim that they agree.
+-- Assumes nothing.
+use mathlib.Core.Path.{_≡_}
+use mathlib.Core.Bool.{Bool, false, _||_, cond}
+use mathlib.Core.List.{List, [], _∷_}
+use Prim.Native.Nat.{ℕ, _*_, _/_, _%_, _≤_}
+use lib.Dec.{eqb}
+use lib.ListN.{length, getD}
+use Rattle.algebra.specs.Lists.{tab}
+use Rattle.algebra.specs.Codeword.{byteAt}
+use Rattle.algebra.specs.Closing.{agreeing, verdictOf, settled, first}
+use Rattle.ccsds.specs.Refusals.{Outcome, refused, answered}
+use Rattle.block.specs.Block.{checks}
+use Rattle.block.specs.Open.{Open, openOf}
+use Rattle.block.specs.Take.{Placed, Arrival, kept, repeated, admission, sameBytes, takeOf}
+use Rattle.block.specs.Close.{Report, reportOf, wrongWork, closeOf}
+use Rattle.block.specs.declared.Block.{Block}
+
+-- a take with its unit's bytes, or a close with its two work buffers
+pub data Call : Type 0 where
+  take : List ℕ → Call
+  close : List ℕ → List ℕ → Call
+
+-- the calls so far, the latest first
+abbrev pub History : Type 0
+History = List Call
+
+-- a block's symbol bytes and marks
+pub record State : Type 0 where
+  pub symbols : List ℕ
+  pub marks : List ℕ
+
+pub data Answer : Type 0 where
+  taken : Outcome Arrival → Answer
+  closed : Outcome Report → Answer
+
+-- ---- call by call
+
+-- what open leaves
+abbrev pub opened : Open → State
+opened o = record { symbols = o .symbols; marks = o .marks }
+
+module _ (b : Block) where
+  -- the state after a call, and its answer
+  unfoldable pub next : State → Call → State
+  next s (take unit) = record { symbols = takeOf b (s .symbols) (s .marks) unit .symbols; marks = takeOf b (s .symbols) (s .marks) unit .marks }
+  next s (close words bytes) = record {
+    symbols = closeOf b (s .symbols) (s .marks) words bytes .symbols;
+    marks = closeOf b (s .symbols) (s .marks) words bytes .marks;
+  }
+
+  unfoldable pub answer : State → Call → Answer
+  answer s (take unit) = taken (takeOf b (s .symbols) (s .marks) unit .answer)
+  answer s (close words bytes) = closed (closeOf b (s .symbols) (s .marks) words bytes .answer)
+
+  -- the state after all calls, from what open left
+  unfoldable pub run : State → History → State
+  run s [] = s
+  run s (c ∷ h) = next (run s h) c
+
+-- ---- from the list alone
+
+-- the unit is admitted at position i
+unfoldable pub isAt : Outcome Placed → ℕ → Bool
+isAt (refused number) i = false
+isAt (answered x) i = eqb (x .position) i
+
+unfoldable pub symbolOf : Outcome Placed → List ℕ
+symbolOf (refused number) = []
+symbolOf (answered x) = x .symbol
+
+module _ (b : Block) where
+  -- some take so far was admitted at position i
+  unfoldable pub heardAt : History → ℕ → Bool
+  heardAt [] i = false
+  heardAt (take unit ∷ h) i = isAt (admission b unit) i || heardAt h i
+  heardAt (close words bytes ∷ h) i = heardAt h i
+
+  -- the symbol of the first such take; none where there is none
+  unfoldable pub keptAt : History → ℕ → List ℕ
+  keptAt [] i = []
+  keptAt (take unit ∷ h) i = cond (heardAt h i) (keptAt h i) (cond (isAt (admission b unit) i) (symbolOf (admission b unit)) [])
+  keptAt (close words bytes ∷ h) i = keptAt h i
+
+  -- the heard positions as marks, and the kept symbols in their places
+  unfoldable pub heardMarks : History → List ℕ
+  heardMarks h = tab (checks b .n) (λ i. cond (heardAt h i) 1 0)
+
+  unfoldable pub keptSymbols : History → List ℕ
+  keptSymbols h = tab (checks b .n * b .w) (λ t. getD (keptAt h (t / b .w)) (t % b .w) 0)
+
+  -- all codewords that have the kept symbol at every heard position
+  unfoldable pub agreeingWith : History → List (List ℕ)
+  agreeingWith h = agreeing (checks b) (b .w) (keptSymbols h) (heardMarks h)
+
+  -- those of the latest close that gave a verdict: a close is refused just where a work buffer isn't its size
+  unfoldable pub latest : History → List (List ℕ)
+  latest [] = []
+  latest (take unit ∷ h) = latest h
+  latest (close words bytes ∷ h) = cond (wrongWork b (length words) (length bytes)) (latest h) (agreeingWith h)
+
+  -- 1 at a heard position, 2 at one that the latest verdict filled, else 0
+  unfoldable pub markOf : History → ℕ → ℕ
+  markOf h i = cond (heardAt h i) 1 (cond (settled (b .w) (latest h) i) 2 0)
+
+  -- byte j at position i: of the kept symbol; of the symbol that all agreeing codewords of the latest verdict have there; else 0
+  unfoldable pub byteOf : History → ℕ → ℕ → ℕ
+  byteOf h j i =
+      cond (heardAt h i) (getD (keptAt h i) j 0)
+      (cond (settled (b .w) (latest h) i) (byteAt (b .w) (first (latest h)) j i) 0)
+
+  unfoldable pub stateOf : History → State
+  stateOf h = record {
+    symbols = tab (checks b .n * b .w) (λ t. byteOf h (t % b .w) (t / b .w));
+    marks = tab (checks b .n) (markOf h);
+  }
+
+  -- the number of a unit that isn't admitted; the first admitted one for a position is kept, a later one repeated or 12
+  abbrev pub takeAnswer : History → Outcome Placed → Outcome Arrival
+  takeAnswer h (refused number) = refused number
+  takeAnswer h (answered x) =
+      cond (heardAt h (x .position))
+      (cond (sameBytes (keptAt h (x .position)) (x .symbol)) (answered repeated) (refused 12))
+      (answered kept)
+
+  -- 4, or the verdict of the agreeing codewords and the counts of the marks after it
+  unfoldable pub answerOf : History → Call → Answer
+  answerOf h (take unit) = taken (takeAnswer h (admission b unit))
+  answerOf h (close words bytes) =
+      closed (cond (wrongWork b (length words) (length bytes)) (refused 4)
+      (answered (reportOf (verdictOf (agreeingWith h)) (stateOf (close words bytes ∷ h) .marks))))
+
+-- ---- the claim
+
+-- state s after the calls of h is what the list says, and so is the answer to every further call; no mark is above 2
+pub record Told (b : Block) (h : History) (s : State) : Type 0 where
+  pub state : s ≡ stateOf b h
+  pub answers : (c : Call) → answer b s c ≡ answerOf b h c
+  pub marks : (i : ℕ) → getD (s .marks) i 0 ≤ 2
+
+-- for every record that open returned, whatever the buffers held before, and every list of calls
+abbrev pub FromTheList : Type 0
+FromTheList = (o b : Block) (symbols marks : List ℕ) → openOf o symbols marks .answer ≡ answered b
+    → (h : History) → Told b h (run b (opened (openOf o symbols marks)) h)

@@ -1,0 +1,78 @@
+-- `lipvezor::lipvezor_close` meets its contract: each case of the answer has its number and its counts.
+-- Assumes nothing.
+use mathlib.Core.Path.{_∙_}
+use Rattle.block.specs.Close.{closedAs}
+use Rattle.lipvezor.specs.Numbers.{closedNumber, countsOf}
+use Rattle.lipvezor.proofs.Answers.{by-case}
+use borrow.Author.Needs.{needs}
+use Rattle.lipvezor.proofs.lipvezor_close.Statement.{statement}
+use Rattle.lipvezor.proofs.lipvezor_close.Tie as tie
+
+close-requires : tie.Need-close-requires
+close-requires c κs = search needs
+
+enum-known-number : tie.Need-enum-known-number
+enum-known-number c = search needs
+
+enum-known-told : tie.Need-enum-known-told
+enum-known-told c = search needs
+
+verdict-number-requires : tie.Need-verdict-number-requires
+verdict-number-requires c κs = search needs
+
+same-length : tie.Need-same-length
+same-length c = search needs
+
+same-length-2 : tie.Need-same-length-2
+same-length-2 c = search needs
+
+same-length-3 : tie.Need-same-length-3
+same-length-3 c = search needs
+
+same-length-4 : tie.Need-same-length-4
+same-length-4 c = search needs
+
+returns : tie.Need-returns
+returns c =
+    let e = c .before .before .before .before .before .before .before .before .before .before .before .close .ensures in
+    let h = c .before .number .given .1 in
+    let old = c .before .before .before .before .before .before .before .before .before .before .before .before .before .before .before .before .before .before .before .before .args .counts .now in
+    (by-case closedAs closedNumber (e .0) h, (e .1 .0, (e .1 .1 .0, (e .1 .1 .1 .0, (e .1 .1 .1 .1, by-case closedAs (countsOf old) (e .0) h)))))
+
+same-length-5 : tie.Need-same-length-5
+same-length-5 c = search needs
+
+same-length-6 : tie.Need-same-length-6
+same-length-6 c = search needs
+
+same-length-7 : tie.Need-same-length-7
+same-length-7 c = search needs
+
+same-length-8 : tie.Need-same-length-8
+same-length-8 c = search needs
+
+returns-2 : tie.Need-returns-2
+returns-2 c =
+    let e = c .before .before .before .before .before .before .before .before .before .before .before .before .before .close .ensures in
+    let h = c .before .before .before .told .given .1 in
+    let old = c .before .before .before .before .before .before .before .before .before .before .before .before .before .before .before .before .before .before .before .before .before .before .args .counts .now in
+    (c .verdict-number .ensures ∙ by-case closedAs closedNumber (e .0) h, (e .1 .0, (e .1 .1 .0, (e .1 .1 .1 .0, (e .1 .1 .1 .1, by-case closedAs (countsOf old) (e .0) h)))))
+
+pub lipvezor-close-spec : {M : Type 1} → statement M
+lipvezor-close-spec =
+    tie.close
+    (tie.spec
+    close-requires
+    enum-known-number
+    enum-known-told
+    verdict-number-requires
+    same-length
+    same-length-2
+    same-length-3
+    same-length-4
+    returns
+    same-length-5
+    same-length-6
+    same-length-7
+    same-length-8
+    returns-2)

@@ -1,0 +1,53 @@
+-- `lipvezor::lipvezor_open` meets its contract: each case of the answer has its number.
+-- Assumes nothing.
+use Rattle.block.specs.Open.{openedAs}
+use Rattle.lipvezor.specs.Numbers.{numberOf}
+use Rattle.lipvezor.proofs.Answers.{by-case}
+use borrow.Author.Needs.{needs}
+use Rattle.lipvezor.proofs.lipvezor_open.Statement.{statement}
+use Rattle.lipvezor.proofs.lipvezor_open.Tie as tie
+
+open-requires : tie.Need-open-requires
+open-requires c κs = search needs
+
+enum-told : tie.Need-enum-told
+enum-told c = search needs
+
+enum-known-number : tie.Need-enum-known-number
+enum-known-number c = search needs
+
+same-length : tie.Need-same-length
+same-length c = search needs
+
+same-length-2 : tie.Need-same-length-2
+same-length-2 c = search needs
+
+returns : tie.Need-returns
+returns c =
+    let e = c .before .before .before .before .before .before .«open» .ensures in
+    (by-case openedAs numberOf (e .0) (c .enum-told .given .1), e .1)
+
+same-length-3 : tie.Need-same-length-3
+same-length-3 c = search needs
+
+same-length-4 : tie.Need-same-length-4
+same-length-4 c = search needs
+
+returns-2 : tie.Need-returns-2
+returns-2 c =
+    let e = c .before .before .before .before .before .before .before .«open» .ensures in
+    (by-case openedAs numberOf (e .0) (c .before .number .given .1), e .1)
+
+pub lipvezor-open-spec : {M : Type 1} → statement M
+lipvezor-open-spec =
+    tie.close
+    (tie.spec
+    open-requires
+    enum-told
+    enum-known-number
+    same-length
+    same-length-2
+    returns
+    same-length-3
+    same-length-4
+    returns-2)

@@ -1,0 +1,71 @@
+-- `lipvezor::lipvezor_take` meets its contract: each case of the answer has its number.
+-- Assumes nothing.
+use Rattle.block.specs.Take.{takenAs}
+use Rattle.lipvezor.specs.Numbers.{takenNumber}
+use Rattle.lipvezor.proofs.Answers.{by-case}
+use borrow.Author.Needs.{needs}
+use Rattle.lipvezor.proofs.lipvezor_take.Statement.{statement}
+use Rattle.lipvezor.proofs.lipvezor_take.Tie as tie
+
+take-requires : tie.Need-take-requires
+take-requires c κs = search needs
+
+enum-told : tie.Need-enum-told
+enum-told c = search needs
+
+enum-told-2 : tie.Need-enum-told-2
+enum-told-2 c = search needs
+
+enum-known-number : tie.Need-enum-known-number
+enum-known-number c = search needs
+
+same-length : tie.Need-same-length
+same-length c = search needs
+
+same-length-2 : tie.Need-same-length-2
+same-length-2 c = search needs
+
+returns : tie.Need-returns
+returns c =
+    let e = c .before .before .before .before .before .before .take .ensures in
+    (by-case takenAs takenNumber (e .0) (c .enum-told .given .1), e .1)
+
+same-length-3 : tie.Need-same-length-3
+same-length-3 c = search needs
+
+same-length-4 : tie.Need-same-length-4
+same-length-4 c = search needs
+
+returns-2 : tie.Need-returns-2
+returns-2 c =
+    let e = c .before .before .before .before .before .before .take .ensures in
+    (by-case takenAs takenNumber (e .0) (c .enum-told2 .given .1), e .1)
+
+same-length-5 : tie.Need-same-length-5
+same-length-5 c = search needs
+
+same-length-6 : tie.Need-same-length-6
+same-length-6 c = search needs
+
+returns-3 : tie.Need-returns-3
+returns-3 c =
+    let e = c .before .before .before .before .before .before .before .take .ensures in
+    (by-case takenAs takenNumber (e .0) (c .before .number .given .1), e .1)
+
+pub lipvezor-take-spec : {M : Type 1} → statement M
+lipvezor-take-spec =
+    tie.close
+    (tie.spec
+    take-requires
+    enum-told
+    enum-told-2
+    enum-known-number
+    same-length
+    same-length-2
+    returns
+    same-length-3
+    same-length-4
+    returns-2
+    same-length-5
+    same-length-6
+    returns-3)

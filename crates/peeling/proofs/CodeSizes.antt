@@ -1,0 +1,50 @@
+-- A code's numbers of positions and check rows.
+-- Assumes nothing.
+use mathlib.Core.Path.{_≡_, refl}
+use mathlib.Core.List.{List}
+use Prim.Native.Nat.{ℕ, _+_, _*_, _<_, _≤_}
+use native.Mathlib.Omega.{arith}
+use lib.ListN.{getD}
+use Rattle.algebra.specs.Codeword.{Checks}
+use Rattle.algebra.specs.Staircase.{staircase}
+use Rattle.algebra.proofs.Codeword.{slot}
+use Rattle.buffers.specs.Gather.{Inside}
+use Rattle.ccsds.specs.Codes.{checksOf}
+use Rattle.ccsds.specs.Tables.{codeOf}
+use Rattle.encoder.specs.inner.Positions.{RowOf}
+use Rattle.ccsds.specs.inner.Layout.{Given}
+use Rattle.ccsds.specs.declared.tables.Layout.{Layout}
+use Rattle.ccsds.proofs.Valid.{valid-of, few-of}
+use Rattle.peeling.specs.Table.{Table}
+
+-- its check rows are its parameter m
+pub row-count : (number : ℕ) → checksOf (codeOf number) .m ≡ codeOf number .m
+unfolding staircase
+row-count number = refl
+
+pub few-positions : (number : ℕ) → checksOf (codeOf number) .n ≤ 3072
+unfolding staircase
+few-positions number = few-of number
+
+-- its layout has its positions
+pub symbols-of : (number : ℕ) (l : Layout) → Given (codeOf number) l → l .k + l .m ≡ checksOf (codeOf number) .n
+unfolding staircase
+symbols-of number l g = omega (arith, g .k, g .m)
+
+module _ {number : ℕ} {l : Layout} {firsts ends classes : List ℕ} (t : Table number l firsts ends classes) where
+  pub few-rows : checksOf (codeOf number) .m ≤ 1024
+  few-rows = omega (arith, row-count number, valid-of number (t .known) .few-rows)
+
+  pub row-known : (j : ℕ) → j < checksOf (codeOf number) .m → j < codeOf number .m
+  row-known j h = omega (arith, row-count number)
+
+  pub layout-rows : l .m ≡ checksOf (codeOf number) .m
+  layout-rows = omega (arith, t .given .m, row-count number)
+
+-- a row's positions lie within the symbols
+pub row-inside : {c : Checks} {j n w bytes : ℕ} {xs : List ℕ} → RowOf c j n xs → bytes ≡ c .n * w → Inside xs n w bytes
+row-inside {c} {j} {n} {w} {bytes} {xs} r e = record {
+  size = r .size;
+  few = r .few;
+  each = λ i h. omega (arith, slot (getD xs i 0) (c .n) w (r .below i h));
+}

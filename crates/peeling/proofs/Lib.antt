@@ -1,0 +1,10 @@
+pub mod UnusedRows
+pub mod CodeSizes
+pub mod RowRest
+pub mod PlanLaws
+pub mod StepLaws
+pub mod Zeroing
+pub mod SymbolLaws
+pub mod PeelLaws
+pub mod OpenLaws
+pub mod HintLaws

@@ -1,0 +1,166 @@
+-- `decoder::peel::try_row` meets its contract: the row is passed over, or its only open position is settled.
+-- Assumes nothing.
+use lib.ListN.{length-set}
+use Prim.Native.Nat.{_<_}
+use native.Mathlib.Omega.{arith}
+use borrow.Author.Needs.{needs}
+use Rattle.ccsds.specs.Codes.{checksOf}
+use Rattle.ccsds.specs.Tables.{codeOf}
+use Rattle.peeling.proofs.HintLaws.{fits-of}
+use Rattle.peeling.proofs.CodeSizes.{row-count}
+use Rattle.peeling.proofs.PeelLaws.{state-late, settle-ready, state-settled}
+use Rattle.peeling.proofs.peel.try_row.Statement.{statement}
+use Rattle.peeling.proofs.peel.try_row.Tie as tie
+
+row-lt : (s : tie.Start) → s .args .r < checksOf (codeOf (s .args .number)) .m
+row-lt s = omega (arith, s .pre .1 .1 .1 .0 .0, row-count (s .args .number))
+
+few-steps : (e : tie.Else2) → e .before .before .before .before .before .before .before .before .before .before .before .before .args .g .steps < 1024
+few-steps e =
+    let s = e .before .before .before .before .before .before .before .before .before .before .before .before in
+    settle-ready (s .pre .1 .1 .1 .1) (e .before .before .before .before .before .before .before .of-row .ensures) (row-lt s) (e .before .before .if1 .left) (e .before .before .before .before .single .ensures) (e .if2 .left) .0 .0
+
+of-row-requires : tie.Need-of-row-requires
+of-row-requires c κs =
+    let s = c .before .before .before .before in
+    let h = s .pre .1 .0 in
+    ((h .known, h .given), (s .pre .1 .1 .1 .0 .0, ((h .laid, h .counted), s .pre .1 .1 .0)))
+
+single-requires : tie.Need-single-requires
+single-requires c κs =
+    let m = c .before .before .before .before .before .before .before .pre .1 .1 .1 .1 .made in
+    let R = c .before .before .of-row .ensures in
+    ((R .few, R .size), λ i h. omega (arith, R .below i h, m .positions, m .size))
+
+sub-if2 : tie.Need-sub-if2
+sub-if2 c = omega arith
+
+same-length : tie.Need-same-length
+same-length c = search needs
+
+returns : tie.Need-returns
+returns c =
+    let s = c .before .before .before .before .before .before .before .before .before .before in
+    (c .before .before .before .before .before .of-row .ensures .size, (s .pre .0, (state-late (s .pre .1 .1 .1 .1) _, omega (arith, s .pre .1 .1 .1 .0 .1))))
+
+add-if2 : tie.Need-add-if2
+add-if2 c = omega (arith, row-lt (c .before .before .before .before .before .before .before .before .before .before), c .before .before .before .before .before .before .before .before .before .before .pre .1 .1 .1 .1 .made .rows)
+
+mul-if2 : tie.Need-mul-if2
+mul-if2 c = omega (arith, row-lt (c .before .before .before .before .before .before .before .before .before .before), c .before .before .before .before .before .before .before .before .before .before .pre .1 .1 .1 .1 .made .rows)
+
+slice-read-if2 : tie.Need-slice-read-if2
+slice-read-if2 c =
+    let m = c .before .before .before .before .before .before .before .before .before .before .before .pre .1 .1 .1 .1 .made in
+    omega (arith, row-lt (c .before .before .before .before .before .before .before .before .before .before .before), m .rows, m .size)
+
+same-length-2 : tie.Need-same-length-2
+same-length-2 c = search needs
+
+returns-2 : tie.Need-returns-2
+returns-2 c =
+    let s = c .before .before .before .before .before .before .before .before .before .before .before .before in
+    (c .before .before .before .before .before .before .before .of-row .ensures .size, (s .pre .0, (state-late (s .pre .1 .1 .1 .1) _, omega (arith, s .pre .1 .1 .1 .0 .1))))
+
+mul-p : tie.Need-mul-p
+mul-p c = omega (arith, c .before .before .before .before .before .before .before .of-row .ensures .few, c .before .before .before .before .before .before .before .of-row .ensures .size, c .before .before .if1 .left)
+
+element-copy-out-p : tie.Need-element-copy-out-p
+element-copy-out-p c = omega (arith, c .before .before .before .before .before .before .before .of-row .ensures .few, c .before .before .before .before .before .before .before .of-row .ensures .size, c .before .before .if1 .left)
+
+sub-xs : tie.Need-sub-xs
+sub-xs c = omega (arith, c .before .before .before .before .before .before .before .before .of-row .ensures .few, c .before .before .before .before .before .before .before .before .of-row .ensures .size, c .before .before .before .if1 .left)
+
+mul-xs : tie.Need-mul-xs
+mul-xs c = omega (arith, c .before .before .before .before .before .before .before .before .of-row .ensures .few, c .before .before .before .before .before .before .before .before .of-row .ensures .size, c .before .before .before .if1 .left)
+
+element-copy-out-xs : tie.Need-element-copy-out-xs
+element-copy-out-xs c = omega (arith, c .before .before .before .before .before .before .before .before .of-row .ensures .few, c .before .before .before .before .before .before .before .before .of-row .ensures .size, c .before .before .before .if1 .left)
+
+mul-xs-2 : tie.Need-mul-xs-2
+mul-xs-2 c = omega (arith, c .before .before .before .before .before .before .before .before .before .of-row .ensures .few, c .before .before .before .before .before .before .before .before .before .of-row .ensures .size, c .before .before .before .before .if1 .left)
+
+element-write-xs : tie.Need-element-write-xs
+element-write-xs c = omega (arith, c .before .before .before .before .before .before .before .before .before .of-row .ensures .few, c .before .before .before .before .before .before .before .before .before .of-row .ensures .size, c .before .before .before .before .if1 .left)
+
+sub-settle : tie.Need-sub-settle
+sub-settle c = omega (arith, c .before .before .before .before .before .before .before .before .before .before .of-row .ensures .few, c .before .before .before .before .before .before .before .before .before .before .of-row .ensures .size, c .before .before .before .before .before .if1 .left)
+
+settle-requires : tie.Need-settle-requires
+settle-requires c κs =
+    let e = c .before .before .before .before .before in
+    let s = e .before .before .before .before .before .before .before .before .before .before .before .before in
+    settle-ready (s .pre .1 .1 .1 .1) (e .before .before .before .before .before .before .before .of-row .ensures) (row-lt s) (e .before .before .if1 .left) (e .before .before .before .before .single .ensures) (e .if2 .left)
+
+close-requires : tie.Need-close-requires
+close-requires c κs =
+    let s = c .before .before .before .before .before .before .before .before .before .before .before .before .before .before .before .before .before .before .before .before .before .before .before .before in
+    let R = c .before .before .before .before .before .before .before .before .before .before .before .before .before .before .before .before .before .before .before .of-row .ensures in
+    let h = s .pre .0 in
+    let p = R .below _ (c .before .before .before .before .before .before .before .before .before .before .before .before .before .before .if1 .left) in (
+      (fits-of _ _ (s .pre .1 .0 .known) (s .pre .1 .0 .given), omega (arith, p, s .pre .1 .1 .1 .1 .made .positions), h .table-size),
+      (h .counts-size, h .ready-size),
+    )
+
+early-steps-requires : tie.Need-early-steps-requires
+early-steps-requires c κs = few-steps (c .before .before .before .before .before .before .before .before .before .before .before .before .before)
+
+add-t36 : tie.Need-add-t36
+add-t36 c = omega (arith, few-steps (c .before .before .before .before .before .before .before .before .before .before .before .before .before .before))
+
+sub-t28 : tie.Need-sub-t28
+sub-t28 c = omega (arith, c .before .before .before .before .before .before .before .before .before .before .before .before .before .before .before .before .before .before .before .before .before .before .before .before .before .before .before .pre .1 .1 .1 .0 .1)
+
+same-length-3 : tie.Need-same-length-3
+same-length-3 c = search needs
+
+same-length-4 : tie.Need-same-length-4
+same-length-4 c = search needs
+
+returns-3 : tie.Need-returns-3
+returns-3 c =
+    let f = c .before .before .before .before .before .before .before .before .before in
+    let e = f .before .before .before .before .before .before in
+    let s = e .before .before .before .before .before .before .before .before .before .before .before .before in
+    let h = s .pre .0 in (
+      simp length-set (e .before .before .before .before .before .before .before .of-row .ensures .size),
+      (
+        record { table-size = h .table-size; counts-size = c .before .before .close .ensures .0; ready-size = c .before .before .close .ensures .1 },
+        (
+          state-settled (s .pre .1 .1 .1 .1) (e .before .before .before .before .before .before .before .of-row .ensures) (row-lt s) (e .before .before .if1 .left) (e .before .before .before .before .single .ensures) (e .if2 .left) _ _ (f .settle .ensures .0) (f .settle .ensures .1)
+              (c .before .early-steps .ensures),
+          omega (arith, s .pre .1 .1 .1 .0 .1),
+        ),
+      ),
+    )
+
+pub try-row-spec : {M : Type 1} → statement M
+try-row-spec =
+    tie.close
+    (tie.spec
+    of-row-requires
+    single-requires
+    sub-if2
+    same-length
+    returns
+    add-if2
+    mul-if2
+    slice-read-if2
+    same-length-2
+    returns-2
+    mul-p
+    element-copy-out-p
+    sub-xs
+    mul-xs
+    element-copy-out-xs
+    mul-xs-2
+    element-write-xs
+    sub-settle
+    settle-requires
+    close-requires
+    early-steps-requires
+    add-t36
+    sub-t28
+    same-length-3
+    same-length-4
+    returns-3)

@@ -1,0 +1,350 @@
+// Peeling: a check row with just one open symbol settles it, as the sum of the row's other symbols; where no row is ready, the lowest open position is
+// put off as a pivot, with zero for its symbol. The plan (specs/Plan.antt) says of each position what became of it.
+use crate::hints;
+use encoder::positions;
+use ccsds::tables::Layout;
+ghost use mathlib.Core.Path.{_≡_};
+ghost use mathlib.Core.Logic.{_≢_};
+ghost use mathlib.Core.Bool.{cond};
+ghost use Prim.Native.Nat.{ℕ, _+_, _*_, _<_, _≤_};
+ghost use lib.Dec.{eqb};
+ghost use lib.ListN.{length, getD, set, replicate};
+ghost use Rattle.algebra.specs.Codeword.{byteAt};
+ghost use Rattle.buffers.specs.Gather.{gathered, Inside, Replaced};
+ghost use Rattle.ccsds.specs.Codes.{checksOf};
+ghost use Rattle.ccsds.specs.Tables.{codeOf, Known};
+ghost use Rattle.ccsds.specs.inner.Layout.{Given};
+ghost use Rattle.peeling.specs.Table.{Table};
+ghost use Rattle.peeling.specs.Plan.{Plan, Closed, Unsolved};
+ghost use Rattle.peeling.specs.Values.{Values};
+ghost use Rattle.peeling.specs.Hints.{Hinted};
+ghost use Rattle.peeling.specs.Peel.{Opened, SingleIs, NextOpen, State, left};
+
+// The kind of a missing position that is neither settled nor put off.
+pub const OPEN: u16 = 65535;
+
+// How far peeling has come: steps made, pivots put off, steps made before the first pivot, the position up to which none is open, and how many rows
+// may still be tried, so that it ends.
+pub struct Progress {
+    pub steps: usize,
+    pub pivots: usize,
+    pub early: usize,
+    pub cursor: usize,
+    pub fuel: usize,
+}
+
+// What a position with this mark is at first.
+fn kind_of(mark: u8) -> u16
+    ensures { λ r. ⌜ r ≡ cond (eqb mark 1) 0 65535 ⌝ }
+{
+    if mark == 1 { 0 } else { OPEN }
+}
+
+// Every missing position is open.
+pub fn open_missing(marks: &[u8], plan: &mut [u16])
+    requires { ⌜ (length (now marks) ≤ 3072) × (now plan ≡ replicate 9216 0) ⌝ }
+    ensures { λ _. ⌜ Opened (length (now (marks .entry))) (now (marks .entry)) (now (plan .exit)) ⌝ }
+{
+    let mut x = 0;
+    while x < marks.len() {
+        plan[x] = kind_of(marks[x]);
+        x += 1;
+    }
+}
+
+fn choose(first: bool, x: usize, y: usize) -> usize
+    ensures { λ r. ⌜ r ≡ cond first x y ⌝ }
+{
+    if first { x } else { y }
+}
+
+// The index of the only open position; 64 where there is none or more.
+fn single(plan: &[u16], xs: &[usize; 64], n: usize) -> usize
+    requires { ⌜ (n ≤ 64) × (length (now xs) ≡ 64) ⌝ }
+    requires { ⌜ ((i : ℕ) → i < n → getD (now xs) i 0 < length (now plan)) ⌝ }
+    ensures { λ r. ⌜ SingleIs (now (plan .entry)) (now (xs .entry)) n r ⌝ }
+{
+    let mut at = 64;
+    let mut found = 0;
+    let mut i = 0;
+    while i < n {
+        let x = xs[i];
+        let open = plan[x] == OPEN;
+        at = choose(open, i, at);
+        found = choose(open, found + 1, found);
+        i += 1;
+    }
+    choose(found == 1, at, 64)
+}
+
+// Step t: check row r settles position p.
+fn settle(
+    w: usize,
+    t: usize,
+    r: usize,
+    p: usize,
+    xs: &[usize; 64],
+    n: usize,
+    plan: &mut [u16],
+    symbols: &mut [u8],
+)
+    requires { ⌜ (t < 1024) × ((r < 1024) × ((p < 3072) × (length (now plan) ≡ 9216))) ⌝ }
+    requires { ⌜ (p * w + w ≤ length (now symbols)) × Inside (now xs) n w (length (now symbols)) ⌝ }
+    requires { ⌜ ((i : ℕ) → i < n → getD (now xs) i 0 ≢ p) ⌝ }
+    ensures { λ _. ⌜ now (plan .exit) ≡ set (set (set (set (now (plan .entry)) (6144 + t) r) (7168 + t) p) (8192 + r) 1) p (t + 1) ⌝ }
+    ensures { λ _. ⌜ Replaced (λ b. gathered (byteAt w (now (symbols .entry)) b) (now (xs .entry)) n) w p (now (symbols .entry)) (now (symbols .exit)) ⌝ }
+{
+    buffers::gather::restore(w, p, xs, n, symbols);
+    plan[6144 + t] = r as u16;
+    plan[7168 + t] = p as u16;
+    plan[8192 + r] = 1;
+    plan[p] = (t + 1) as u16;
+}
+
+// How many steps were made before the first pivot, once there is one step more.
+fn early_steps(g: Progress) -> usize
+    requires { ⌜ g .steps < 1024 ⌝ }
+    ensures { λ r. ⌜ r ≡ cond (eqb (g .pivots) 0) (g .steps + 1) (g .early) ⌝ }
+{
+    if g.pivots == 0 { g.steps + 1 } else { g.early }
+}
+
+// Check row r settles a position, if it has just one open one and no step used it.
+fn try_row(
+    number: usize,
+    l: Layout,
+    w: usize,
+    r: usize,
+    g: Progress,
+    firsts: &[u16; 512],
+    ends: &[u16; 512],
+    classes: &[usize; 8],
+    table: &[u16; 512],
+    xs: &mut [usize; 64],
+    marks: &[u8],
+    plan: &mut [u16],
+    symbols: &mut [u8],
+    counts: &mut [u8; 1024],
+    ready: &mut [u64; 16],
+) -> Progress
+    requires { ⌜ Hinted (now table) (now counts) (now ready) ⌝ }
+    requires { ⌜ Table number l (now firsts) (now ends) (now classes) ⌝ }
+    requires { ⌜ length (now xs) ≡ 64 ⌝ }
+    requires { ⌜ (r < codeOf number .m) × (0 < g .fuel) ⌝ }
+    requires { ⌜ State (checksOf (codeOf number)) w (now symbols) (now marks) (now plan) (now symbols) g ⌝ }
+    ensures { λ _. ⌜ length (now (xs .exit)) ≡ 64 ⌝ }
+    ensures { λ _. ⌜ Hinted (now (table .entry)) (now (counts .exit)) (now (ready .exit)) ⌝ }
+    ensures { λ h. ⌜ State (checksOf (codeOf number)) w (now (symbols .entry)) (now (marks .entry)) (now (plan .exit)) (now (symbols .exit)) h ⌝ }
+    ensures { λ h. ⌜ left ((checksOf (codeOf number)) .n) h < left ((checksOf (codeOf number)) .n) g ⌝ }
+{
+    let n = positions::of_row(number, l, firsts, ends, classes, r, xs);
+    let i = single(plan, xs, n);
+    let t = g.steps;
+    let late = Progress {
+        steps: t,
+        pivots: g.pivots,
+        early: g.early,
+        cursor: g.cursor,
+        fuel: g.fuel - 1,
+    };
+    if i >= n {
+        return late;
+    }
+    if plan[8192 + r] != 0 {
+        return late;
+    }
+    let p = xs[i];
+    xs[i] = xs[n - 1];
+    settle(w, t, r, p, xs, n - 1, plan, symbols);
+    hints::close(l, table, p, counts, ready);
+    let early = early_steps(g);
+    Progress {
+        steps: t + 1,
+        pivots: g.pivots,
+        early: early,
+        cursor: g.cursor,
+        fuel: g.fuel - 1,
+    }
+}
+
+// Position x becomes pivot s, with symbol zero.
+fn defer(w: usize, s: usize, x: usize, plan: &mut [u16], symbols: &mut [u8])
+    requires { ⌜ (s < 3072) × ((x < 3072) × (length (now plan) ≡ 9216)) ⌝ }
+    requires { ⌜ x * w + w ≤ length (now symbols) ⌝ }
+    ensures { λ _. ⌜ now (plan .exit) ≡ set (set (now (plan .entry)) (3072 + s) x) x (1025 + s) ⌝ }
+    ensures { λ _. ⌜ Replaced (λ b. 0) w x (now (symbols .entry)) (now (symbols .exit)) ⌝ }
+{
+    let at = x * w;
+    buffers::clear(&mut symbols[at..at + w]);
+    plan[3072 + s] = x as u16;
+    plan[x] = (1025 + s) as u16;
+}
+
+// The first open position from `from` on; n where there is none.
+fn next_open(plan: &[u16], from: usize, n: usize) -> usize
+    requires { ⌜ (from ≤ n) × (n ≤ length (now plan)) ⌝ }
+    ensures { λ r. ⌜ NextOpen (now (plan .entry)) from n r ⌝ }
+{
+    let mut x = from;
+    while x < n {
+        if plan[x] == OPEN {
+            return x;
+        }
+        x += 1;
+    }
+    x
+}
+
+// The next open position becomes a pivot.
+fn put_off(
+    number: usize,
+    l: Layout,
+    w: usize,
+    g: Progress,
+    table: &[u16; 512],
+    marks: &[u8],
+    plan: &mut [u16],
+    symbols: &mut [u8],
+    counts: &mut [u8; 1024],
+    ready: &mut [u64; 16],
+) -> Progress
+    requires { ⌜ Hinted (now table) (now counts) (now ready) ⌝ }
+    requires { ⌜ Known number × Given (codeOf number) l ⌝ }
+    requires { ⌜ g .cursor < (checksOf (codeOf number)) .n ⌝ }
+    requires { ⌜ State (checksOf (codeOf number)) w (now symbols) (now marks) (now plan) (now symbols) g ⌝ }
+    ensures { λ _. ⌜ Hinted (now (table .entry)) (now (counts .exit)) (now (ready .exit)) ⌝ }
+    ensures { λ h. ⌜ State (checksOf (codeOf number)) w (now (symbols .entry)) (now (marks .entry)) (now (plan .exit)) (now (symbols .exit)) h ⌝ }
+    ensures { λ h. ⌜ left ((checksOf (codeOf number)) .n) h < left ((checksOf (codeOf number)) .n) g ⌝ }
+{
+    let n = l.k + l.m;
+    let x = next_open(plan, g.cursor, n);
+    let s = g.pivots;
+    if x >= n {
+        return Progress {
+            steps: g.steps,
+            pivots: s,
+            early: g.early,
+            cursor: x,
+            fuel: g.fuel,
+        };
+    }
+    defer(w, s, x, plan, symbols);
+    hints::close(l, table, x, counts, ready);
+    Progress {
+        steps: g.steps,
+        pivots: s + 1,
+        early: g.early,
+        cursor: x + 1,
+        fuel: g.fuel,
+    }
+}
+
+// One step, or a check row that turned out not to be ready, or one position put off.
+fn turn(
+    number: usize,
+    l: Layout,
+    w: usize,
+    g: Progress,
+    firsts: &[u16; 512],
+    ends: &[u16; 512],
+    classes: &[usize; 8],
+    table: &[u16; 512],
+    xs: &mut [usize; 64],
+    marks: &[u8],
+    plan: &mut [u16],
+    symbols: &mut [u8],
+    counts: &mut [u8; 1024],
+    ready: &mut [u64; 16],
+) -> Progress
+    requires { ⌜ Hinted (now table) (now counts) (now ready) ⌝ }
+    requires { ⌜ Table number l (now firsts) (now ends) (now classes) ⌝ }
+    requires { ⌜ length (now xs) ≡ 64 ⌝ }
+    requires { ⌜ g .cursor < (checksOf (codeOf number)) .n ⌝ }
+    requires { ⌜ State (checksOf (codeOf number)) w (now symbols) (now marks) (now plan) (now symbols) g ⌝ }
+    ensures { λ _. ⌜ length (now (xs .exit)) ≡ 64 ⌝ }
+    ensures { λ _. ⌜ Hinted (now (table .entry)) (now (counts .exit)) (now (ready .exit)) ⌝ }
+    ensures { λ h. ⌜ State (checksOf (codeOf number)) w (now (symbols .entry)) (now (marks .entry)) (now (plan .exit)) (now (symbols .exit)) h ⌝ }
+    ensures { λ h. ⌜ left ((checksOf (codeOf number)) .n) h < left ((checksOf (codeOf number)) .n) g ⌝ }
+{
+    if g.fuel == 0 {
+        return put_off(number, l, w, g, table, marks, plan, symbols, counts, ready);
+    }
+    let r = hints::next(ready);
+    if r >= l.m {
+        return put_off(number, l, w, g, table, marks, plan, symbols, counts, ready);
+    }
+    try_row(
+        number,
+        l,
+        w,
+        r,
+        g,
+        firsts,
+        ends,
+        classes,
+        table,
+        xs,
+        marks,
+        plan,
+        symbols,
+        counts,
+        ready,
+    )
+}
+
+// Settles every missing position by a check row, or puts it off.
+pub fn peel(
+    number: usize,
+    l: Layout,
+    w: usize,
+    firsts: &[u16; 512],
+    ends: &[u16; 512],
+    classes: &[usize; 8],
+    xs: &mut [usize; 64],
+    marks: &[u8],
+    plan: &mut [u16],
+    symbols: &mut [u8],
+) -> Progress
+    requires { ⌜ Table number l (now firsts) (now ends) (now classes) ⌝ }
+    requires { ⌜ length (now xs) ≡ 64 ⌝ }
+    requires { ⌜ now plan ≡ replicate 9216 0 ⌝ }
+    requires { ⌜ (length (now marks) ≡ (checksOf (codeOf number)) .n) × (length (now symbols) ≡ (checksOf (codeOf number)) .n * w) ⌝ }
+    ensures { λ _. ⌜ length (now (xs .exit)) ≡ 64 ⌝ }
+    ensures { λ g. ⌜ Plan (checksOf (codeOf number)) (now (marks .entry)) (now (plan .exit)) (g .early) (g .steps) (g .pivots) ⌝ }
+    ensures { λ g. ⌜ Closed (checksOf (codeOf number)) (now (plan .exit)) × Unsolved (now (plan .exit)) (g .pivots) ⌝ }
+    ensures { λ g. ⌜ Values (checksOf (codeOf number)) w (now (symbols .entry)) (now (marks .entry)) (now (plan .exit)) (now (symbols .exit)) (g .steps) (g .pivots) ⌝ }
+    ensures { λ g. ⌜ (g .pivots ≡ 0 → g .early ≡ g .steps) ⌝ }
+{
+    let table = hints::addresses(number, l);
+    let mut counts = [0u8; 1024];
+    let mut ready = [0u64; 16];
+    open_missing(marks, plan);
+    hints::count(l, &table, marks, &mut counts);
+    hints::first_ready(l.m, &counts, &mut ready);
+    let mut g = Progress {
+        steps: 0,
+        pivots: 0,
+        early: 0,
+        cursor: 0,
+        fuel: 32768,
+    };
+    while g.cursor < marks.len() {
+        g = turn(
+            number,
+            l,
+            w,
+            g,
+            firsts,
+            ends,
+            classes,
+            &table,
+            xs,
+            marks,
+            plan,
+            symbols,
+            &mut counts,
+            &mut ready,
+        );
+    }
+    g
+}

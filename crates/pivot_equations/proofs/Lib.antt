@@ -1,0 +1,6 @@
+pub mod Hanging
+pub mod RowChanges
+pub mod RowSums
+pub mod Expressed
+pub mod UnusedSums
+pub mod Restored

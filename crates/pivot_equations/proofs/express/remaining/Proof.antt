@@ -1,0 +1,77 @@
+use mathlib.Core.Path.{_≡_}
+use Prim.Native.Nat.{_+_, _-_, _≤_}
+use native.Mathlib.Omega.{arith}
+use lib.ListN.{length}
+use Rattle.algebra.specs.Codeword.{Checks}
+use Rattle.ccsds.specs.Codes.{checksOf}
+use Rattle.ccsds.specs.Tables.{codeOf}
+use Rattle.peeling.specs.Plan.{free}
+use Rattle.pivot_equations.specs.Express.{Places, SameBelow, RestTo}
+use Rattle.peeling.proofs.CodeSizes.{row-count}
+use Rattle.pivot_equations.proofs.Expressed.{below-none, below-more, places-any}
+use Rattle.pivot_equations.proofs.express.remaining.Statement.{statement}
+use Rattle.pivot_equations.proofs.express.remaining.Tie as tie
+use Rattle.pivot_equations.proofs.express.remaining.Reads as reads
+use Rattle.pivot_equations.proofs.express.remaining.Lts as lts
+use Rattle.pivot_equations.proofs.express.remaining_row.Reads as remaining-row-reads
+
+abbrev Inv-loop : tie.InvT-loop
+Inv-loop number l early steps pivots packed firsts ends classes xs₀ marks plan words₀ m t₀ j₀ xs words t j =
+    (length xs ≡ 64) × ((j ≤ m) × ((t ≡ steps + free plan j) × (RestTo (checksOf (codeOf number)) plan words packed early steps j × SameBelow words₀ words packed steps)))
+
+abbrev μ-loop : tie.MeasureT-loop
+μ-loop number l early steps pivots packed firsts ends classes xs₀ marks plan words₀ m t₀ j₀ xs words t j = m - j
+
+-- src/express.rt:220:5
+loop-holds : tie.Need-loop-holds Inv-loop μ-loop
+unfolding free
+loop-holds c = (c .before .before .before .pre .1 .0, (omega arith, (omega arith, (λ j i h. absurd (omega arith), below-none))))
+
+-- src/express.rt:221:9
+remaining-row-requires : tie.Need-remaining-row-requires Inv-loop μ-loop
+remaining-row-requires c κs =
+    let k : Checks = checksOf (codeOf (c .before .before .before .before .before .before .before .args .number)) in
+    let i = c .before .before .before .loop .inv in
+    let places : Places k (c .before .before .before .before .before .before .before .args .plan .now) (c .before .before .before .loop .words) (c .before .before .before .before .before .before .before .args .packed) (c .before .before .before .before .before .before .before .args .steps) (k .m) =
+    places-any (c .before .before .before .before .before .before .before .pre .1 .1 .0 .0) (c .before .before .before .before .before .before .before .pre .1 .1 .0 .1) (c .before .before .before .before .before .before .before .pre .1 .1 .1 .1 .1) (c .before .before .before .before .before .before .before .args .words .now) (c .before .before .before .loop .words) (c .before .before .before .before .before .before .before .args .packed) (k .m) (c .before .before .before .before .before .before .before .pre .1 .1 .1 .1 .0) in
+    (c .before .before .before .before .before .before .before .pre .0, (i .0, (c .before .before .before .before .before .before .before .pre .1 .1 .0, ((c .before .before .before .before .before .before .before .pre .1 .1 .1 .0 .0, omega (arith, c .before .before .before .before .before .before .before .pre .1 .1 .1 .0 .1, i .1 .1 .1 .1 .size)), (places, (c .before .before .before .before .before .before .before .pre .1 .1 .1 .1 .1, ((omega (arith, c .before .before .before .before .before .before .before .pre .0 .given .m), i .1 .1 .0), i .1 .1 .1 .0)))))))
+
+-- src/express.rt:238:9
+add-j : tie.Need-add-j Inv-loop μ-loop
+add-j c = omega arith
+
+-- src/express.rt:220:5
+loop-less : tie.Need-loop-less Inv-loop μ-loop
+loop-less c = omega arith
+
+-- src/express.rt:220:5
+loop-again : tie.Need-loop-again Inv-loop μ-loop
+loop-again c =
+    let i = c .before .before .before .before .before .before .loop .inv in
+    let r = c .before .before .remaining-row .ensures in
+    (r .0, (omega arith, (r .1 .0, (r .1 .1 .0, below-more (i .1 .1 .1 .1) (r .1 .1 .1)))))
+
+-- src/express.rt:192:1
+same-length : tie.Need-same-length Inv-loop μ-loop
+same-length c = c .before .loop .inv .1 .1 .1 .1 .size
+
+-- src/express.rt:192:1
+returns : tie.Need-returns Inv-loop μ-loop
+returns c =
+    let i = c .before .loop .inv in
+    let e : c .before .loop .j ≡ checksOf (codeOf (c .before .before .before .before .before .args .number)) .m = omega (arith, c .before .before .before .before .before .pre .0 .given .m, row-count (c .before .before .before .before .before .args .number)) in
+    (i .0, (rw e at (i .1 .1 .1 .0), i .1 .1 .1 .1))
+
+pub remaining-spec : {M : Type 1} → statement M
+remaining-spec =
+    tie.close
+    (tie.spec
+    Inv-loop
+    μ-loop
+    loop-holds
+    remaining-row-requires
+    add-j
+    loop-less
+    loop-again
+    same-length
+    returns)

@@ -1,0 +1,2 @@
+pub mod Express
+pub mod Unused

@@ -1,0 +1,2 @@
+pub mod UnitClaims
+pub mod inner

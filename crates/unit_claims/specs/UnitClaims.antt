@@ -1,0 +1,74 @@
+-- What is claimed of SDNV numbers and units, beside the contracts. Proved in proofs/: SdnvRound (numbers), FirstByte and EndsEarly (what
+-- decides), UnitClaims and CanonicalUnit (units).
+-- Assumes nothing.
+use mathlib.Core.Path.{_≡_}
+use mathlib.Core.Bool.{false}
+use mathlib.Core.List.{List, _++_}
+use mathlib.Core.Option.{some}
+use Prim.Native.Nat.{ℕ, _+_, _*_, _≤_, _<_}
+use lib.ListN.{length, getD, take, drop}
+use denote.Ref.{RefT, now}
+use Rattle.ccsds.specs.Codes.{Params, nOf, encodeOf}
+use Rattle.ccsds.specs.Tables.{codeOf}
+use Rattle.ccsds.specs.Refusals.{wrongCode, wrongWidth, wrongLabel, refused, answered}
+use Rattle.ccsds.specs.Reader.{Parts, readUnit}
+use Rattle.algebra.specs.Codeword.{symbolAt}
+use Rattle.wire.specs.Bytes.{OfBytes}
+use Rattle.ccsds.specs.Writer.{unitOf, symbolStart, unitBytes, writeRefusal}
+use Rattle.ccsds.specs.Show.{showOf}
+
+-- The first byte that can't be accepted decides: what a unit's bytes say, read or refused, stays so whatever bytes come after them, unless
+-- they ended early.
+abbrev pub FirstByteDecides : Type 0
+FirstByteDecides = (s after : List ℕ) → 6 ≤ length s → (readUnit s ≡ refused 6 → ⊥) → readUnit (s ++ after) ≡ readUnit s
+
+-- 6 is kept for bytes that end early: there are bytes that, coming after them, lead to another answer.
+abbrev pub EndsEarly : Type 0
+EndsEarly = (s : List ℕ) → readUnit s ≡ refused 6 → (after : List ℕ) × (readUnit (s ++ after) ≡ refused 6 → ⊥)
+
+-- the parts of a unit that write makes
+abbrev pub partsOf : Params → ℕ → ℕ → ℕ → ℕ → Parts
+partsOf c w protocol lsc lwc =
+    record {
+      protocol = protocol;
+      count = 1;
+      lwc = lwc;
+      lsc = lsc;
+      coding = some (record { w = w; k = c .k; n = nOf c; seed = 0 });
+      symbol = symbolStart c w;
+    }
+
+-- bytes that are read as a unit of these parts and this symbol
+pub record ReadsAs (u : List ℕ) (parts : Parts) (symbol : List ℕ) : Type 0 where
+  pub read : readUnit u ≡ answered parts
+  pub rest : drop (parts .symbol) u ≡ symbol
+
+-- what write writes is read as its parts and its symbol
+abbrev pub RoundTrip : Type 0
+RoundTrip =
+    (number w protocol lsc lwc : ℕ) (symbol : List ℕ) (outs : ℕ) → writeRefusal number w protocol lsc lwc (length symbol) outs ≡ 0
+    → ReadsAs (unitOf (codeOf number) w protocol lsc lwc symbol) (partsOf (codeOf number) w protocol lsc lwc) symbol
+
+-- a unit of one extension that is read with a code's parameters is, byte for byte, what write makes of its numbers and its symbol
+abbrev pub CanonicalUnit : Type 0
+CanonicalUnit =
+    (c : Params) (w : ℕ) (u : List ℕ) (parts : Parts) → OfBytes u → readUnit u ≡ answered parts
+    → parts .count ≡ 1 → parts .coding ≡ some (record { w = w; k = c .k; n = nOf c; seed = 0 })
+    → u ≡ unitOf c w (parts .protocol) (parts .lsc) (parts .lwc) (drop (parts .symbol) u)
+
+-- the LWC of a position
+abbrev pub lwcOf : ℕ → ℕ
+lwcOf position = position + 1
+
+-- The information part in one buffer and its parity in the other, a position, and a label: the symbol that show shows for the
+-- position's LWC can be written, into an output of the code's size for units, and the unit is read as one with that LWC whose symbol
+-- is the codeword's at the position.
+abbrev pub SendsCodeword : Type 0
+SendsCodeword =
+    (number w protocol lsc position : ℕ) (info parity : RefT (List ℕ))
+    → wrongCode number ≡ false → wrongWidth w ≡ false → wrongLabel lsc protocol ≡ false → position < nOf (codeOf number)
+    → length (now info) ≡ codeOf number .k * w → now parity ≡ encodeOf (codeOf number) w (now info)
+    → let shown = showOf number w info parity (lwcOf position) .bytes in
+    (writeRefusal number w protocol lsc (lwcOf position) (length shown) (unitBytes number w) ≡ 0)
+    × ReadsAs (unitOf (codeOf number) w protocol lsc (lwcOf position) shown) (partsOf (codeOf number) w protocol lsc (lwcOf position))
+    (symbolAt w (now info ++ encodeOf (codeOf number) w (now info)) position)

@@ -1,0 +1,4 @@
+pub mod Bytes
+pub mod Sdnv
+pub mod SdnvClaims
+pub mod inner
