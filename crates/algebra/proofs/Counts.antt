@@ -1,4 +1,4 @@
--- Counts of marks: those of 1, 2 and 0 are all, and a count is 0 just when no mark is that.
+-- Counts: those of 1, 2 and 0 are all where nothing is above 2, and a count is 0 just when no element is that.
 -- Assumes nothing.
 use mathlib.Core.Path.{_≡_, refl}
 use mathlib.Core.Logic.{_↔_, _≢_}
@@ -10,7 +10,7 @@ use native.Mathlib.Omega.{arith}
 use lib.Dec.{eqb}
 use lib.ListN.{length, getD}
 use borrow.Author.Tests.{eqb-false}
-use Rattle.algebra.specs.Closing.{count}
+use Rattle.algebra.specs.Lists.{count}
 use Rattle.algebra.proofs.Lists.{eqb-iff}
 
 pub count-all : (l : List ℕ) → ((i : ℕ) → i < length l → getD l i 0 ≤ 2) → count 1 l + count 2 l + count 0 l ≡ length l

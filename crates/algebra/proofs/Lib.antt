@@ -4,7 +4,6 @@ pub mod Codeword
 pub mod Staircase
 pub mod Words
 pub mod Agreeing
-pub mod SameHeard
-pub mod Demand
+pub mod SameKnown
 pub mod Counts
 pub mod Fronts

@@ -3,5 +3,5 @@ pub mod Lists
 pub mod Codeword
 pub mod Staircase
 pub mod Words
-pub mod Closing
-pub mod Demand
+pub mod Agreeing
+pub mod Unique

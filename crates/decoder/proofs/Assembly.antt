@@ -12,48 +12,49 @@ use borrow.Author.Tests.{lt-ltb, eqb-true}
 use Rattle.algebra.specs.Sums.{pick}
 use Rattle.algebra.specs.Codeword.{Checks, byteAt}
 use Rattle.algebra.specs.Staircase.{staircase}
-use Rattle.algebra.specs.Closing.{heard}
+use Rattle.peeling.specs.States.{isKnown}
 use Rattle.ccsds.specs.Codes.{nOf, checksOf}
 use Rattle.ccsds.specs.Tables.{codeOf, Known}
 use Rattle.ccsds.proofs.Valid.{valid-of}
-use Rattle.algebra.specs.Demand.{Agreeing, Some, Common}
+use Rattle.algebra.specs.Unique.{Some, Common}
+use Rattle.decoder.specs.Outcome.{AgreesWith}
 use Rattle.elimination.specs.Fill.{Consistent, ConsistentIs}
 use Rattle.peeling.specs.Plan.{free, Plan, Closed, Unsolved}
 use Rattle.peeling.specs.Values.{Values, HoldIs}
 use Rattle.decoder.specs.Pivots.{AllSolvedIs, DeterminedIs}
 use Rattle.pivot_equations.specs.Express.{StepsExpressed, SameFrom}
 use Rattle.decoder.specs.Equations.{behind, Equations, PutIn, Room}
-use Rattle.decoder.specs.Marks.{missing, Cleared, FilledMissing, FilledDetermined, Settles, Hangs}
+use Rattle.decoder.specs.MissingPositions.{missing, Cleared, FilledMissing, FilledDetermined, Settles, Hangs}
 use Rattle.decoder.specs.Outcome.{Stays, Fills, Leaves, Differs, Outcome}
 use Rattle.decoder.proofs.Wholly.{wholly-common, wholly-agrees, wholly-refuted}
 use Rattle.decoder.proofs.Behind.{behind-at, behind-bit}
 use Rattle.decoder.proofs.ReadOff.{Setting, Behind, refuted, all-common, confirmed}
 use Rattle.decoder.proofs.InCommon.{determined, undetermined}
 
-heard-mark : (marks : List ℕ) (i : ℕ) → heard marks i ≡ true → getD marks i 0 ≡ 1
-unfolding heard
-heard-mark marks i e = eqb-true (getD marks i 0) 1 e
+known-state : (states : List ℕ) (i : ℕ) → isKnown states i ≡ true → getD states i 0 ≡ 1
+unfolding isKnown
+known-state states i e = eqb-true (getD states i 0) 1 e
 
--- ---- two blocks with the same heard symbols have one outcome
+-- ---- two blocks with the same known symbols have one outcome
 
-module _ (c : Checks) (w : ℕ) (block y marks : List ℕ) (same : (p b : ℕ) → p < c .n → b < w → heard marks p ≡ true → byteAt w y b p ≡ byteAt w block b p) where
-  to : {x : List ℕ} → Agreeing c w y marks x → Agreeing c w block marks x
+module _ (c : Checks) (w : ℕ) (block y states : List ℕ) (same : (p b : ℕ) → p < c .n → b < w → isKnown states p ≡ true → byteAt w y b p ≡ byteAt w block b p) where
+  to : {x : List ℕ} → AgreesWith c w y states x → AgreesWith c w block states x
   to A = record { size = A .size; bytes = A .bytes; rows = A .rows; same = λ i h e b k. A .same i h e b k ∙ same i b h k e }
 
-  from : {x : List ℕ} → Agreeing c w block marks x → Agreeing c w y marks x
+  from : {x : List ℕ} → AgreesWith c w block states x → AgreesWith c w y states x
   from A = record { size = A .size; bytes = A .bytes; rows = A .rows; same = λ i h e b k. A .same i h e b k ∙ sym (same i b h k e) }
 
-  common : (i : ℕ) → Common c w y marks i → Common c w block marks i
+  common : (i : ℕ) → Common w (AgreesWith c w y states) i → Common w (AgreesWith c w block states) i
   common i f x z ax az = f x z (from ax) (from az)
 
   module _ (s′ m′ : List ℕ) where
-    stays : (i : ℕ) → i < c .n → heard marks i ≡ true → Stays w y marks s′ m′ i → Stays w block marks s′ m′ i
-    stays i h e S = record { mark = S .mark; bytes = λ b k. S .bytes b k ∙ same i b h k e }
+    stays : (i : ℕ) → i < c .n → isKnown states i ≡ true → Stays w y s′ m′ i → Stays w block s′ m′ i
+    stays i h e S = record { state = S .state; bytes = λ b k. S .bytes b k ∙ same i b h k e }
 
-    pub outcome-same : (ok : Bool) → Outcome c w y marks s′ m′ ok → Outcome c w block marks s′ m′ ok
+    pub outcome-same : (ok : Bool) → Outcome c w y states s′ m′ ok → Outcome c w block states s′ m′ ok
     outcome-same false R = record {
       symbols-size = R .symbols-size;
-      marks-size = R .marks-size;
+      states-size = R .states-size;
       none = λ s. R .none (s .0, from (s .1));
       known = λ i h e. stays i h e (R .known i h e);
       missing = R .missing;
@@ -62,94 +63,94 @@ module _ (c : Checks) (w : ℕ) (block y marks : List ℕ) (same : (p b : ℕ) �
       x,
       record {
         symbols-size = K .symbols-size;
-        marks-size = K .marks-size;
+        states-size = K .states-size;
         agrees = to (K .agrees);
         known = λ i h e. stays i h e (K .known i h e);
         missing = λ i h e. go i (K .missing i h e);
       },
     )
       where
-        go : (i : ℕ) → Fills c w y marks x s′ m′ i ⊎ (Leaves w s′ m′ i × Differs c w y marks x i) → Fills c w block marks x s′ m′ i ⊎ (Leaves w s′ m′ i × Differs c w block marks x i)
-        go i (inl F) = inl (record { mark = F .mark; bytes = F .bytes; common = common i (F .common) })
+        go : (i : ℕ) → Fills c w y states x s′ m′ i ⊎ (Leaves w s′ m′ i × Differs c w y states x i) → Fills c w block states x s′ m′ i ⊎ (Leaves w s′ m′ i × Differs c w block states x i)
+        go i (inl F) = inl (record { state = F .state; bytes = F .bytes; common = common i (F .common) })
         go i (inr (L, D)) = inr (L, (D .0, (to (D .1 .0), D .1 .1)))
 
 -- the symbols along a plan are a block's of their own
-pub values-here : {c : Checks} {w : ℕ} {block marks plan y : List ℕ} {steps pivots : ℕ} → Values c w block marks plan y steps pivots → Values c w y marks plan y steps pivots
-values-here L = record { size = L .size; heard-byte = λ p b h k e. refl; pivot-byte = L .pivot-byte; holds = L .holds }
+pub values-here : {c : Checks} {w : ℕ} {block states plan y : List ℕ} {steps pivots : ℕ} → Values c w block states plan y steps pivots → Values c w y states plan y steps pivots
+values-here L = record { size = L .size; known-byte = λ p b h k e. refl; pivot-byte = L .pivot-byte; holds = L .holds }
 
 -- ---- the cases
 
-module _ (c : Checks) (w : ℕ) (y marks s′ m′ : List ℕ) (sy : length y ≡ c .n * w) (sm : length marks ≡ c .n) where
+module _ (c : Checks) (w : ℕ) (y states s′ m′ : List ℕ) (sy : length y ≡ c .n * w) (sm : length states ≡ c .n) where
   -- no codeword agrees, and the missing positions were cleared
-  pub outcome-no : ¬ Some c w y marks → Cleared w y marks s′ m′ (length marks) → length s′ ≡ length y → length m′ ≡ length marks → Outcome c w y marks s′ m′ false
+  pub outcome-no : ¬ Some (AgreesWith c w y states) → Cleared w y states s′ m′ (length states) → length s′ ≡ length y → length m′ ≡ length states → Outcome c w y states s′ m′ false
   outcome-no none C es em = record {
     symbols-size = es ∙ sy;
-    marks-size = em ∙ sm;
+    states-size = em ∙ sm;
     none = none;
-    known = λ i h e. let o = test i h true e in record { mark = C .mark i ∙ rw o (heard-mark marks i e); bytes = λ b k. C .byte i b k ∙ rw o };
-    missing = λ i h e. let o = test i h false e in record { mark = C .mark i ∙ rw o; bytes = λ b k. C .byte i b k ∙ rw o };
+    known = λ i h e. let o = test i h true e in record { state = C .state i ∙ rw o (known-state states i e); bytes = λ b k. C .byte i b k ∙ rw o };
+    missing = λ i h e. let o = test i h false e in record { state = C .state i ∙ rw o; bytes = λ b k. C .byte i b k ∙ rw o };
   }
     where
-      test : (i : ℕ) → i < c .n → (t : Bool) → heard marks i ≡ t → missing marks (length marks) i ≡ not t
-      test i h t e = rw (lt-ltb i (length marks) (subst (λ (n : ℕ). i < n) (sym sm) h), e)
+      test : (i : ℕ) → i < c .n → (t : Bool) → isKnown states i ≡ t → missing states (length states) i ≡ not t
+      test i h t e = rw (lt-ltb i (length states) (subst (λ (n : ℕ). i < n) (sym sm) h), e)
 
   -- x agrees, all that agree are the same, and everything missing was filled
-  pub outcome-all : (x : List ℕ) → Agreeing c w y marks x → ((i : ℕ) → i < c .n → Common c w y marks i) → length x ≡ c .n * w → FilledMissing marks m′ → Outcome c w y marks x m′ true
+  pub outcome-all : (x : List ℕ) → AgreesWith c w y states x → ((i : ℕ) → i < c .n → Common w (AgreesWith c w y states) i) → length x ≡ c .n * w → FilledMissing states m′ → Outcome c w y states x m′ true
   outcome-all x A f sx F = (
     x,
     record {
       symbols-size = sx;
-      marks-size = F .size ∙ sm;
+      states-size = F .size ∙ sm;
       agrees = A;
-      known = λ i h e. record { mark = F .mark i (below i h) ∙ rw e; bytes = λ b k. A .same i h e b k };
-      missing = λ i h e. inl (record { mark = F .mark i (below i h) ∙ rw e; bytes = λ b k. refl; common = f i h });
+      known = λ i h e. record { state = F .state i (below i h) ∙ rw e; bytes = λ b k. A .same i h e b k };
+      missing = λ i h e. inl (record { state = F .state i (below i h) ∙ rw e; bytes = λ b k. refl; common = f i h });
     },
   )
     where
-      below : (i : ℕ) → i < c .n → i < length marks
+      below : (i : ℕ) → i < c .n → i < length states
       below i h = subst (λ (n : ℕ). i < n) (sym sm) h
 
   -- x agrees, and what hangs on no pivot was filled
-  pub outcome-some : (x : List ℕ) → Agreeing c w y marks x → (words early : ℕ) (l plan : List ℕ) → length x ≡ c .n * w
-      → ((p : ℕ) → p < c .n → heard marks p ≡ false → DeterminedIs l words early (getD plan p 0) true → Common c w y marks p)
-      → ((p : ℕ) → p < c .n → heard marks p ≡ false → DeterminedIs l words early (getD plan p 0) false → Differs c w y marks x p)
-      → FilledDetermined w early words l plan x marks s′ m′ → Outcome c w y marks s′ m′ true
+  pub outcome-some : (x : List ℕ) → AgreesWith c w y states x → (words early : ℕ) (l plan : List ℕ) → length x ≡ c .n * w
+      → ((p : ℕ) → p < c .n → isKnown states p ≡ false → DeterminedIs l words early (getD plan p 0) true → Common w (AgreesWith c w y states) p)
+      → ((p : ℕ) → p < c .n → isKnown states p ≡ false → DeterminedIs l words early (getD plan p 0) false → Differs c w y states x p)
+      → FilledDetermined w early words l plan x states s′ m′ → Outcome c w y states s′ m′ true
   outcome-some x A words early l plan sx f g F = (
     x,
     record {
       symbols-size = F .symbols-size ∙ sx;
-      marks-size = F .marks-size ∙ sm;
+      states-size = F .states-size ∙ sm;
       agrees = A;
-      known = λ i h e. let U = F .each i (below i h) .known e in record { mark = U .mark ∙ heard-mark marks i e; bytes = λ b k. U .bytes b k ∙ A .same i h e b k };
+      known = λ i h e. let U = F .each i (below i h) .known e in record { state = U .state ∙ known-state states i e; bytes = λ b k. U .bytes b k ∙ A .same i h e b k };
       missing = λ i h e. go i h e (F .each i (below i h) .missing e);
     },
   )
     where
-      below : (i : ℕ) → i < c .n → i < length marks
+      below : (i : ℕ) → i < c .n → i < length states
       below i h = subst (λ (n : ℕ). i < n) (sym sm) h
 
-      go : (i : ℕ) → i < c .n → heard marks i ≡ false → Settles w early words l plan x s′ m′ i ⊎ Hangs w early words l plan s′ m′ i
-          → Fills c w y marks x s′ m′ i ⊎ (Leaves w s′ m′ i × Differs c w y marks x i)
-      go i h e (inl S) = inl (record { mark = S .mark; bytes = S .bytes; common = f i h e (S .determined) })
+      go : (i : ℕ) → i < c .n → isKnown states i ≡ false → Settles w early words l plan x s′ m′ i ⊎ Hangs w early words l plan s′ m′ i
+          → Fills c w y states x s′ m′ i ⊎ (Leaves w s′ m′ i × Differs c w y states x i)
+      go i h e (inl S) = inl (record { state = S .state; bytes = S .bytes; common = f i h e (S .determined) })
       go i h e (inr H) = inr (H .leaves, g i h e (H .determined))
 
 -- ---- without pivots
 
-module _ {c : Checks} {w : ℕ} {marks plan y : List ℕ} {early steps pivots : ℕ} (none : pivots ≡ 0) (P : Plan c marks plan early steps pivots) (closed : Closed c plan)
-    (Y : Values c w y marks plan y steps pivots) (sm : length marks ≡ c .n) where
-  pub by-steps-no : (r : Bool) → HoldIs c w plan y r → r ≡ false → (s′ m′ : List ℕ) → Cleared w y marks s′ m′ (length marks) → length s′ ≡ length y → length m′ ≡ length marks → Outcome c w y marks s′ m′ false
+module _ {c : Checks} {w : ℕ} {states plan y : List ℕ} {early steps pivots : ℕ} (none : pivots ≡ 0) (P : Plan c states plan early steps pivots) (closed : Closed c plan)
+    (Y : Values c w y states plan y steps pivots) (sm : length states ≡ c .n) where
+  pub by-steps-no : (r : Bool) → HoldIs c w plan y r → r ≡ false → (s′ m′ : List ℕ) → Cleared w y states s′ m′ (length states) → length s′ ≡ length y → length m′ ≡ length states → Outcome c w y states s′ m′ false
   by-steps-no r H e s′ m′ C es em =
-      outcome-no c w y marks s′ m′ (Y .size) sm (wholly-refuted c w y marks plan y early steps pivots none P closed Y (subst (HoldIs c w plan y) e H)) C es em
+      outcome-no c w y states s′ m′ (Y .size) sm (wholly-refuted c w y states plan y early steps pivots none P closed Y (subst (HoldIs c w plan y) e H)) C es em
 
-  pub by-steps-yes : (r : Bool) → HoldIs c w plan y r → r ≡ true → ((t : ℕ) → getD y t 0 < 256) → (m′ : List ℕ) → FilledMissing marks m′ → Outcome c w y marks y m′ true
+  pub by-steps-yes : (r : Bool) → HoldIs c w plan y r → r ≡ true → ((t : ℕ) → getD y t 0 < 256) → (m′ : List ℕ) → FilledMissing states m′ → Outcome c w y states y m′ true
   by-steps-yes r H e bytes m′ F =
-      outcome-all c w y marks m′ m′ (Y .size) sm y (wholly-agrees c w y marks plan y early steps pivots none P closed Y bytes (subst (HoldIs c w plan y) e H))
-      (wholly-common c w y marks plan y early steps pivots none P closed Y) (Y .size) F
+      outcome-all c w y states m′ m′ (Y .size) sm y (wholly-agrees c w y states plan y early steps pivots none P closed Y bytes (subst (HoldIs c w plan y) e H))
+      (wholly-common c w y states plan y early steps pivots none P closed Y) (Y .size) F
 
 -- ---- with pivots
 
 -- the rows' places, by the plan alone
-module _ {c : Checks} {marks plan : List ℕ} {early steps pivots : ℕ} (P : Plan c marks plan early steps pivots) where
+module _ {c : Checks} {states plan : List ℕ} {early steps pivots : ℕ} (P : Plan c states plan early steps pivots) where
   steps-below : steps ≤ c .m
   steps-below = omega (arith, P .steps-free)
 
@@ -173,9 +174,9 @@ module _ {c : Checks} {marks plan : List ℕ} {early steps pivots : ℕ} (P : Pl
         let h : rest * w ≤ c .m * w = mul-le-mul-right w (omega (arith, free-rows)) in
         omega arith
 
-module _ {c : Checks} {w : ℕ} {marks plan y : List ℕ} {words early steps pivots rest : ℕ} {l d : List ℕ} (P : Plan c marks plan early steps pivots) (closed : Closed c plan)
-    (U : Unsolved plan pivots) (Y : Values c w y marks plan y steps pivots) (E : Equations c w plan y words early steps rest l d) (room : pivots ≤ 64 * words) (some : 0 < w) where
-  pub setting : Setting c w y marks plan y (E .rows) (behind words steps (E .rows)) (E .sides) (behind words steps l) d words early steps pivots rest
+module _ {c : Checks} {w : ℕ} {states plan y : List ℕ} {words early steps pivots rest : ℕ} {l d : List ℕ} (P : Plan c states plan early steps pivots) (closed : Closed c plan)
+    (U : Unsolved plan pivots) (Y : Values c w y states plan y steps pivots) (E : Equations c w plan y words early steps rest l d) (room : pivots ≤ 64 * words) (some : 0 < w) where
+  pub setting : Setting c w y states plan y (E .rows) (behind words steps (E .rows)) (E .sides) (behind words steps l) d words early steps pivots rest
   setting = record {
     made = P;
     closed = closed;
@@ -193,32 +194,32 @@ module _ {c : Checks} {w : ℕ} {marks plan y : List ℕ} {words early steps piv
   pub back : Behind (behind words steps l) l words steps rest
   back = record { rows = λ i k h g. sym (behind-at l words steps i k) }
 
-  module _ (sm : length marks ≡ c .n) where
+  module _ (sm : length states ≡ c .n) where
     -- no codeword agrees
-    pub by-rows-no : (r : Bool) → ConsistentIs (behind words steps l) d rest words w r → r ≡ false → (s′ m′ : List ℕ) → Cleared w y marks s′ m′ (length marks) → length s′ ≡ length y → length m′ ≡ length marks
-        → Outcome c w y marks s′ m′ false
+    pub by-rows-no : (r : Bool) → ConsistentIs (behind words steps l) d rest words w r → r ≡ false → (s′ m′ : List ℕ) → Cleared w y states s′ m′ (length states) → length s′ ≡ length y → length m′ ≡ length states
+        → Outcome c w y states s′ m′ false
     by-rows-no r A e s′ m′ C es em =
-        outcome-no c w y marks s′ m′ (Y .size) sm (refuted setting (subst (ConsistentIs (behind words steps l) d rest words w) e A)) C es em
+        outcome-no c w y states s′ m′ (Y .size) sm (refuted setting (subst (ConsistentIs (behind words steps l) d rest words w) e A)) C es em
 
     module _ (K : Consistent (behind words steps l) d rest words w) (plan′ x : List ℕ) (I : PutIn c w words early steps rest pivots l d plan y plan′ x)
         (bytes : (t : ℕ) → getD x t 0 < 256) where
-      agrees : Agreeing c w y marks x
+      agrees : AgreesWith c w y states x
       agrees = confirmed setting back (I .put) (I .again) bytes K
 
       -- every pivot is solved
-      pub by-rows-all : (r : Bool) → AllSolvedIs plan′ pivots r → r ≡ true → (m′ : List ℕ) → FilledMissing marks m′ → Outcome c w y marks x m′ true
+      pub by-rows-all : (r : Bool) → AllSolvedIs plan′ pivots r → r ≡ true → (m′ : List ℕ) → FilledMissing states m′ → Outcome c w y states x m′ true
       by-rows-all r A e m′ F =
-          outcome-all c w y marks m′ m′ (Y .size) sm x agrees (all-common setting back (I .put) (subst (AllSolvedIs plan′ pivots) e A)) (agrees .size) F
+          outcome-all c w y states m′ m′ (Y .size) sm x agrees (all-common setting back (I .put) (subst (AllSolvedIs plan′ pivots) e A)) (agrees .size) F
 
       -- some are free: l″ says what hangs on them
       pub by-rows-some : (l″ : List ℕ) → StepsExpressed c plan′ l″ words early steps → SameFrom l l″ words steps → (s′ m′ : List ℕ)
-          → FilledDetermined w early words l″ plan′ x marks s′ m′ → Outcome c w y marks s′ m′ true
+          → FilledDetermined w early words l″ plan′ x states s′ m′ → Outcome c w y states s′ m′ true
       by-rows-some l″ X F s′ m′ D =
-          outcome-some c w y marks s′ m′ (Y .size) sm x agrees words early l″ plan′ (agrees .size)
+          outcome-some c w y states s′ m′ (Y .size) sm x agrees words early l″ plan′ (agrees .size)
           (λ p h e. determined setting back (I .put) (I .again) X F p h) (λ p h e. undetermined setting back (I .put) (I .again) X F bytes K p h) D
 
 -- a row of words for all pivots, within the words that the caller lends
-pub room-of : (number : ℕ) → Known number → {marks plan : List ℕ} {early steps pivots size : ℕ} → Plan (checksOf (codeOf number)) marks plan early steps pivots
+pub room-of : (number : ℕ) → Known number → {states plan : List ℕ} {early steps pivots size : ℕ} → Plan (checksOf (codeOf number)) states plan early steps pivots
     → size ≡ checksOf (codeOf number) .m * (checksOf (codeOf number) .n / 64 + 1) → Room (checksOf (codeOf number)) ((pivots + 63) / 64) pivots size
 unfolding staircase
 room-of number k {pivots = pivots} {size = size} P e =

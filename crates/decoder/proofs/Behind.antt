@@ -35,7 +35,7 @@ module _ (l : List ℕ) (words steps : ℕ) where
 
 -- ---- before any pivot is solved
 
-module _ {c : Checks} {marks plan : List ℕ} {early steps pivots : ℕ} (P : Plan c marks plan early steps pivots) (closed : Closed c plan) (U : Unsolved plan pivots) where
+module _ {c : Checks} {states plan : List ℕ} {early steps pivots : ℕ} (P : Plan c states plan early steps pivots) (closed : Closed c plan) (U : Unsolved plan pivots) where
   -- rows that change behind the steps leave what the steps hang on
   module _ (l l′ : List ℕ) (words : ℕ) (S : SameBelow l l′ words steps) where
     same-row : (t i : ℕ) → t < steps → i < 64 * words → rowBit l′ (t * (words + 1)) i ≡ rowBit l (t * (words + 1)) i

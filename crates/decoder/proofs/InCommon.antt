@@ -15,8 +15,9 @@ use borrow.Author.Tests.{eq-eqb, ne-eqb, eqb-true}
 use Rattle.algebra.specs.Sums.{_⊕_, pick, sum}
 use Rattle.algebra.specs.Lists.{tab}
 use Rattle.algebra.specs.Codeword.{Checks, byteAt}
-use Rattle.algebra.specs.Closing.{heard}
-use Rattle.algebra.specs.Demand.{Agreeing, Common}
+use Rattle.peeling.specs.States.{isKnown}
+use Rattle.algebra.specs.Unique.{Common}
+use Rattle.decoder.specs.Outcome.{AgreesWith}
 use Rattle.algebra.proofs.Sums.{unit, unit-l, cancel-l, self, add-byte, add-ne, sum-ext, sum-none, sum-only, sum-tests, sum-terms, sum-xor, sum-zeros}
 use Rattle.algebra.proofs.Lists.{length-tab, getD-tab}
 use Rattle.elimination.specs.Bits.{testBit, rowBit}
@@ -35,7 +36,7 @@ use Rattle.pivot_equations.proofs.RowChanges.{xor-false}
 use Rattle.decoder.proofs.Solutions.{Along, agreeing-along, high-absent}
 use Rattle.decoder.proofs.ReadOff.{clash, row-here, row-others, Setting, pivotByte, Behind, agrees-reduced, solves-reduced, pivot-below}
 use Rattle.decoder.proofs.ReadOff.{word-behind, pivot-few, kind-same, row-same, plan-put, places, solved-word, row-solved, other-free}
-use Rattle.decoder.proofs.ReadOff.{x-row, x-free, x-heard, x-holds, x-solves}
+use Rattle.decoder.proofs.ReadOff.{x-row, x-free, x-known, x-holds, x-solves}
 
 -- ---- sums and tests
 
@@ -60,8 +61,8 @@ xor-self false = refl
 
 -- ---- the setting, after Put, with the steps restored and their expressions made again
 
-module _ {c : Checks} {w : ℕ} {block marks plan y l lr d lr′ d′ : List ℕ} {words early steps pivots rest : ℕ}
-    (G : Setting c w block marks plan y l lr d lr′ d′ words early steps pivots rest) {lw plan′ y′ x l″ : List ℕ}
+module _ {c : Checks} {w : ℕ} {block states plan y l lr d lr′ d′ : List ℕ} {words early steps pivots rest : ℕ}
+    (G : Setting c w block states plan y l lr d lr′ d′ words early steps pivots rest) {lw plan′ y′ x l″ : List ℕ}
     (B : Behind lr′ lw words steps rest) (Q : Put c w words steps rest pivots lw d′ plan y plan′ y′) (A : Again c w plan′ y′ x early steps)
     (X : StepsExpressed c plan′ l″ words early steps) (F : SameFrom lw l″ words steps) where
   abbrev IsSolved : ℕ → Type 0
@@ -102,7 +103,7 @@ module _ {c : Checks} {w : ℕ} {block marks plan y l lr d lr′ d′ : List ℕ
         (λ q. omega (arith, s .1 .0), (s .1 .0, (omega (arith, s .1 .1 .0), omega (arith, s .1 .1 .1))));
   }
     where
-      P′ : Plan c marks plan′ early steps pivots × Closed c plan′
+      P′ : Plan c states plan′ early steps pivots × Closed c plan′
       P′ = plan-put G B Q
 
       step : early < kindOf plan′ p → kindOf plan′ p ≤ 1024 → (kindOf plan′ p ≤ steps) ⊎ IsPivot plan′ pivots p → (kindOf plan′ p - 1 ≢ c .m) × (kindOf plan′ p - 1 < c .m)
@@ -129,7 +130,7 @@ module _ {c : Checks} {w : ℕ} {block marks plan y l lr d lr′ d′ : List ℕ
       go (inl k) = absurd (omega (arith, kind-same G B Q p k, few-steps (G .made)))
       go (inr (u, (hu, e))) = pivot u hu e (Q .pivot u hu)
 
-  known-hangs : (p i : ℕ) → p < c .n → heard marks p ≡ true → D p i ≡ false
+  known-hangs : (p i : ℕ) → p < c .n → isKnown states p ≡ true → D p i ≡ false
   known-hangs p i hp e = hangs-none l″ words early (kindOf plan′ p) i (omega (arith, plan-put G B Q .0 .known p hp e))
 
   free-hangs : (u i : ℕ) → u < pivots → IsFree u → D (pivotOf plan u) i ≡ eqb i u
@@ -143,11 +144,11 @@ module _ {c : Checks} {w : ℕ} {block marks plan y l lr d lr′ d′ : List ℕ
       ∙ ap (λ (b : Bool). xor b (eqb i u)) (bit-kept (s .row) i (s .below) hi)
 
   -- a word that agrees is x plus the pivots that each position hangs on
-  spread : (z : List ℕ) → Agreeing c w block marks z → (p b : ℕ) → p < c .n → b < w
+  spread : (z : List ℕ) → AgreesWith c w block states z → (p b : ℕ) → p < c .n → b < w
       → byteAt w z b p ≡ byteAt w x b p ⊕ sum (D p) (λ u. pivotByte w plan z u b) pivots
   spread z a p b hp hb =
       expressed (plan-triangular (G .made) (G .closed)) (byteAt w z b) (byteAt w x b) D v pivots
-      (λ q hq e. a .same q hq e b hb ∙ sym (x-heard G B Q A q b hq hb e) ∙ sym (unit (byteAt w x b q))
+      (λ q hq e. a .same q hq e b hb ∙ sym (x-known G B Q A q b hq hb e) ∙ sym (unit (byteAt w x b q))
       ∙ ap (_⊕_ (byteAt w x b q)) (sym (sum-none (D q) v pivots (λ i h. known-hangs q i hq e))))
       (λ u hu. at-pivot u hu (Q .pivot u hu))
       (λ t ht. agreeing-along (G .made) a .holds t b ht hb) (λ t ht. x-holds G B Q A t b ht hb)
@@ -170,10 +171,10 @@ module _ {c : Checks} {w : ℕ} {block marks plan y l lr d lr′ d′ : List ℕ
           sym (ap₂ _⊕_ (x-free G B Q A u b hu hb f) (sum-tests (D (pivotOf plan u)) (λ i. eqb i u) v pivots (λ i h. free-hangs u i hu f) ∙ alone u hu) ∙ unit-l (v u))
 
   -- a position that hangs on no pivot
-  pub determined : (p : ℕ) → p < c .n → DeterminedIs l″ words early (kindOf plan′ p) true → Common c w block marks p
+  pub determined : (p : ℕ) → p < c .n → DeterminedIs l″ words early (kindOf plan′ p) true → Common w (AgreesWith c w block states) p
   determined p hp none z z′ a a′ b hb = same z a ∙ sym (same z′ a′)
     where
-      same : (z : List ℕ) → Agreeing c w block marks z → byteAt w z b p ≡ byteAt w x b p
+      same : (z : List ℕ) → AgreesWith c w block states z → byteAt w z b p ≡ byteAt w x b p
       same z a =
           spread z a p b hp hb
           ∙ ap (_⊕_ (byteAt w x b p)) (sum-none (D p) (λ u. pivotByte w plan z u b) pivots (λ i h. none i (omega (arith, G .room))))
@@ -257,13 +258,13 @@ module _ {c : Checks} {w : ℕ} {block marks plan y l lr d lr′ d′ : List ℕ
         ∙ ap (_⊕_ (sum a (λ q. byteAt w x b (at q)) n)) (sum-picks (eqb b 0) a (λ q. pick (D (at q) i) 1) n ∙ ap (pick (eqb b 0)) e ∙ pick-none (eqb b 0))
         ∙ unit (sum a (λ q. byteAt w x b (at q)) n)
 
-    moved-along : Along c w block marks plan moved steps
+    moved-along : Along c w block states plan moved steps
     moved-along = record {
       size = length-tab (c .n * w) (λ t. getD x t 0 ⊕ change (t % w) (t / w));
       bytes = moved-bytes;
-      heard-byte = λ p b hp hb e.
+      known-byte = λ p b hp hb e.
           moved-byte p b hp hb
-          ∙ ap₂ _⊕_ (x-heard G B Q A p b hp hb e) (ap (λ (k : Bool). pick (eqb b 0) (pick k 1)) (known-hangs p i hp e) ∙ pick-none (eqb b 0)) ∙ unit (byteAt w block b p);
+          ∙ ap₂ _⊕_ (x-known G B Q A p b hp hb e) (ap (λ (k : Bool). pick (eqb b 0) (pick k 1)) (known-hangs p i hp e) ∙ pick-none (eqb b 0)) ∙ unit (byteAt w block b p);
       holds = λ t b ht hb.
           moved-sum (c .has (rowOf plan t)) (λ q. q) b (c .n) hb (λ q h. h) (rw (row-same G B Q t) at (X t i ht (omega (arith, G .room)))) ∙ x-holds G B Q A t b ht hb;
     }
@@ -316,11 +317,11 @@ module _ {c : Checks} {w : ℕ} {block marks plan y l lr d lr′ d′ : List ℕ
         go (inl e) = sum-none row (λ q. pick (D (pivotOf plan q) i) 1) pivots (λ q h. e .clear q (omega (arith, G .room)))
         go (inr v) = pivot-row v
 
-    moved-agrees : Agreeing c w block marks moved
+    moved-agrees : AgreesWith c w block states moved
     moved-agrees = agrees-reduced G moved-along .1 (λ r b hr hb.
         moved-sum (rowBit lr′ (r * (words + 1))) (pivotOf plan) b pivots hb (λ q h. G .made .pivot q h .position) (row-moved r hr) ∙ x-solves G B Q A consistent r b hr hb)
 
-    moved-differs : (p : ℕ) → p < c .n → D p i ≡ true → Differs c w block marks x p
+    moved-differs : (p : ℕ) → p < c .n → D p i ≡ true → Differs c w block states x p
     moved-differs p hp t = (
       moved,
       (
@@ -337,5 +338,5 @@ module _ {c : Checks} {w : ℕ} {block marks plan y l lr d lr′ d′ : List ℕ
     )
 
   -- a position that hangs on a pivot
-  pub undetermined : ((t : ℕ) → getD x t 0 < 256) → Consistent lr′ d′ rest words w → (p : ℕ) → p < c .n → DeterminedIs l″ words early (kindOf plan′ p) false → Differs c w block marks x p
+  pub undetermined : ((t : ℕ) → getD x t 0 < 256) → Consistent lr′ d′ rest words w → (p : ℕ) → p < c .n → DeterminedIs l″ words early (kindOf plan′ p) false → Differs c w block states x p
   undetermined bytes consistent p hp (i, (hi, t)) = let f = loose p i hp hi t in moved-differs bytes consistent i (f .0) (f .1) p hp t

@@ -1,5 +1,6 @@
 pub mod Triangle
 pub mod Solutions
+pub mod Closes
 pub mod OutcomeLaws
 pub mod Wholly
 pub mod Behind

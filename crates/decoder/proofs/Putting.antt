@@ -32,7 +32,7 @@ pub put-all : {c : Checks} {w words steps pivots : ℕ} {l d plan symbols plan�
     → i ≡ rest → Put c w words steps rest pivots l d plan symbols plan′ symbols′
 put-all i rest X e = rw e at X
 
-module _ (c : Checks) (w words steps early pivots : ℕ) (marks l d plan symbols : List ℕ) (P : Plan c marks plan early steps pivots) (U : Unsolved plan pivots)
+module _ (c : Checks) (w words steps early pivots : ℕ) (states l d plan symbols : List ℕ) (P : Plan c states plan early steps pivots) (U : Unsolved plan pivots)
     (size : length symbols ≡ c .n * w) (i : ℕ) (plan′ symbols′ : List ℕ) (X : Put c w words steps i pivots l d plan symbols plan′ symbols′) where
   -- the pivots' positions, which are still there
   position : (u : ℕ) → u < pivots → pivotOf plan u < c .n

@@ -11,8 +11,9 @@ use native.Mathlib.Omega.{arith}
 use lib.ListN.{getD}
 use Rattle.algebra.specs.Sums.{_⊕_, sum}
 use Rattle.algebra.specs.Codeword.{Checks, byteAt}
-use Rattle.algebra.specs.Closing.{heard}
-use Rattle.algebra.specs.Demand.{Agreeing, Some, Common}
+use Rattle.peeling.specs.States.{isKnown}
+use Rattle.algebra.specs.Unique.{Some, Common}
+use Rattle.decoder.specs.Outcome.{AgreesWith}
 use Rattle.algebra.proofs.Sums.{unit, sum-cong, sum-none, sum-zeros}
 use Rattle.elimination.specs.Bits.{rowBit}
 use Rattle.elimination.specs.System.{Solves, Same}
@@ -62,7 +63,7 @@ Place c plan l words steps p = (kindOf plan p ≤ 4096 → kindOf plan p - 1025 
     × (4096 < kindOf plan p → (steps ≤ kindOf plan p - 4097)
     × ((kindOf plan p - 4097 < c .m) × ((0 < pivotWord l words (kindOf plan p - 4097)) × (pivotWord l words (kindOf plan p - 4097) ≤ 64 * words))))
 
-module _ {c : Checks} {marks plan : List ℕ} {early steps pivots : ℕ} (P : Plan c marks plan early steps pivots) (closed : Closed c plan) where
+module _ {c : Checks} {states plan : List ℕ} {early steps pivots : ℕ} (P : Plan c states plan early steps pivots) (closed : Closed c plan) where
   -- before any pivot is solved, each has its place in a row
   pub places-unsolved : Unsolved plan pivots → (l : List ℕ) (words : ℕ) → pivots ≤ 64 * words → Places c plan l words steps (c .m)
   places-unsolved U l words room p hp h = go (kind-cases P closed p hp)
@@ -76,11 +77,11 @@ module _ {c : Checks} {marks plan : List ℕ} {early steps pivots : ℕ} (P : Pl
 
 -- ---- the setting: the symbols along a plan that is made, and the reduced rows
 
-pub record Setting (c : Checks) (w : ℕ) (block marks plan y l lr d lr′ d′ : List ℕ) (words early steps pivots rest : ℕ) : Type 0 where
-  pub made : Plan c marks plan early steps pivots
+pub record Setting (c : Checks) (w : ℕ) (block states plan y l lr d lr′ d′ : List ℕ) (words early steps pivots rest : ℕ) : Type 0 where
+  pub made : Plan c states plan early steps pivots
   pub closed : Closed c plan
   pub unsolved : Unsolved plan pivots
-  pub values : Values c w block marks plan y steps pivots
+  pub values : Values c w block states plan y steps pivots
   pub step-rows : StepsExpressed c plan l words early steps
   pub system : System c w plan y l words early rest lr d
   pub room : pivots ≤ 64 * words
@@ -96,19 +97,19 @@ pivotByte w plan x u b = byteAt w x b (pivotOf plan u)
 pub record Behind (lr′ lw : List ℕ) (words steps rest : ℕ) : Type 0 where
   pub rows : (i k : ℕ) → i < rest → k < words + 1 → getD lw ((steps + i) * (words + 1) + k) 0 ≡ getD lr′ (i * (words + 1) + k) 0
 
-module _ {c : Checks} {w : ℕ} {block marks plan y l lr d lr′ d′ : List ℕ} {words early steps pivots rest : ℕ}
-    (G : Setting c w block marks plan y l lr d lr′ d′ words early steps pivots rest) where
+module _ {c : Checks} {w : ℕ} {block states plan y l lr d lr′ d′ : List ℕ} {words early steps pivots rest : ℕ}
+    (G : Setting c w block states plan y l lr d lr′ d′ words early steps pivots rest) where
   -- a word along the plan agrees just when its pivots solve the reduced rows
-  pub agrees-reduced : {x : List ℕ} → Along c w block marks plan x steps → Agreeing c w block marks x ↔ Solves lr′ d′ rest words w pivots (pivotByte w plan x)
+  pub agrees-reduced : {x : List ℕ} → Along c w block states plan x steps → AgreesWith c w block states x ↔ Solves lr′ d′ rest words w pivots (pivotByte w plan x)
   agrees-reduced {x} a =
       let f = agrees-iff (G .made) (G .closed) (G .unsolved) (G .values) (G .step-rows) (G .system) (G .room) a in
       let g = G .same .solves pivots (pivotByte w plan x) (G .room) in
       (λ s. g .0 (f .0 s), λ s. f .1 (g .1 s))
 
-  pub solves-reduced : {x : List ℕ} → Agreeing c w block marks x → Solves lr′ d′ rest words w pivots (pivotByte w plan x)
+  pub solves-reduced : {x : List ℕ} → AgreesWith c w block states x → Solves lr′ d′ rest words w pivots (pivotByte w plan x)
   solves-reduced a = agrees-reduced (agreeing-along (G .made) a) .0 a
 
-  pub refuted : Fails lr′ d′ rest words w → ¬ Some c w block marks
+  pub refuted : Fails lr′ d′ rest words w → ¬ Some (AgreesWith c w block states)
   refuted f (x, a) =
       f .there (sym (solves-reduced a (f .row) (f .byte) (f .below) (f .within))
       ∙ sum-none (rowBit lr′ (f .row * (words + 1))) (λ q. pivotByte w plan x q (f .byte)) pivots (λ q h. f .empty .clear q (omega (arith, G .room))))
@@ -149,7 +150,7 @@ module _ {c : Checks} {w : ℕ} {block marks plan y l lr d lr′ d′ : List ℕ
       abbrev IsFree : ℕ → Type 0
       IsFree u = Free w words steps rest lw plan y plan′ y′ u (pivotOf plan u)
 
-      P : Plan c marks plan early steps pivots
+      P : Plan c states plan early steps pivots
       P = G .made
 
       row-few : (r : ℕ) → r < rest → steps + r < c .m
@@ -199,7 +200,7 @@ module _ {c : Checks} {w : ℕ} {block marks plan y l lr d lr′ d′ : List ℕ
       pivot-same : (u : ℕ) → pivotOf plan′ u ≡ pivotOf plan u
       pivot-same u = table-same (3072 + u) (omega arith)
 
-      step-put : (t : ℕ) → t < steps → Step c marks plan′ early t
+      step-put : (t : ℕ) → t < steps → Step c states plan′ early t
       step-put t ht =
           let s = P .step t ht in
           record {
@@ -211,7 +212,7 @@ module _ {c : Checks} {w : ℕ} {block marks plan y l lr d lr′ d′ : List ℕ
             others = λ p hp h ne. before-put t p ht hp (s .others p hp (rw (row-same t) at h) (rw (position-same t) at ne));
           }
 
-      pub plan-put : Plan c marks plan′ early steps pivots × Closed c plan′
+      pub plan-put : Plan c states plan′ early steps pivots × Closed c plan′
       plan-put = (
         record {
           size = Q .plan-size ∙ P .size;
@@ -316,13 +317,13 @@ module _ {c : Checks} {w : ℕ} {block marks plan y l lr d lr′ d′ : List ℕ
             omega (arith, f .kind, G .unsolved u hu, G .made .pivots-few, G .made .positions)
 
         -- the pivots of a word that agrees
-        pivot-fixed : (z : List ℕ) → Agreeing c w block marks z → (u b : ℕ) (s : IsSolved u) → b < w → u < pivots → byteAt w z b (pivotOf plan u) ≡ getD d′ (s .row * w + b) 0
+        pivot-fixed : (z : List ℕ) → AgreesWith c w block states z → (u b : ℕ) (s : IsSolved u) → b < w → u < pivots → byteAt w z b (pivotOf plan u) ≡ getD d′ (s .row * w + b) 0
         pivot-fixed z a u b s hb hu =
             sym (sum-single (rowBit lr′ (s .row * (words + 1))) (λ q. pivotByte w plan z q b) u pivots hu (row-here lr′ rest words (G .reduced) (s .row) u (s .below) (solved-word s))
             (λ q hq t ne. absurd (not-free q hq (other-free (s .row) u q (s .below) (solved-word s) hq ne t))))
             ∙ solves-reduced a (s .row) b (s .below) hb
 
-        pub all-common : (i : ℕ) → i < c .n → Common c w block marks i
+        pub all-common : (i : ℕ) → i < c .n → Common w (AgreesWith c w block states) i
         all-common i hi z z′ a a′ b hb =
             expressed (plan-triangular (G .made) (G .closed)) (byteAt w z b) (byteAt w z′ b) (λ p q. false) (λ q. 0) 0
             (λ p hp e. a .same p hp e b hb ∙ sym (a′ .same p hp e b hb) ∙ none (byteAt w z′ b p))
@@ -353,10 +354,10 @@ module _ {c : Checks} {w : ℕ} {block marks plan y l lr d lr′ d′ : List ℕ
         pub x-free : (u b : ℕ) → u < pivots → b < w → IsFree u → byteAt w x b (pivotOf plan u) ≡ 0
         x-free u b hu hb f = x-pivot u b hu hb ∙ f .bytes b hb ∙ G .values .pivot-byte u b hu hb
 
-        pub x-heard : (p b : ℕ) → p < c .n → b < w → heard marks p ≡ true → byteAt w x b p ≡ byteAt w block b p
-        x-heard p b hp hb e =
+        pub x-known : (p b : ℕ) → p < c .n → b < w → isKnown states p ≡ true → byteAt w x b p ≡ byteAt w block b p
+        x-known p b hp hb e =
             let k : kindOf plan p ≤ steps = omega (arith, P .known p hp e) in
-            A .same p b hp hb (inl (omega (arith, kind-same p k, P .known p hp e))) ∙ Q .other-bytes p b (not-pivot p k) hp hb ∙ G .values .heard-byte p b hp hb e
+            A .same p b hp hb (inl (omega (arith, kind-same p k, P .known p hp e))) ∙ Q .other-bytes p b (not-pivot p k) hp hb ∙ G .values .known-byte p b hp hb e
 
         pub x-holds : StepsHold c w plan x steps
         x-holds t b ht hb = rw (row-same t) at (A .holds t b ht hb)
@@ -373,8 +374,8 @@ module _ {c : Checks} {w : ℕ} {block marks plan y l lr d lr′ d′ : List ℕ
                 (λ q hq t ne. x-free q b hq hb (other-free r (v .at) q hr (v .word) hq ne t))
                 ∙ x-row r (v .at) b hr (v .word) hb
 
-        pub confirmed : ((t : ℕ) → getD x t 0 < 256) → Consistent lr′ d′ rest words w → Agreeing c w block marks x
+        pub confirmed : ((t : ℕ) → getD x t 0 < 256) → Consistent lr′ d′ rest words w → AgreesWith c w block states x
         confirmed bytes consistent = agrees-reduced along .1 (x-solves consistent)
           where
-            along : Along c w block marks plan x steps
-            along = record { size = A .size ∙ Q .symbols-size ∙ G .values .size; bytes = bytes; heard-byte = x-heard; holds = x-holds }
+            along : Along c w block states plan x steps
+            along = record { size = A .size ∙ Q .symbols-size ∙ G .values .size; bytes = bytes; known-byte = x-known; holds = x-holds }

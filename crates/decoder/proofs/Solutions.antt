@@ -1,4 +1,4 @@
--- A word that has the heard symbols and for which the steps' rows hold agrees just when its pivots solve the rows of the check rows that no step used.
+-- A word that has the known symbols and for which the steps' rows hold agrees just when its pivots solve the rows of the check rows that no step used.
 -- Assumes nothing.
 use mathlib.Core.Path.{_≡_, refl, sym, ap, ap₂, _∙_, subst}
 use mathlib.Core.Logic.{_⊎_, inl, inr, _↔_}
@@ -11,8 +11,8 @@ use lib.ListN.{length, getD}
 use borrow.Author.Tests.{eq-eqb, ne-eqb, eqb-true}
 use Rattle.algebra.specs.Sums.{_⊕_, pick, sum}
 use Rattle.algebra.specs.Codeword.{Checks, byteAt, rowSum}
-use Rattle.algebra.specs.Closing.{heard}
-use Rattle.algebra.specs.Demand.{Agreeing}
+use Rattle.peeling.specs.States.{isKnown}
+use Rattle.decoder.specs.Outcome.{AgreesWith}
 use Rattle.algebra.proofs.Sums.{unit, unit-l, self, eq-of-add, sum-ext, sum-none, sum-only, sum-tests, sum-zeros}
 use Rattle.elimination.specs.Bits.{rowBit}
 use Rattle.elimination.specs.System.{leftSide, Solves}
@@ -31,18 +31,18 @@ pub record System (c : Checks) (w : ℕ) (plan y l : List ℕ) (words early rest
       → pick (rowBit lr (free plan j * (words + 1)) i) 1 ≡ sum (c .has j) (λ x. hang plan l words early x i) (c .n)
   pub sides : Sides c w plan y d
 
--- x has the heard symbols, and the steps' rows hold
-pub record Along (c : Checks) (w : ℕ) (block marks plan x : List ℕ) (steps : ℕ) : Type 0 where
+-- x has the known symbols, and the steps' rows hold
+pub record Along (c : Checks) (w : ℕ) (block states plan x : List ℕ) (steps : ℕ) : Type 0 where
   pub size : length x ≡ c .n * w
   pub bytes : (t : ℕ) → getD x t 0 < 256
-  pub heard-byte : (p b : ℕ) → p < c .n → b < w → heard marks p ≡ true → byteAt w x b p ≡ byteAt w block b p
+  pub known-byte : (p b : ℕ) → p < c .n → b < w → isKnown states p ≡ true → byteAt w x b p ≡ byteAt w block b p
   pub holds : StepsHold c w plan x steps
 
 -- ---- what a position hangs on
 
-module _ {c : Checks} {marks plan : List ℕ} {early steps pivots : ℕ} (P : Plan c marks plan early steps pivots) (closed : Closed c plan) (U : Unsolved plan pivots)
+module _ {c : Checks} {states plan : List ℕ} {early steps pivots : ℕ} (P : Plan c states plan early steps pivots) (closed : Closed c plan) (U : Unsolved plan pivots)
     (l : List ℕ) (words : ℕ) (X : StepsExpressed c plan l words early steps) where
-  known-none : (p i : ℕ) → p < c .n → heard marks p ≡ true → hangs l words early (kindOf plan p) i ≡ false
+  known-none : (p i : ℕ) → p < c .n → isKnown states p ≡ true → hangs l words early (kindOf plan p) i ≡ false
   known-none p i h e = hangs-none l words early (kindOf plan p) i (omega (arith, P .known p h e))
 
   pivot-own : (u i : ℕ) → u < pivots → hangs l words early (kindOf plan (pivotOf plan u)) i ≡ eqb i u
@@ -60,12 +60,12 @@ module _ {c : Checks} {marks plan : List ℕ} {early steps pivots : ℕ} (P : Pl
       (λ t k. X t u k hi) p h)
 
   -- a word along the plan is y plus the pivots that each position hangs on
-  pub along-expressed : {w : ℕ} {block y x : List ℕ} → Values c w block marks plan y steps pivots → Along c w block marks plan x steps → pivots ≤ 64 * words
+  pub along-expressed : {w : ℕ} {block y x : List ℕ} → Values c w block states plan y steps pivots → Along c w block states plan x steps → pivots ≤ 64 * words
       → (p b : ℕ) → p < c .n → b < w
       → byteAt w x b p ≡ byteAt w y b p ⊕ sum (hangs l words early (kindOf plan p)) (λ u. byteAt w x b (pivotOf plan u)) pivots
   along-expressed {w} {block} {y} {x} Y A room p b h hb =
       expressed (plan-triangular P closed) (byteAt w x b) (byteAt w y b) (λ q i. hangs l words early (kindOf plan q) i) v pivots
-      (λ q k e. A .heard-byte q b k hb e ∙ sym (Y .heard-byte q b k hb e) ∙ sym (unit (byteAt w y b q))
+      (λ q k e. A .known-byte q b k hb e ∙ sym (Y .known-byte q b k hb e) ∙ sym (unit (byteAt w y b q))
       ∙ ap (_⊕_ (byteAt w y b q)) (sym (sum-none (hangs l words early (kindOf plan q)) v pivots (λ i m. known-none q i k e))))
       (λ u k. sym (unit-l (v u))
       ∙ ap₂ _⊕_ (sym (Y .pivot-byte u b k hb))
@@ -78,18 +78,18 @@ module _ {c : Checks} {marks plan : List ℕ} {early steps pivots : ℕ} (P : Pl
 
 -- ---- the check rows
 
-pub agreeing-along : {c : Checks} {w : ℕ} {block marks plan x : List ℕ} {early steps pivots : ℕ} → Plan c marks plan early steps pivots → Agreeing c w block marks x
-    → Along c w block marks plan x steps
+pub agreeing-along : {c : Checks} {w : ℕ} {block states plan x : List ℕ} {early steps pivots : ℕ} → Plan c states plan early steps pivots → AgreesWith c w block states x
+    → Along c w block states plan x steps
 unfolding rowSum
 agreeing-along {plan = plan} P A = record {
   size = A .size;
   bytes = A .bytes;
-  heard-byte = λ p b h hb e. A .same p h e b hb;
+  known-byte = λ p b h hb e. A .same p h e b hb;
   holds = λ t b h hb. A .rows (rowOf plan t) (P .step t h .row) b hb;
 }
 
-module _ {c : Checks} {w : ℕ} {block marks plan y l lr d : List ℕ} {words early rest steps pivots : ℕ}
-    (P : Plan c marks plan early steps pivots) (closed : Closed c plan) (U : Unsolved plan pivots) (Y : Values c w block marks plan y steps pivots)
+module _ {c : Checks} {w : ℕ} {block states plan y l lr d : List ℕ} {words early rest steps pivots : ℕ}
+    (P : Plan c states plan early steps pivots) (closed : Closed c plan) (U : Unsolved plan pivots) (Y : Values c w block states plan y steps pivots)
     (X : StepsExpressed c plan l words early steps) (S : System c w plan y l words early rest lr d) (room : pivots ≤ 64 * words) where
   -- the check row that row i of lr is of
   row-of : (i : ℕ) → i < rest → Unused plan (c .m) i
@@ -108,7 +108,7 @@ module _ {c : Checks} {w : ℕ} {block marks plan y l lr d : List ℕ} {words ea
           (λ q k. ap (λ (b : Bool). pick b 1) (high-hangs P closed U l words X u lo hi q k))
           ∙ sum-zeros (c .has j) (c .n))
 
-  module _ {x : List ℕ} (A : Along c w block marks plan x steps) where
+  module _ {x : List ℕ} (A : Along c w block states plan x steps) where
     abbrev v : ℕ → ℕ → ℕ
     v u b = byteAt w x b (pivotOf plan u)
 
@@ -124,14 +124,14 @@ module _ {c : Checks} {w : ℕ} {block marks plan y l lr d : List ℕ} {words ea
         (exchange (c .has j) (λ p i. hangs l words early (kindOf plan p) i) (rowBit lr (free plan j * (words + 1))) (λ u. v u b) (c .n) pivots
         (λ i h. sym (S .bits j i hj un (omega arith))))
 
-    pub agrees-iff : Agreeing c w block marks x ↔ Solves lr d rest words w pivots (λ u b. byteAt w x b (pivotOf plan u))
+    pub agrees-iff : AgreesWith c w block states x ↔ Solves lr d rest words w pivots (λ u b. byteAt w x b (pivotOf plan u))
     unfolding rowSum
     agrees-iff = (
       λ G i b h hb. solves G i b hb (row-of i h),
-      λ s. record { size = A .size; bytes = A .bytes; rows = λ j hj b hb. row s j hj b hb (P .used j hj); same = λ p h e b hb. A .heard-byte p b h hb e },
+      λ s. record { size = A .size; bytes = A .bytes; rows = λ j hj b hb. row s j hj b hb (P .used j hj); same = λ p h e b hb. A .known-byte p b h hb e },
     )
       where
-        solves : Agreeing c w block marks x → (i b : ℕ) → b < w → Unused plan (c .m) i → leftSide lr words pivots v i b ≡ getD d (i * w + b) 0
+        solves : AgreesWith c w block states x → (i b : ℕ) → b < w → Unused plan (c .m) i → leftSide lr words pivots v i b ≡ getD d (i * w + b) 0
         solves G i b hb (j, (hj, (un, e))) =
             subst (λ (k : ℕ). leftSide lr words pivots v k b ≡ getD d (k * w + b) 0) e
             (sym (eq-of-add (getD d (free plan j * w + b) 0) (leftSide lr words pivots v (free plan j) b) (sym (unused-sum j b hj un hb) ∙ G .rows j hj b hb)))

@@ -12,7 +12,7 @@ use lib.Dec.{eqb}
 use borrow.Author.Tests.{eq-eqb, ne-eqb, eqb-true}
 use Rattle.algebra.specs.Sums.{_⊕_, pick, sum}
 use Rattle.algebra.specs.Codeword.{Checks}
-use Rattle.algebra.specs.Closing.{heard}
+use Rattle.peeling.specs.States.{isKnown}
 use Rattle.algebra.proofs.Sums.{unit, self, eq-of-add, add4, sum-terms, sum-zeros, sum-only, sum-none, odd, pick-xor}
 use Rattle.peeling.specs.Plan.{Plan, Closed, Sort, Before, kindOf, rowOf, positionOf, pivotOf}
 
@@ -133,14 +133,14 @@ module _ {c : Checks} {known : ℕ → Bool} {steps : ℕ} {row pos : ℕ → �
 
 -- ---- plans
 
-module _ {c : Checks} {marks plan : List ℕ} {early steps pivots : ℕ} (P : Plan c marks plan early steps pivots) (closed : Closed c plan) where
+module _ {c : Checks} {states plan : List ℕ} {early steps pivots : ℕ} (P : Plan c states plan early steps pivots) (closed : Closed c plan) where
   -- what a position is, by the sort of a missing one
-  its-sort : (p : ℕ) → p < c .n → (s : ℕ) → ((t : ℕ) → t < steps → positionOf plan t ≡ p → t < s) → (b : Bool) → heard marks p ≡ b
-      → Sorted (heard marks) (positionOf plan) pivots (pivotOf plan) s p
+  its-sort : (p : ℕ) → p < c .n → (s : ℕ) → ((t : ℕ) → t < steps → positionOf plan t ≡ p → t < s) → (b : Bool) → isKnown states p ≡ b
+      → Sorted (isKnown states) (positionOf plan) pivots (pivotOf plan) s p
   its-sort p h s below true e = inl e
   its-sort p h s below false e = go (P .sort p h e)
     where
-      go : Sort plan steps pivots p → Sorted (heard marks) (positionOf plan) pivots (pivotOf plan) s p
+      go : Sort plan steps pivots p → Sorted (isKnown states) (positionOf plan) pivots (pivotOf plan) s p
       go (inl k) = absurd (closed p h k)
       go (inr (inl (t, (l, k)))) = inr (inl (t, (below t l k, k)))
       go (inr (inr k)) = inr (inr k)
@@ -156,10 +156,10 @@ module _ {c : Checks} {marks plan : List ℕ} {early steps pivots : ℕ} (P : Pl
       go (inl k) = omega (arith, kind)
       go (inr k) = absurd (omega (arith, kind, P .steps-free, P .rows, k .1 .0))
 
-  pub plan-triangular : Triangular c (heard marks) steps (rowOf plan) (positionOf plan) pivots (pivotOf plan)
+  pub plan-triangular : Triangular c (isKnown states) steps (rowOf plan) (positionOf plan) pivots (pivotOf plan)
   plan-triangular = record {
-    sort = λ p h. its-sort p h steps (λ t l e. l) (heard marks p) refl;
+    sort = λ p h. its-sort p h steps (λ t l e. l) (isKnown states p) refl;
     here = λ t l. (P .step t l .position, P .step t l .has);
-    others = λ t p l h i ne. its-sort p h t (earlier t p (P .step t l .others p h i ne)) (heard marks p) refl;
+    others = λ t p l h i ne. its-sort p h t (earlier t p (P .step t l .others p h i ne)) (isKnown states p) refl;
     inside = λ u l. P .pivot u l .position;
   }

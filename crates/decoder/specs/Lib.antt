@@ -1,4 +1,4 @@
 pub mod Equations
 pub mod Pivots
-pub mod Marks
+pub mod MissingPositions
 pub mod Outcome

@@ -43,13 +43,13 @@ pub fn put(
     early: usize,
     pivots: usize,
     packed: usize,
-    marks: &[u8],
+    states: &[u8],
     words: &[u64],
     bytes: &[u8],
     plan: &mut [u16],
     symbols: &mut [u8],
 )
-    requires { ⌜ Plan (checksOf (codeOf number)) (now marks) (now plan) early steps pivots × Unsolved (now plan) pivots ⌝ }
+    requires { ⌜ Plan (checksOf (codeOf number)) (now states) (now plan) early steps pivots × Unsolved (now plan) pivots ⌝ }
     requires { ⌜ (packed ≤ 48) × ((steps + rest ≤ 1024) × ((steps + rest) * (packed + 1) ≤ length (now words))) ⌝ }
     requires { ⌜ (length (now symbols) ≡ (checksOf (codeOf number)) .n * w) × (rest * w ≤ length (now bytes)) ⌝ }
     requires { ⌜ ((i : ℕ) → i < rest → pivotWord (now words) packed (steps + i) ≤ pivots) ⌝ }

@@ -1,8 +1,8 @@
-// From a block's heard symbols to the missing symbols that they determine. Peeling settles what it can and puts off the rest as pivots; the check rows
+// From a block's known symbols to the missing symbols that they determine. Peeling settles what it can and puts off the rest as pivots; the check rows
 // that no step used give equations for the pivots; what then hangs on no free pivot is filled.
 use pivot_equations::again;
 use pivot_equations::express;
-use crate::marks;
+use crate::missing;
 use peeling::peel;
 use crate::pivots;
 use pivot_equations::remaining;
@@ -37,13 +37,13 @@ fn express_all(
     ends: &[u16; 512],
     classes: &[usize; 8],
     xs: &mut [usize; 64],
-    marks: &[u8],
+    states: &[u8],
     plan: &[u16],
     words: &mut [u64],
 )
     requires { ⌜ Table number l (now firsts) (now ends) (now classes) ⌝ }
     requires { ⌜ length (now xs) ≡ 64 ⌝ }
-    requires { ⌜ Plan (checksOf (codeOf number)) (now marks) (now plan) early steps pivots × (Closed (checksOf (codeOf number)) (now plan) × Unsolved (now plan) pivots) ⌝ }
+    requires { ⌜ Plan (checksOf (codeOf number)) (now states) (now plan) early steps pivots × (Closed (checksOf (codeOf number)) (now plan) × Unsolved (now plan) pivots) ⌝ }
     requires { ⌜ Room (checksOf (codeOf number)) packed pivots (length (now words)) ⌝ }
     ensures { λ _. ⌜ length (now (xs .exit)) ≡ 64 ⌝ }
     ensures { λ _. ⌜ StepsExpressed (checksOf (codeOf number)) (now (plan .entry)) (now (words .exit)) packed early steps ⌝ }
@@ -60,7 +60,7 @@ fn express_all(
         ends,
         classes,
         xs,
-        marks,
+        states,
         plan,
         words,
     );
@@ -75,7 +75,7 @@ fn express_all(
         ends,
         classes,
         xs,
-        marks,
+        states,
         plan,
         words,
     );
@@ -127,7 +127,7 @@ fn reduce(
     ends: &[u16; 512],
     classes: &[usize; 8],
     xs: &mut [usize; 64],
-    marks: &[u8],
+    states: &[u8],
     plan: &[u16],
     symbols: &[u8],
     words: &mut [u64],
@@ -135,7 +135,7 @@ fn reduce(
 ) -> usize
     requires { ⌜ Table number l (now firsts) (now ends) (now classes) ⌝ }
     requires { ⌜ length (now xs) ≡ 64 ⌝ }
-    requires { ⌜ Plan (checksOf (codeOf number)) (now marks) (now plan) early steps pivots × (Closed (checksOf (codeOf number)) (now plan) × Unsolved (now plan) pivots) ⌝ }
+    requires { ⌜ Plan (checksOf (codeOf number)) (now states) (now plan) early steps pivots × (Closed (checksOf (codeOf number)) (now plan) × Unsolved (now plan) pivots) ⌝ }
     requires { ⌜ Room (checksOf (codeOf number)) packed pivots (length (now words)) ⌝ }
     requires { ⌜ (length (now symbols) ≡ checksOf (codeOf number) .n * w) × (length (now bytes) ≡ checksOf (codeOf number) .m * w) ⌝ }
     ensures { λ _. ⌜ length (now (xs .exit)) ≡ 64 ⌝ }
@@ -164,7 +164,7 @@ fn reduce(
         ends,
         classes,
         xs,
-        marks,
+        states,
         plan,
         words,
     );
@@ -187,7 +187,7 @@ fn put_in(
     ends: &[u16; 512],
     classes: &[usize; 8],
     xs: &mut [usize; 64],
-    marks: &[u8],
+    states: &[u8],
     words: &[u64],
     bytes: &[u8],
     plan: &mut [u16],
@@ -195,8 +195,8 @@ fn put_in(
 )
     requires { ⌜ Table number l (now firsts) (now ends) (now classes) ⌝ }
     requires { ⌜ length (now xs) ≡ 64 ⌝ }
-    requires { ⌜ Plan (checksOf (codeOf number)) (now marks) (now plan) early steps pivots × (Closed (checksOf (codeOf number)) (now plan) × Unsolved (now plan) pivots) ⌝ }
-    requires { ⌜ Values (checksOf (codeOf number)) w (now symbols) (now marks) (now plan) (now symbols) steps pivots ⌝ }
+    requires { ⌜ Plan (checksOf (codeOf number)) (now states) (now plan) early steps pivots × (Closed (checksOf (codeOf number)) (now plan) × Unsolved (now plan) pivots) ⌝ }
+    requires { ⌜ Values (checksOf (codeOf number)) w (now symbols) (now states) (now plan) (now symbols) steps pivots ⌝ }
     requires { ⌜ Equations (checksOf (codeOf number)) w (now plan) (now symbols) packed early steps rest (now words) (now bytes) ⌝ }
     requires { ⌜ Room (checksOf (codeOf number)) packed pivots (length (now words)) ⌝ }
     requires { ⌜ (length (now bytes) ≡ checksOf (codeOf number) .m * w) × (0 < w) ⌝ }
@@ -211,7 +211,7 @@ fn put_in(
         early,
         pivots,
         packed,
-        marks,
+        states,
         words,
         bytes,
         plan,
@@ -228,7 +228,7 @@ fn put_in(
         ends,
         classes,
         xs,
-        marks,
+        states,
         plan,
         symbols,
     );
@@ -250,19 +250,19 @@ fn fill(
     xs: &mut [usize; 64],
     plan: &mut [u16],
     symbols: &mut [u8],
-    marks: &mut [u8],
+    states: &mut [u8],
     words: &mut [u64],
     bytes: &[u8],
 )
     requires { ⌜ Table number l (now firsts) (now ends) (now classes) ⌝ }
     requires { ⌜ length (now xs) ≡ 64 ⌝ }
-    requires { ⌜ Plan (checksOf (codeOf number)) (now marks) (now plan) early steps pivots × (Closed (checksOf (codeOf number)) (now plan) × Unsolved (now plan) pivots) ⌝ }
-    requires { ⌜ Values (checksOf (codeOf number)) w (now symbols) (now marks) (now plan) (now symbols) steps pivots ⌝ }
+    requires { ⌜ Plan (checksOf (codeOf number)) (now states) (now plan) early steps pivots × (Closed (checksOf (codeOf number)) (now plan) × Unsolved (now plan) pivots) ⌝ }
+    requires { ⌜ Values (checksOf (codeOf number)) w (now symbols) (now states) (now plan) (now symbols) steps pivots ⌝ }
     requires { ⌜ Equations (checksOf (codeOf number)) w (now plan) (now symbols) packed early steps rest (now words) (now bytes) ⌝ }
     requires { ⌜ Consistent (behind packed steps (now words)) (now bytes) rest packed w ⌝ }
     requires { ⌜ Room (checksOf (codeOf number)) packed pivots (length (now words)) ⌝ }
-    requires { ⌜ (length (now bytes) ≡ checksOf (codeOf number) .m * w) × ((0 < w) × (length (now marks) ≡ checksOf (codeOf number) .n)) ⌝ }
-    ensures { λ _. ⌜ Outcome (checksOf (codeOf number)) w (now (symbols .entry)) (now (marks .entry)) (now (symbols .exit)) (now (marks .exit)) true ⌝ }
+    requires { ⌜ (length (now bytes) ≡ checksOf (codeOf number) .m * w) × ((0 < w) × (length (now states) ≡ checksOf (codeOf number) .n)) ⌝ }
+    ensures { λ _. ⌜ Outcome (checksOf (codeOf number)) w (now (symbols .entry)) (now (states .entry)) (now (symbols .exit)) (now (states .exit)) true ⌝ }
 {
     put_in(
         number,
@@ -277,14 +277,14 @@ fn fill(
         ends,
         classes,
         xs,
-        marks,
+        states,
         words,
         bytes,
         plan,
         symbols,
     );
     if pivots::all_solved(pivots, plan) {
-        marks::fill_missing(marks);
+        missing::fill_missing(states);
         return;
     }
     express::steps(
@@ -298,11 +298,11 @@ fn fill(
         ends,
         classes,
         xs,
-        marks,
+        states,
         plan,
         words,
     );
-    marks::fill_determined(w, early, packed, l.m, plan, words, symbols, marks);
+    missing::fill_determined(w, early, packed, l.m, plan, words, symbols, states);
 }
 
 // The block by the equations of its pivots; false where they have no solution.
@@ -319,17 +319,17 @@ fn by_pivots(
     xs: &mut [usize; 64],
     plan: &mut [u16],
     symbols: &mut [u8],
-    marks: &mut [u8],
+    states: &mut [u8],
     words: &mut [u64],
     bytes: &mut [u8],
 ) -> bool
     requires { ⌜ Table number l (now firsts) (now ends) (now classes) ⌝ }
     requires { ⌜ length (now xs) ≡ 64 ⌝ }
-    requires { ⌜ Plan (checksOf (codeOf number)) (now marks) (now plan) early steps pivots × (Closed (checksOf (codeOf number)) (now plan) × Unsolved (now plan) pivots) ⌝ }
-    requires { ⌜ Values (checksOf (codeOf number)) w (now symbols) (now marks) (now plan) (now symbols) steps pivots ⌝ }
+    requires { ⌜ Plan (checksOf (codeOf number)) (now states) (now plan) early steps pivots × (Closed (checksOf (codeOf number)) (now plan) × Unsolved (now plan) pivots) ⌝ }
+    requires { ⌜ Values (checksOf (codeOf number)) w (now symbols) (now states) (now plan) (now symbols) steps pivots ⌝ }
     requires { ⌜ (length (now words) ≡ checksOf (codeOf number) .m * (checksOf (codeOf number) .n / 64 + 1)) × (length (now bytes) ≡ checksOf (codeOf number) .m * w) ⌝ }
-    requires { ⌜ (0 < w) × (length (now marks) ≡ checksOf (codeOf number) .n) ⌝ }
-    ensures { λ ok. ⌜ Outcome (checksOf (codeOf number)) w (now (symbols .entry)) (now (marks .entry)) (now (symbols .exit)) (now (marks .exit)) ok ⌝ }
+    requires { ⌜ (0 < w) × (length (now states) ≡ checksOf (codeOf number) .n) ⌝ }
+    ensures { λ ok. ⌜ Outcome (checksOf (codeOf number)) w (now (symbols .entry)) (now (states .entry)) (now (symbols .exit)) (now (states .exit)) ok ⌝ }
 {
     let packed = (pivots + 63) / 64;
     let rest = reduce(
@@ -344,7 +344,7 @@ fn by_pivots(
         ends,
         classes,
         xs,
-        marks,
+        states,
         plan,
         symbols,
         words,
@@ -367,13 +367,13 @@ fn by_pivots(
             xs,
             plan,
             symbols,
-            marks,
+            states,
             words,
             bytes,
         );
         return true;
     }
-    marks::clear_missing(w, symbols, marks);
+    missing::clear_missing(w, symbols, states);
     false
 }
 
@@ -391,20 +391,20 @@ fn by_steps(
     xs: &mut [usize; 64],
     plan: &[u16],
     symbols: &mut [u8],
-    marks: &mut [u8],
+    states: &mut [u8],
 ) -> bool
     requires { ⌜ Table number l (now firsts) (now ends) (now classes) ⌝ }
     requires { ⌜ length (now xs) ≡ 64 ⌝ }
-    requires { ⌜ Plan (checksOf (codeOf number)) (now marks) (now plan) early steps pivots × (Closed (checksOf (codeOf number)) (now plan) × (pivots ≡ 0)) ⌝ }
-    requires { ⌜ Values (checksOf (codeOf number)) w (now symbols) (now marks) (now plan) (now symbols) steps pivots ⌝ }
-    requires { ⌜ length (now marks) ≡ checksOf (codeOf number) .n ⌝ }
-    ensures { λ ok. ⌜ Outcome (checksOf (codeOf number)) w (now (symbols .entry)) (now (marks .entry)) (now (symbols .exit)) (now (marks .exit)) ok ⌝ }
+    requires { ⌜ Plan (checksOf (codeOf number)) (now states) (now plan) early steps pivots × (Closed (checksOf (codeOf number)) (now plan) × (pivots ≡ 0)) ⌝ }
+    requires { ⌜ Values (checksOf (codeOf number)) w (now symbols) (now states) (now plan) (now symbols) steps pivots ⌝ }
+    requires { ⌜ length (now states) ≡ checksOf (codeOf number) .n ⌝ }
+    ensures { λ ok. ⌜ Outcome (checksOf (codeOf number)) w (now (symbols .entry)) (now (states .entry)) (now (symbols .exit)) (now (states .exit)) ok ⌝ }
 {
     if remaining::hold(number, l, w, firsts, ends, classes, xs, plan, symbols) {
-        marks::fill_missing(marks);
+        missing::fill_missing(states);
         return true;
     }
-    marks::clear_missing(w, symbols, marks);
+    missing::clear_missing(w, symbols, states);
     false
 }
 
@@ -415,20 +415,20 @@ fn blank() -> [u16; 9216]
     [0u16; 9216]
 }
 
-// Fills the symbols of a block that its heard symbols determine, with mark 2, and clears the others that are missing; false where no codeword agrees
-// with the heard symbols.
+// Fills the symbols of a block that its known symbols determine, with state 2, and clears the others that are missing; false where no codeword agrees
+// with the known symbols.
 pub fn solve(
     number: usize,
     w: usize,
     symbols: &mut [u8],
-    marks: &mut [u8],
+    states: &mut [u8],
     words: &mut [u64],
     bytes: &mut [u8],
 ) -> bool
     requires { ⌜ Known number × (0 < w) ⌝ }
-    requires { ⌜ (length (now symbols) ≡ nOf (codeOf number) * w) × (length (now marks) ≡ nOf (codeOf number)) ⌝ }
+    requires { ⌜ (length (now symbols) ≡ nOf (codeOf number) * w) × (length (now states) ≡ nOf (codeOf number)) ⌝ }
     requires { ⌜ (length (now words) ≡ codeOf number .m * (nOf (codeOf number) / 64 + 1)) × (length (now bytes) ≡ codeOf number .m * w) ⌝ }
-    ensures { λ ok. ⌜ Decoded (checksOf (codeOf number)) w (now (symbols .entry)) (now (marks .entry)) (now (symbols .exit)) (now (marks .exit)) ok ⌝ }
+    ensures { λ ok. ⌜ Decoded (checksOf (codeOf number)) w (now (symbols .entry)) (now (states .entry)) (now (symbols .exit)) (now (states .exit)) ok ⌝ }
 {
     let l = tables::layout_of(number);
     let mut firsts = [0u16; 512];
@@ -445,7 +445,7 @@ pub fn solve(
         &ends,
         &classes,
         &mut xs,
-        marks,
+        states,
         &mut plan,
         symbols,
     );
@@ -463,7 +463,7 @@ pub fn solve(
             &mut xs,
             &plan,
             symbols,
-            marks,
+            states,
         );
     }
     by_pivots(
@@ -479,7 +479,7 @@ pub fn solve(
         &mut xs,
         &mut plan,
         symbols,
-        marks,
+        states,
         words,
         bytes,
     )

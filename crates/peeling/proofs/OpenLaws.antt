@@ -11,43 +11,43 @@ use lib.Dec.{eqb}
 use lib.ListN.{length, getD, set, replicate, length-set, length-replicate}
 use lib.Seq.{getD-set-same, getD-set-other}
 use borrow.Author.Tests.{eqb-true, eqb-false}
-use Rattle.algebra.specs.Closing.{heard}
+use Rattle.peeling.specs.States.{isKnown}
 use Rattle.buffers.proofs.Zeros.{zeros}
 use Rattle.peeling.specs.Plan.{kindOf}
 use Rattle.peeling.specs.Peel.{Opened, SingleIs}
 
 -- ---- the first x positions are opened where they are missing
 
-pub record Opening (marks plan : List ℕ) (x : ℕ) : Type 0 where
+pub record Opening (states plan : List ℕ) (x : ℕ) : Type 0 where
   pub size : length plan ≡ 9216
-  pub each : (p : ℕ) → p < x → kindOf plan p ≡ cond (heard marks p) 0 65535
+  pub each : (p : ℕ) → p < x → kindOf plan p ≡ cond (isKnown states p) 0 65535
   pub unused : (k : ℕ) → 8192 ≤ k → getD plan k 0 ≡ 0
 
-pub opening-none : (marks plan : List ℕ) (n : ℕ) → n ≡ 9216 → plan ≡ replicate n 0 → Opening marks plan 0
-opening-none marks plan n h e =
+pub opening-none : (states plan : List ℕ) (n : ℕ) → n ≡ 9216 → plan ≡ replicate n 0 → Opening states plan 0
+opening-none states plan n h e =
     record {
       size = ap length e ∙ length-replicate {A = ℕ} n 0 ∙ h;
       each = λ p l. absurd (omega arith);
       unused = λ k l. ap (λ (s : List ℕ). getD s k 0) e ∙ zeros n k;
     }
 
-pub opening-more : {marks plan : List ℕ} {x : ℕ} (v : ℕ) → Opening marks plan x → x < 3072 → v ≡ cond (eqb (getD marks x 0) 1) 0 65535 → Opening marks (set plan x v) (x + 1)
-unfolding heard
-opening-more {marks} {plan} {x} v O h e =
+pub opening-more : {states plan : List ℕ} {x : ℕ} (v : ℕ) → Opening states plan x → x < 3072 → v ≡ cond (eqb (getD states x 0) 1) 0 65535 → Opening states (set plan x v) (x + 1)
+unfolding isKnown
+opening-more {states} {plan} {x} v O h e =
     record {
       size = length-set plan x v ∙ O .size;
       each = λ p l. go p l (ℕ-discrete p x);
       unused = λ k l. getD-set-other plan x k v 0 (λ f. omega arith) ∙ O .unused k l;
     }
   where
-    go : (p : ℕ) → p < x + 1 → Dec (p ≡ x) → getD (set plan x v) p 0 ≡ cond (heard marks p) 0 65535
+    go : (p : ℕ) → p < x + 1 → Dec (p ≡ x) → getD (set plan x v) p 0 ≡ cond (isKnown states p) 0 65535
     go p l (yes d) =
         ap (λ (k : ℕ). getD (set plan x v) k 0) d ∙ getD-set-same plan x v 0 (omega (arith, O .size)) ∙ e
-        ∙ ap (λ (k : ℕ). cond (eqb (getD marks k 0) 1) 0 65535) (sym d)
+        ∙ ap (λ (k : ℕ). cond (eqb (getD states k 0) 1) 0 65535) (sym d)
     go p l (no d) = getD-set-other plan x p v 0 d ∙ O .each p (omega arith)
 
-pub opening-all : {marks plan : List ℕ} {x : ℕ} (n : ℕ) → Opening marks plan x → n ≤ x → Opened n marks plan
-opening-all {marks} {plan} {x} n O h =
+pub opening-all : {states plan : List ℕ} {x : ℕ} (n : ℕ) → Opening states plan x → n ≤ x → Opened n states plan
+opening-all {states} {plan} {x} n O h =
     record {
       size = O .size;
       known = λ p l e. O .each p (omega arith) ∙ ap (λ (b : Bool). cond b 0 65535) e;

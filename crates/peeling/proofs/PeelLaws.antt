@@ -12,7 +12,7 @@ use lib.ListN.{length, getD, set}
 use borrow.Author.Tests.{eq-eqb, ne-eqb}
 use Rattle.algebra.specs.Sums.{_⊕_}
 use Rattle.algebra.specs.Codeword.{Checks, byteAt}
-use Rattle.algebra.specs.Closing.{heard}
+use Rattle.peeling.specs.States.{isKnown}
 use Rattle.algebra.proofs.Sums.{self, sum-cong, sum-ext}
 use Rattle.algebra.proofs.Codeword.{slot}
 use Rattle.buffers.specs.Gather.{gathered, Inside, Replaced}
@@ -29,9 +29,9 @@ use Rattle.peeling.proofs.SymbolLaws.{replaced-other}
 
 -- ---- two parts of a peeling
 
-module _ {c : Checks} {w : ℕ} {b₁ marks plan symbols : List ℕ} {g : Progress} (S : State c w b₁ marks plan symbols g) where
+module _ {c : Checks} {w : ℕ} {b₁ states plan symbols : List ℕ} {g : Progress} (S : State c w b₁ states plan symbols g) where
   -- from the symbols as they are
-  pub state-here : State c w symbols marks plan symbols g
+  pub state-here : State c w symbols states plan symbols g
   state-here =
       record {
         made = S .made;
@@ -39,7 +39,7 @@ module _ {c : Checks} {w : ℕ} {b₁ marks plan symbols : List ℕ} {g : Progre
         values =
             record {
               size = S .values .size;
-              heard-byte = λ p b hp hb h. refl;
+              known-byte = λ p b hp hb h. refl;
               pivot-byte = S .values .pivot-byte;
               holds = S .values .holds;
             };
@@ -50,7 +50,7 @@ module _ {c : Checks} {w : ℕ} {b₁ marks plan symbols : List ℕ} {g : Progre
       }
 
   -- one after the other
-  pub state-then : {plan′ symbols′ : List ℕ} {h : Progress} → State c w symbols marks plan′ symbols′ h → State c w b₁ marks plan′ symbols′ h
+  pub state-then : {plan′ symbols′ : List ℕ} {h : Progress} → State c w symbols states plan′ symbols′ h → State c w b₁ states plan′ symbols′ h
   state-then T =
       record {
         made = T .made;
@@ -58,7 +58,7 @@ module _ {c : Checks} {w : ℕ} {b₁ marks plan symbols : List ℕ} {g : Progre
         values =
             record {
               size = T .values .size;
-              heard-byte = λ p b hp hb h. T .values .heard-byte p b hp hb h ∙ S .values .heard-byte p b hp hb h;
+              known-byte = λ p b hp hb h. T .values .known-byte p b hp hb h ∙ S .values .known-byte p b hp hb h;
               pivot-byte = T .values .pivot-byte;
               holds = T .values .holds;
             };
@@ -82,20 +82,20 @@ pub record Keeps (c : Checks) (w steps pivots x : ℕ) (plan symbols plan′ sym
   pub bytes : (p b : ℕ) → p ≢ x → b < w → byteAt w symbols′ b p ≡ byteAt w symbols b p
 
 -- a step, by its row and its position
-step-at : {c : Checks} {marks plan : List ℕ} {early t : ℕ} (r p : ℕ) → rowOf plan t ≡ r → positionOf plan t ≡ p → r < c .m → p < c .n
-    → heard marks p ≡ false → kindOf plan p ≡ t + 1 → c .has r p ≡ true → ((x : ℕ) → x < c .n → c .has r x ≡ true → x ≢ p → Before plan early t x)
-    → Step c marks plan early t
-step-at {c} {marks} {plan} {early} {t} r p er ep hr hp hm hk hh ho =
+step-at : {c : Checks} {states plan : List ℕ} {early t : ℕ} (r p : ℕ) → rowOf plan t ≡ r → positionOf plan t ≡ p → r < c .m → p < c .n
+    → isKnown states p ≡ false → kindOf plan p ≡ t + 1 → c .has r p ≡ true → ((x : ℕ) → x < c .n → c .has r x ≡ true → x ≢ p → Before plan early t x)
+    → Step c states plan early t
+step-at {c} {states} {plan} {early} {t} r p er ep hr hp hm hk hh ho =
     record {
       row = subst⁻¹ (λ (r′ : ℕ). r′ < c .m) er hr;
       position = subst⁻¹ (λ (p′ : ℕ). p′ < c .n) ep hp;
-      missing = subst⁻¹ (λ (p′ : ℕ). heard marks p′ ≡ false) ep hm;
+      missing = subst⁻¹ (λ (p′ : ℕ). isKnown states p′ ≡ false) ep hm;
       kind = subst⁻¹ (λ (p′ : ℕ). kindOf plan p′ ≡ t + 1) ep hk;
       has = subst⁻¹ (λ (r′ : ℕ). c .has r′ (positionOf plan t) ≡ true) er (subst⁻¹ (λ (p′ : ℕ). c .has r p′ ≡ true) ep hh);
       others = λ x hx h d. ho x hx (subst (λ (r′ : ℕ). c .has r′ x ≡ true) er h) (λ e. d (e ∙ sym ep));
     }
 
-module _ {c : Checks} {w : ℕ} {block marks plan symbols plan′ symbols′ : List ℕ} {g : Progress} {x : ℕ} (S : State c w block marks plan symbols g)
+module _ {c : Checks} {w : ℕ} {block states plan symbols plan′ symbols′ : List ℕ} {g : Progress} {x : ℕ} (S : State c w block states plan symbols g)
     (K : Keeps c w (g .steps) (g .pivots) x plan symbols plan′ symbols′) where
   closed-apart : (p : ℕ) → kindOf plan p ≢ 65535 → p ≢ x
   closed-apart p h e = h (ap (λ (k : ℕ). kindOf plan k) e ∙ K .was)
@@ -114,7 +114,7 @@ module _ {c : Checks} {w : ℕ} {block marks plan symbols plan′ symbols′ : L
       go (inl l) f = inl (omega arith)
       go (inr l) f = inr (e (l .0), (omega (arith, l .1 .0), omega (arith, l .1 .1)))
 
-  step-kept : (early′ t : ℕ) → t < g .steps → (g .early ≤ t → early′ ≤ t) → Step c marks plan′ early′ t
+  step-kept : (early′ t : ℕ) → t < g .steps → (g .early ≤ t → early′ ≤ t) → Step c states plan′ early′ t
   step-kept early′ t h e =
       let s = S .made .step t h in
       let d : kindOf plan (positionOf plan t) ≢ 65535 = λ f. omega (arith, s .kind, few-steps (S .made)) in
@@ -127,29 +127,29 @@ module _ {c : Checks} {w : ℕ} {block marks plan symbols plan′ symbols′ : L
   pivot-kind : (u : ℕ) → u < g .pivots → kindOf plan′ (pivotOf plan′ u) ≡ kindOf plan (pivotOf plan u)
   pivot-kind u h = ap (λ (k : ℕ). kindOf plan′ k) (K .pivot-same u h) ∙ closed-kept (pivotOf plan u) (S .made .pivot u h .position) (pivot-apart u h)
 
-  pivot-kept : (u : ℕ) → u < g .pivots → PutOff c marks plan′ u
+  pivot-kept : (u : ℕ) → u < g .pivots → PutOff c states plan′ u
   pivot-kept u h =
       let o = S .made .pivot u h in
       record {
         position = subst⁻¹ (λ (p : ℕ). p < c .n) (K .pivot-same u h) (o .position);
-        missing = subst⁻¹ (λ (p : ℕ). heard marks p ≡ false) (K .pivot-same u h) (o .missing);
+        missing = subst⁻¹ (λ (p : ℕ). isKnown states p ≡ false) (K .pivot-same u h) (o .missing);
         kind = subst⁻¹ (λ (k : ℕ). (1024 < k) × (k < 65535)) (pivot-kind u h) (o .kind);
       }
 
-  known-apart : (p : ℕ) → p < c .n → heard marks p ≡ true → kindOf plan p ≢ 65535
+  known-apart : (p : ℕ) → p < c .n → isKnown states p ≡ true → kindOf plan p ≢ 65535
   known-apart p hp h e = omega (arith, S .made .known p hp h)
 
-  known-kept : (p : ℕ) → p < c .n → heard marks p ≡ true → kindOf plan′ p ≡ 0
+  known-kept : (p : ℕ) → p < c .n → isKnown states p ≡ true → kindOf plan′ p ≡ 0
   known-kept p hp h = closed-kept p hp (known-apart p hp h) ∙ S .made .known p hp h
 
-  missing-here : x < c .n → heard marks x ≡ false
-  missing-here hx = go (heard marks x) refl
+  missing-here : x < c .n → isKnown states x ≡ false
+  missing-here hx = go (isKnown states x) refl
     where
-      go : (b : Bool) → heard marks x ≡ b → heard marks x ≡ false
+      go : (b : Bool) → isKnown states x ≡ b → isKnown states x ≡ false
       go true e = absurd (known-apart x hx e (K .was))
       go false e = e
 
-  sort-kept : (steps′ pivots′ p : ℕ) → g .steps ≤ steps′ → g .pivots ≤ pivots′ → p < c .n → p ≢ x → heard marks p ≡ false → Sort plan′ steps′ pivots′ p
+  sort-kept : (steps′ pivots′ p : ℕ) → g .steps ≤ steps′ → g .pivots ≤ pivots′ → p < c .n → p ≢ x → isKnown states p ≡ false → Sort plan′ steps′ pivots′ p
   sort-kept steps′ pivots′ p hs hv hp d m = go (S .made .sort p hp m)
     where
       go : Sort plan (g .steps) (g .pivots) p → Sort plan′ steps′ pivots′ p
@@ -163,8 +163,8 @@ module _ {c : Checks} {w : ℕ} {block marks plan symbols plan′ symbols′ : L
   cursor-kept : (p : ℕ) → p < g .cursor → kindOf plan′ p ≢ 65535
   cursor-kept p h e = S .closed p h (sym (closed-kept p (omega (arith, S .cursor-below)) (S .closed p h)) ∙ e)
 
-  heard-kept : (p b : ℕ) → p < c .n → b < w → heard marks p ≡ true → byteAt w symbols′ b p ≡ byteAt w block b p
-  heard-kept p b hp hb h = K .bytes p b (closed-apart p (known-apart p hp h)) hb ∙ S .values .heard-byte p b hp hb h
+  byte-kept : (p b : ℕ) → p < c .n → b < w → isKnown states p ≡ true → byteAt w symbols′ b p ≡ byteAt w block b p
+  byte-kept p b hp hb h = K .bytes p b (closed-apart p (known-apart p hp h)) hb ∙ S .values .known-byte p b hp hb h
 
   pivot-byte-kept : (u b : ℕ) → u < g .pivots → b < w → byteAt w symbols′ b (pivotOf plan′ u) ≡ 0
   pivot-byte-kept u b h hb =
@@ -188,7 +188,7 @@ module _ {c : Checks} {w : ℕ} {block marks plan symbols plan′ symbols′ : L
 -- ---- a step: check row r settles the only open one of its positions
 
 -- how many steps were made before the first pivot
-module _ {c : Checks} {w : ℕ} {block marks plan symbols : List ℕ} {g : Progress} (S : State c w block marks plan symbols g) (early′ : ℕ)
+module _ {c : Checks} {w : ℕ} {block states plan symbols : List ℕ} {g : Progress} (S : State c w block states plan symbols g) (early′ : ℕ)
     (e : early′ ≡ cond (eqb (g .pivots) 0) (g .steps + 1) (g .early)) where
   early-none : g .pivots ≡ 0 → early′ ≡ g .steps + 1
   early-none h = e ∙ ap (λ (b : Bool). cond b (g .steps + 1) (g .early)) (eq-eqb (g .pivots) 0 h)
@@ -210,7 +210,7 @@ module _ {c : Checks} {w : ℕ} {block marks plan symbols : List ℕ} {g : Progr
       go (yes d) = absurd (omega (arith, S .begun d))
       go (no d) = omega (arith, early-some d)
 
-module _ {c : Checks} {w : ℕ} {block marks plan symbols : List ℕ} {g : Progress} {r n i : ℕ} {xs : List ℕ} (S : State c w block marks plan symbols g)
+module _ {c : Checks} {w : ℕ} {block states plan symbols : List ℕ} {g : Progress} {r n i : ℕ} {xs : List ℕ} (S : State c w block states plan symbols g)
     (R : RowOf c r n xs) (hr : r < c .m) (hi : i < n) (one : SingleIs plan xs n i) (un : usedBy plan r ≡ 0) where
   settle-steps : g .steps < c .m
   settle-steps = omega (arith, S .made .steps-free, free-some plan r (c .m) hr un)
@@ -279,7 +279,7 @@ module _ {c : Checks} {w : ℕ} {block marks plan symbols : List ℕ} {g : Progr
     module _ (early′ : ℕ) (e : early′ ≡ cond (eqb (g .pivots) 0) (g .steps + 1) (g .early)) where
       -- what is closed is closed before this step
       settle-before : (x : ℕ) → x < c .n → x ≢ getD xs i 0 → kindOf plan x ≢ 65535 → Before plan′ early′ (g .steps) x
-      settle-before x hx d n = go (heard marks x) refl
+      settle-before x hx d n = go (isKnown states x) refl
         where
           same : kindOf plan′ x ≡ kindOf plan x
           same = settle-keeps .kinds x hx d
@@ -295,23 +295,23 @@ module _ {c : Checks} {w : ℕ} {block marks plan symbols : List ℕ} {g : Progr
               let f : early′ ≡ g .early = early-some S early′ e (λ z. omega (arith, u .1 .0)) in
               inr (omega (arith, S .made .early-steps), (omega (arith, same, o .0), omega (arith, same, o .1)))
 
-          go : (b : Bool) → heard marks x ≡ b → Before plan′ early′ (g .steps) x
+          go : (b : Bool) → isKnown states x ≡ b → Before plan′ early′ (g .steps) x
           go true f = inl (omega (arith, same, S .made .known x hx f))
           go false f = sorted (S .made .sort x hx f)
 
-      settle-step : (t : ℕ) → t < g .steps + 1 → Step c marks plan′ early′ t
+      settle-step : (t : ℕ) → t < g .steps + 1 → Step c states plan′ early′ t
       settle-step t h = go (decLt t (g .steps))
         where
-          go : Dec (t < g .steps) → Step c marks plan′ early′ t
+          go : Dec (t < g .steps) → Step c states plan′ early′ t
           go (yes l) = step-kept S settle-keeps early′ t l (early-kept S early′ e t l)
           go (no l) =
               let hp = R .below i hi in
               let d : g .steps ≡ t = omega arith in
-              subst (λ (s : ℕ). Step c marks plan′ early′ s) d
+              subst (λ (s : ℕ). Step c states plan′ early′ s) d
               (step-at r (getD xs i 0) (T .row) (T .position) hr hp (missing-here S settle-keeps hp) (T .kind) (row-has R i hi settle-alone)
               (λ x hx k f. settle-before x hx f (row-others x hx k f)))
 
-      settle-sort : (p : ℕ) → p < c .n → heard marks p ≡ false → Sort plan′ (g .steps + 1) (g .pivots) p
+      settle-sort : (p : ℕ) → p < c .n → isKnown states p ≡ false → Sort plan′ (g .steps + 1) (g .pivots) p
       settle-sort p hp m = go (ℕ-discrete p (getD xs i 0))
         where
           go : Dec (p ≡ getD xs i 0) → Sort plan′ (g .steps + 1) (g .pivots) p
@@ -337,7 +337,7 @@ module _ {c : Checks} {w : ℕ} {block marks plan symbols : List ℕ} {g : Progr
               ap (λ (k : ℕ). rowSum c w symbols′ k b) (ap (λ (s : ℕ). rowOf plan′ s) d ∙ T .row) ∙ row-holds b hb
 
       state-settle : (fuel : ℕ)
-          → State c w block marks plan′ symbols′ (record { steps = g .steps + 1; pivots = g .pivots; early = early′; cursor = g .cursor; fuel = fuel })
+          → State c w block states plan′ symbols′ (record { steps = g .steps + 1; pivots = g .pivots; early = early′; cursor = g .cursor; fuel = fuel })
       state-settle fuel =
           record {
             made =
@@ -358,7 +358,7 @@ module _ {c : Checks} {w : ℕ} {block marks plan symbols : List ℕ} {g : Progr
             values =
                 record {
                   size = Q .size ∙ S .values .size;
-                  heard-byte = heard-kept S settle-keeps;
+                  known-byte = byte-kept S settle-keeps;
                   pivot-byte = pivot-byte-kept S settle-keeps;
                   holds = settle-holds;
                 };
@@ -373,7 +373,7 @@ module _ {c : Checks} {w : ℕ} {block marks plan symbols : List ℕ} {g : Progr
       → plan′ ≡ set (set (set (set plan (6144 + g .steps) r) (7168 + g .steps) (getD xs i 0)) (8192 + r) 1) (getD xs i 0) (g .steps + 1)
       → Replaced (λ b. gathered (byteAt w symbols b) (set xs i (getD xs (n - 1) 0)) (n - 1)) w (getD xs i 0) symbols symbols′
       → early′ ≡ cond (eqb (g .pivots) 0) (g .steps + 1) (g .early)
-      → State c w block marks plan′ symbols′ (record { steps = g .steps + 1; pivots = g .pivots; early = early′; cursor = g .cursor; fuel = fuel })
+      → State c w block states plan′ symbols′ (record { steps = g .steps + 1; pivots = g .pivots; early = early′; cursor = g .cursor; fuel = fuel })
   state-settled {plan′} early′ fuel e Q f =
       let h = settle-ready .0 in
       state-settle (settled plan (g .steps) r (getD xs i 0) (h .1 .1 .1) (h .0) (h .1 .0) (h .1 .1 .0) plan′ e) Q early′ f fuel
@@ -389,10 +389,10 @@ closed-more plan from x below here p f h e = go (decLt p x)
     go (yes l) = below p f l e
     go (no l) = let d : x ≡ p = omega arith in here (ap (λ (k : ℕ). kindOf plan k) d ∙ e)
 
-module _ {c : Checks} {w : ℕ} {block marks plan symbols : List ℕ} {g : Progress} (S : State c w block marks plan symbols g) where
+module _ {c : Checks} {w : ℕ} {block states plan symbols : List ℕ} {g : Progress} (S : State c w block states plan symbols g) where
   -- fuel says nothing
   pub state-late : (fuel : ℕ)
-      → State c w block marks plan symbols (record { steps = g .steps; pivots = g .pivots; early = g .early; cursor = g .cursor; fuel = fuel })
+      → State c w block states plan symbols (record { steps = g .steps; pivots = g .pivots; early = g .early; cursor = g .cursor; fuel = fuel })
   state-late fuel =
       record {
         made = S .made;
@@ -406,7 +406,7 @@ module _ {c : Checks} {w : ℕ} {block marks plan symbols : List ℕ} {g : Progr
 
   -- the cursor passes over closed positions
   pub state-pass : {n x : ℕ} → n ≡ c .n → NextOpen plan (g .cursor) n x
-      → State c w block marks plan symbols (record { steps = g .steps; pivots = g .pivots; early = g .early; cursor = x; fuel = g .fuel })
+      → State c w block states plan symbols (record { steps = g .steps; pivots = g .pivots; early = g .early; cursor = x; fuel = g .fuel })
   state-pass {n} {x} e N =
       record {
         made = S .made;
@@ -451,7 +451,7 @@ module _ {c : Checks} {w : ℕ} {block marks plan symbols : List ℕ} {g : Progr
       now-kind : kindOf plan′ (pivotOf plan′ (g .pivots)) ≡ 1025 + g .pivots
       now-kind = ap (λ (k : ℕ). kindOf plan′ k) (T .position) ∙ T .kind
 
-      defer-sort : (p : ℕ) → p < c .n → heard marks p ≡ false → Sort plan′ (g .steps) (g .pivots + 1) p
+      defer-sort : (p : ℕ) → p < c .n → isKnown states p ≡ false → Sort plan′ (g .steps) (g .pivots + 1) p
       defer-sort p hp m = go (ℕ-discrete p (g .cursor))
         where
           go : Dec (p ≡ g .cursor) → Sort plan′ (g .steps) (g .pivots + 1) p
@@ -474,15 +474,15 @@ module _ {c : Checks} {w : ℕ} {block marks plan symbols : List ℕ} {g : Progr
           go (inl e) = inl (used-kept j h ∙ e)
           go (inr t) = inr (t .0, (t .1 .0, defer-keeps .row-same (t .0) (t .1 .0) ∙ t .1 .1))
 
-      this-pivot : PutOff c marks plan′ (g .pivots)
+      this-pivot : PutOff c states plan′ (g .pivots)
       this-pivot =
           record {
             position = subst⁻¹ (λ (p : ℕ). p < c .n) (T .position) hx;
-            missing = subst⁻¹ (λ (p : ℕ). heard marks p ≡ false) (T .position) (missing-here S defer-keeps hx);
+            missing = subst⁻¹ (λ (p : ℕ). isKnown states p ≡ false) (T .position) (missing-here S defer-keeps hx);
             kind = (omega (arith, now-kind), omega (arith, now-kind, few-pivots));
           }
 
-      pub state-defer : State c w block marks plan′ symbols′
+      pub state-defer : State c w block states plan′ symbols′
           (record { steps = g .steps; pivots = g .pivots + 1; early = g .early; cursor = g .cursor + 1; fuel = g .fuel })
       state-defer =
           record {
@@ -497,14 +497,14 @@ module _ {c : Checks} {w : ℕ} {block marks plan symbols : List ℕ} {g : Progr
                   known = known-kept S defer-keeps;
                   sort = defer-sort;
                   step = λ t h. step-kept S defer-keeps (g .early) t h (λ l. l);
-                  pivot = each-pivot (λ u. PutOff c marks plan′ u) (pivot-kept S defer-keeps) this-pivot;
+                  pivot = each-pivot (λ u. PutOff c states plan′ u) (pivot-kept S defer-keeps) this-pivot;
                   used = defer-used;
                 };
             unsolved = each-pivot (λ u. kindOf plan′ (pivotOf plan′ u) ≡ 1025 + u) (unsolved-kept S defer-keeps) now-kind;
             values =
                 record {
                   size = Q .size ∙ S .values .size;
-                  heard-byte = heard-kept S defer-keeps;
+                  known-byte = byte-kept S defer-keeps;
                   pivot-byte = λ u b h hb.
                       each-pivot (λ u′. byteAt w symbols′ b (pivotOf plan′ u′) ≡ 0) (λ u′ l. pivot-byte-kept S defer-keeps u′ b l hb)
                       (ap (byteAt w symbols′ b) (T .position) ∙ Q .each b hb) u h;
@@ -518,9 +518,9 @@ module _ {c : Checks} {w : ℕ} {block marks plan symbols : List ℕ} {g : Progr
 
 -- ---- the beginning
 
-pub state-start : (c : Checks) (w n : ℕ) (marks plan symbols : List ℕ) (fuel : ℕ) → c .n ≤ 3072 → c .m ≤ 1024 → length symbols ≡ c .n * w → n ≡ c .n → Opened n marks plan
-    → State c w symbols marks plan symbols (record { steps = 0; pivots = 0; early = 0; cursor = 0; fuel = fuel })
-state-start c w n marks plan symbols fuel hn hm e d o =
+pub state-start : (c : Checks) (w n : ℕ) (states plan symbols : List ℕ) (fuel : ℕ) → c .n ≤ 3072 → c .m ≤ 1024 → length symbols ≡ c .n * w → n ≡ c .n → Opened n states plan
+    → State c w symbols states plan symbols (record { steps = 0; pivots = 0; early = 0; cursor = 0; fuel = fuel })
+state-start c w n states plan symbols fuel hn hm e d o =
     record {
       made =
           record {
@@ -540,7 +540,7 @@ state-start c w n marks plan symbols fuel hn hm e d o =
       values =
           record {
             size = e;
-            heard-byte = λ p b hp hb h. refl;
+            known-byte = λ p b hp hb h. refl;
             pivot-byte = λ u b h hb. absurd (omega arith);
             holds = λ t b h hb. absurd (omega arith);
           };

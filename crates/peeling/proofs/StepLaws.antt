@@ -8,14 +8,14 @@ use Prim.Native.Nat.{ℕ, _+_, _<_, _≤_}
 use native.Mathlib.Decide.{ℕ-discrete}
 use native.Mathlib.Omega.{arith}
 use Rattle.algebra.specs.Codeword.{Checks}
-use Rattle.algebra.specs.Closing.{heard}
+use Rattle.peeling.specs.States.{isKnown}
 use Rattle.peeling.specs.Plan.{kindOf, pivotOf, rowOf, positionOf, Sort, Plan, Closed}
 
 -- position p is a pivot
 abbrev pub IsPivot : List ℕ → ℕ → ℕ → Type 0
 IsPivot plan pivots p = (u : ℕ) × ((u < pivots) × (pivotOf plan u ≡ p))
 
-module _ {c : Checks} {marks plan : List ℕ} {early steps pivots : ℕ} (made : Plan c marks plan early steps pivots) where
+module _ {c : Checks} {states plan : List ℕ} {early steps pivots : ℕ} (made : Plan c states plan early steps pivots) where
   pub few-steps : (steps ≤ c .m) × (steps ≤ 1024)
   few-steps = (omega (arith, made .steps-free), omega (arith, made .steps-free, made .rows))
 
@@ -34,13 +34,13 @@ module _ {c : Checks} {marks plan : List ℕ} {early steps pivots : ℕ} (made :
 
   -- where no position is open, one is known or settled by a step, or is a pivot
   pub kind-cases : Closed c plan → (p : ℕ) → p < c .n → (kindOf plan p ≤ steps) ⊎ IsPivot plan pivots p
-  kind-cases closed p hp = go (heard marks p) refl
+  kind-cases closed p hp = go (isKnown states p) refl
     where
       sorted : Sort plan steps pivots p → (kindOf plan p ≤ steps) ⊎ IsPivot plan pivots p
       sorted (inl e) = absurd (closed p hp e)
       sorted (inr (inl (t, (ht, e)))) = let k : kindOf plan p ≡ t + 1 = ap (kindOf plan) (sym e) ∙ made .step t ht .kind in inl (omega arith)
       sorted (inr (inr s)) = inr s
 
-      go : (b : Bool) → heard marks p ≡ b → (kindOf plan p ≤ steps) ⊎ IsPivot plan pivots p
+      go : (b : Bool) → isKnown states p ≡ b → (kindOf plan p ≤ steps) ⊎ IsPivot plan pivots p
       go true e = inl (omega (arith, made .known p hp e))
       go false e = sorted (made .sort p hp e)

@@ -1,3 +1,4 @@
+pub mod States
 pub mod Plan
 pub mod Table
 pub mod Hints

@@ -7,16 +7,16 @@ use mathlib.Core.List.{List}
 use Prim.Native.Nat.{ℕ, _+_, _-_, _*_, _<_, _≤_}
 use lib.ListN.{length, getD}
 use Rattle.algebra.specs.Codeword.{Checks}
-use Rattle.algebra.specs.Closing.{heard}
+use Rattle.peeling.specs.States.{isKnown}
 use Rattle.peeling.specs.Plan.{kindOf, Plan, Unsolved}
 use Rattle.peeling.specs.Values.{Values}
 use Rattle.peeling.specs.declared.peel.Progress.{Progress}
 
 -- every missing position is open and no row is used
-pub record Opened (n : ℕ) (marks plan : List ℕ) : Type 0 where
+pub record Opened (n : ℕ) (states plan : List ℕ) : Type 0 where
   pub size : length plan ≡ 9216
-  pub known : (p : ℕ) → p < n → heard marks p ≡ true → kindOf plan p ≡ 0
-  pub open-kind : (p : ℕ) → p < n → heard marks p ≡ false → kindOf plan p ≡ 65535
+  pub known : (p : ℕ) → p < n → isKnown states p ≡ true → kindOf plan p ≡ 0
+  pub open-kind : (p : ℕ) → p < n → isKnown states p ≡ false → kindOf plan p ≡ 65535
   pub unused : (k : ℕ) → 8192 ≤ k → getD plan k 0 ≡ 0
 
 -- if r is below n, the r-th of the first n positions of xs is open, and no other is
@@ -31,10 +31,10 @@ pub record NextOpen (plan : List ℕ) (from n r : ℕ) : Type 0 where
   pub found : r < n → kindOf plan r ≡ 65535
 
 -- the plan and the symbols as far as they are made; every position before the cursor is closed
-pub record State (c : Checks) (w : ℕ) (block marks plan symbols : List ℕ) (g : Progress) : Type 0 where
-  pub made : Plan c marks plan (g .early) (g .steps) (g .pivots)
+pub record State (c : Checks) (w : ℕ) (block states plan symbols : List ℕ) (g : Progress) : Type 0 where
+  pub made : Plan c states plan (g .early) (g .steps) (g .pivots)
   pub unsolved : Unsolved plan (g .pivots)
-  pub values : Values c w block marks plan symbols (g .steps) (g .pivots)
+  pub values : Values c w block states plan symbols (g .steps) (g .pivots)
   pub begun : g .pivots ≡ 0 → g .early ≡ g .steps
   pub cursor-below : g .cursor ≤ c .n
   pub pivots-below : g .pivots ≤ g .cursor

@@ -10,7 +10,7 @@ use Prim.Native.Nat.{ℕ, zero, suc, _+_, _<_, _≤_}
 use lib.Dec.{eqb}
 use lib.ListN.{length, getD}
 use Rattle.algebra.specs.Codeword.{Checks}
-use Rattle.algebra.specs.Closing.{heard}
+use Rattle.peeling.specs.States.{isKnown}
 
 -- what position p is: 0 known, t + 1 settled by step t, 1025 + u pivot u, 4097 + h a pivot that row h of the reduced rows has, 65535 open
 abbrev pub kindOf : List ℕ → ℕ → ℕ
@@ -41,17 +41,17 @@ free plan (suc j) = cond (eqb (usedBy plan j) 0) (suc (free plan j)) (free plan 
 abbrev pub Before : List ℕ → ℕ → ℕ → ℕ → Type 0
 Before plan early t p = (kindOf plan p ≤ t) ⊎ ((early ≤ t) × ((1024 < kindOf plan p) × (kindOf plan p < 65535)))
 
-pub record Step (c : Checks) (marks plan : List ℕ) (early t : ℕ) : Type 0 where
+pub record Step (c : Checks) (states plan : List ℕ) (early t : ℕ) : Type 0 where
   pub row : rowOf plan t < c .m
   pub position : positionOf plan t < c .n
-  pub missing : heard marks (positionOf plan t) ≡ false
+  pub missing : isKnown states (positionOf plan t) ≡ false
   pub kind : kindOf plan (positionOf plan t) ≡ t + 1
   pub has : c .has (rowOf plan t) (positionOf plan t) ≡ true
   pub others : (p : ℕ) → p < c .n → c .has (rowOf plan t) p ≡ true → p ≢ positionOf plan t → Before plan early t p
 
-pub record PutOff (c : Checks) (marks plan : List ℕ) (u : ℕ) : Type 0 where
+pub record PutOff (c : Checks) (states plan : List ℕ) (u : ℕ) : Type 0 where
   pub position : pivotOf plan u < c .n
-  pub missing : heard marks (pivotOf plan u) ≡ false
+  pub missing : isKnown states (pivotOf plan u) ≡ false
   pub kind : (1024 < kindOf plan (pivotOf plan u)) × (kindOf plan (pivotOf plan u) < 65535)
 
 -- missing position p is open, settled or put off
@@ -60,17 +60,17 @@ Sort plan steps pivots p =
     (kindOf plan p ≡ 65535) ⊎ (((t : ℕ) × ((t < steps) × (positionOf plan t ≡ p))) ⊎ ((u : ℕ) × ((u < pivots) × (pivotOf plan u ≡ p))))
 
 -- no pivot was put off before step `early`
-pub record Plan (c : Checks) (marks plan : List ℕ) (early steps pivots : ℕ) : Type 0 where
+pub record Plan (c : Checks) (states plan : List ℕ) (early steps pivots : ℕ) : Type 0 where
   pub size : length plan ≡ 9216
   pub positions : c .n ≤ 3072
   pub rows : c .m ≤ 1024
   pub early-steps : early ≤ steps
   pub pivots-few : pivots ≤ c .n
   pub steps-free : steps + free plan (c .m) ≡ c .m
-  pub known : (p : ℕ) → p < c .n → heard marks p ≡ true → kindOf plan p ≡ 0
-  pub sort : (p : ℕ) → p < c .n → heard marks p ≡ false → Sort plan steps pivots p
-  pub step : (t : ℕ) → t < steps → Step c marks plan early t
-  pub pivot : (u : ℕ) → u < pivots → PutOff c marks plan u
+  pub known : (p : ℕ) → p < c .n → isKnown states p ≡ true → kindOf plan p ≡ 0
+  pub sort : (p : ℕ) → p < c .n → isKnown states p ≡ false → Sort plan steps pivots p
+  pub step : (t : ℕ) → t < steps → Step c states plan early t
+  pub pivot : (u : ℕ) → u < pivots → PutOff c states plan u
   pub used : (j : ℕ) → j < c .m → (usedBy plan j ≡ 0) ⊎ ((t : ℕ) × ((t < steps) × (rowOf plan t ≡ j)))
 
 -- no position is open

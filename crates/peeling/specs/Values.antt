@@ -8,7 +8,7 @@ use Prim.Native.Nat.{ℕ, _+_, _*_, _<_, _≤_}
 use lib.ListN.{length, getD}
 use Rattle.algebra.specs.Sums.{sum}
 use Rattle.algebra.specs.Codeword.{Checks, byteAt}
-use Rattle.algebra.specs.Closing.{heard}
+use Rattle.peeling.specs.States.{isKnown}
 use Rattle.peeling.specs.Plan.{kindOf, pivotOf, rowOf, usedBy, free}
 
 -- check row j's sum over the symbols, in byte b of each
@@ -20,9 +20,9 @@ abbrev pub StepsHold : Checks → ℕ → List ℕ → List ℕ → ℕ → Type
 StepsHold c w plan symbols steps = (t b : ℕ) → t < steps → b < w → rowSum c w symbols (rowOf plan t) b ≡ 0
 
 -- the symbols of a block after the first `steps` steps, with `pivots` pivots, all zero
-pub record Values (c : Checks) (w : ℕ) (block marks plan symbols : List ℕ) (steps pivots : ℕ) : Type 0 where
+pub record Values (c : Checks) (w : ℕ) (block states plan symbols : List ℕ) (steps pivots : ℕ) : Type 0 where
   pub size : length symbols ≡ c .n * w
-  pub heard-byte : (p b : ℕ) → p < c .n → b < w → heard marks p ≡ true → byteAt w symbols b p ≡ byteAt w block b p
+  pub known-byte : (p b : ℕ) → p < c .n → b < w → isKnown states p ≡ true → byteAt w symbols b p ≡ byteAt w block b p
   pub pivot-byte : (u b : ℕ) → u < pivots → b < w → byteAt w symbols b (pivotOf plan u) ≡ 0
   pub holds : StepsHold c w plan symbols steps
 

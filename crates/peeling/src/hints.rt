@@ -1,5 +1,6 @@
 // Which check rows to look at. Nothing is proved of the hints but that they stay in their arrays: a row that they name is looked at before it is
 // used. counts has how many open symbols each row has, and ready a bit for each row that had just one.
+use crate::states::KNOWN;
 use ccsds::tables;
 use ccsds::tables::Layout;
 ghost use mathlib.Core.Path.{_≡_};
@@ -121,24 +122,24 @@ fn open_column(l: Layout, table: &[u16; 512], x: usize, counts: &mut [u8; 1024])
 }
 
 // The same for a missing position.
-fn open_if_missing(l: Layout, table: &[u16; 512], x: usize, mark: u8, counts: &mut [u8; 1024])
+fn open_if_missing(l: Layout, table: &[u16; 512], x: usize, state: u8, counts: &mut [u8; 1024])
     requires { ⌜ Fits l × (x < 65536) × (length (now table) ≡ 512) × (length (now counts) ≡ 1024) ⌝ }
     ensures { λ _. ⌜ length (now (counts .exit)) ≡ 1024 ⌝ }
 {
-    if mark == 1 {
+    if state == KNOWN {
         return;
     }
     open_column(l, table, x, counts);
 }
 
 // The same for each missing position.
-pub fn count(l: Layout, table: &[u16; 512], marks: &[u8], counts: &mut [u8; 1024])
-    requires { ⌜ Fits l × (length (now marks) ≤ 3072) × (length (now table) ≡ 512) × (length (now counts) ≡ 1024) ⌝ }
+pub fn count(l: Layout, table: &[u16; 512], states: &[u8], counts: &mut [u8; 1024])
+    requires { ⌜ Fits l × (length (now states) ≤ 3072) × (length (now table) ≡ 512) × (length (now counts) ≡ 1024) ⌝ }
     ensures { λ _. ⌜ length (now (counts .exit)) ≡ 1024 ⌝ }
 {
     let mut x = 0;
-    while x < marks.len() {
-        open_if_missing(l, table, x, marks[x], counts);
+    while x < states.len() {
+        open_if_missing(l, table, x, states[x], counts);
         x += 1;
     }
 }

@@ -2,3 +2,4 @@
 // time being.
 mod hints; // which check rows to try next
 pub mod peel; // the plan: steps and pivots
+pub mod states; // what is known of each position

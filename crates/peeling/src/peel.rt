@@ -1,6 +1,7 @@
 // Peeling: a check row with just one open symbol settles it, as the sum of the row's other symbols; where no row is ready, the lowest open position is
 // put off as a pivot, with zero for its symbol. The plan (specs/Plan.antt) says of each position what became of it.
 use crate::hints;
+use crate::states::KNOWN;
 use encoder::positions;
 use ccsds::tables::Layout;
 ghost use mathlib.Core.Path.{_≡_};
@@ -33,21 +34,21 @@ pub struct Progress {
     pub fuel: usize,
 }
 
-// What a position with this mark is at first.
-fn kind_of(mark: u8) -> u16
-    ensures { λ r. ⌜ r ≡ cond (eqb mark 1) 0 65535 ⌝ }
+// What a position with this state is at first.
+fn kind_of(state: u8) -> u16
+    ensures { λ r. ⌜ r ≡ cond (eqb state 1) 0 65535 ⌝ }
 {
-    if mark == 1 { 0 } else { OPEN }
+    if state == KNOWN { 0 } else { OPEN }
 }
 
 // Every missing position is open.
-pub fn open_missing(marks: &[u8], plan: &mut [u16])
-    requires { ⌜ (length (now marks) ≤ 3072) × (now plan ≡ replicate 9216 0) ⌝ }
-    ensures { λ _. ⌜ Opened (length (now (marks .entry))) (now (marks .entry)) (now (plan .exit)) ⌝ }
+pub fn open_missing(states: &[u8], plan: &mut [u16])
+    requires { ⌜ (length (now states) ≤ 3072) × (now plan ≡ replicate 9216 0) ⌝ }
+    ensures { λ _. ⌜ Opened (length (now (states .entry))) (now (states .entry)) (now (plan .exit)) ⌝ }
 {
     let mut x = 0;
-    while x < marks.len() {
-        plan[x] = kind_of(marks[x]);
+    while x < states.len() {
+        plan[x] = kind_of(states[x]);
         x += 1;
     }
 }
@@ -121,7 +122,7 @@ fn try_row(
     classes: &[usize; 8],
     table: &[u16; 512],
     xs: &mut [usize; 64],
-    marks: &[u8],
+    states: &[u8],
     plan: &mut [u16],
     symbols: &mut [u8],
     counts: &mut [u8; 1024],
@@ -131,10 +132,10 @@ fn try_row(
     requires { ⌜ Table number l (now firsts) (now ends) (now classes) ⌝ }
     requires { ⌜ length (now xs) ≡ 64 ⌝ }
     requires { ⌜ (r < codeOf number .m) × (0 < g .fuel) ⌝ }
-    requires { ⌜ State (checksOf (codeOf number)) w (now symbols) (now marks) (now plan) (now symbols) g ⌝ }
+    requires { ⌜ State (checksOf (codeOf number)) w (now symbols) (now states) (now plan) (now symbols) g ⌝ }
     ensures { λ _. ⌜ length (now (xs .exit)) ≡ 64 ⌝ }
     ensures { λ _. ⌜ Hinted (now (table .entry)) (now (counts .exit)) (now (ready .exit)) ⌝ }
-    ensures { λ h. ⌜ State (checksOf (codeOf number)) w (now (symbols .entry)) (now (marks .entry)) (now (plan .exit)) (now (symbols .exit)) h ⌝ }
+    ensures { λ h. ⌜ State (checksOf (codeOf number)) w (now (symbols .entry)) (now (states .entry)) (now (plan .exit)) (now (symbols .exit)) h ⌝ }
     ensures { λ h. ⌜ left ((checksOf (codeOf number)) .n) h < left ((checksOf (codeOf number)) .n) g ⌝ }
 {
     let n = positions::of_row(number, l, firsts, ends, classes, r, xs);
@@ -202,7 +203,7 @@ fn put_off(
     w: usize,
     g: Progress,
     table: &[u16; 512],
-    marks: &[u8],
+    states: &[u8],
     plan: &mut [u16],
     symbols: &mut [u8],
     counts: &mut [u8; 1024],
@@ -211,9 +212,9 @@ fn put_off(
     requires { ⌜ Hinted (now table) (now counts) (now ready) ⌝ }
     requires { ⌜ Known number × Given (codeOf number) l ⌝ }
     requires { ⌜ g .cursor < (checksOf (codeOf number)) .n ⌝ }
-    requires { ⌜ State (checksOf (codeOf number)) w (now symbols) (now marks) (now plan) (now symbols) g ⌝ }
+    requires { ⌜ State (checksOf (codeOf number)) w (now symbols) (now states) (now plan) (now symbols) g ⌝ }
     ensures { λ _. ⌜ Hinted (now (table .entry)) (now (counts .exit)) (now (ready .exit)) ⌝ }
-    ensures { λ h. ⌜ State (checksOf (codeOf number)) w (now (symbols .entry)) (now (marks .entry)) (now (plan .exit)) (now (symbols .exit)) h ⌝ }
+    ensures { λ h. ⌜ State (checksOf (codeOf number)) w (now (symbols .entry)) (now (states .entry)) (now (plan .exit)) (now (symbols .exit)) h ⌝ }
     ensures { λ h. ⌜ left ((checksOf (codeOf number)) .n) h < left ((checksOf (codeOf number)) .n) g ⌝ }
 {
     let n = l.k + l.m;
@@ -250,7 +251,7 @@ fn turn(
     classes: &[usize; 8],
     table: &[u16; 512],
     xs: &mut [usize; 64],
-    marks: &[u8],
+    states: &[u8],
     plan: &mut [u16],
     symbols: &mut [u8],
     counts: &mut [u8; 1024],
@@ -260,18 +261,18 @@ fn turn(
     requires { ⌜ Table number l (now firsts) (now ends) (now classes) ⌝ }
     requires { ⌜ length (now xs) ≡ 64 ⌝ }
     requires { ⌜ g .cursor < (checksOf (codeOf number)) .n ⌝ }
-    requires { ⌜ State (checksOf (codeOf number)) w (now symbols) (now marks) (now plan) (now symbols) g ⌝ }
+    requires { ⌜ State (checksOf (codeOf number)) w (now symbols) (now states) (now plan) (now symbols) g ⌝ }
     ensures { λ _. ⌜ length (now (xs .exit)) ≡ 64 ⌝ }
     ensures { λ _. ⌜ Hinted (now (table .entry)) (now (counts .exit)) (now (ready .exit)) ⌝ }
-    ensures { λ h. ⌜ State (checksOf (codeOf number)) w (now (symbols .entry)) (now (marks .entry)) (now (plan .exit)) (now (symbols .exit)) h ⌝ }
+    ensures { λ h. ⌜ State (checksOf (codeOf number)) w (now (symbols .entry)) (now (states .entry)) (now (plan .exit)) (now (symbols .exit)) h ⌝ }
     ensures { λ h. ⌜ left ((checksOf (codeOf number)) .n) h < left ((checksOf (codeOf number)) .n) g ⌝ }
 {
     if g.fuel == 0 {
-        return put_off(number, l, w, g, table, marks, plan, symbols, counts, ready);
+        return put_off(number, l, w, g, table, states, plan, symbols, counts, ready);
     }
     let r = hints::next(ready);
     if r >= l.m {
-        return put_off(number, l, w, g, table, marks, plan, symbols, counts, ready);
+        return put_off(number, l, w, g, table, states, plan, symbols, counts, ready);
     }
     try_row(
         number,
@@ -284,7 +285,7 @@ fn turn(
         classes,
         table,
         xs,
-        marks,
+        states,
         plan,
         symbols,
         counts,
@@ -301,25 +302,25 @@ pub fn peel(
     ends: &[u16; 512],
     classes: &[usize; 8],
     xs: &mut [usize; 64],
-    marks: &[u8],
+    states: &[u8],
     plan: &mut [u16],
     symbols: &mut [u8],
 ) -> Progress
     requires { ⌜ Table number l (now firsts) (now ends) (now classes) ⌝ }
     requires { ⌜ length (now xs) ≡ 64 ⌝ }
     requires { ⌜ now plan ≡ replicate 9216 0 ⌝ }
-    requires { ⌜ (length (now marks) ≡ (checksOf (codeOf number)) .n) × (length (now symbols) ≡ (checksOf (codeOf number)) .n * w) ⌝ }
+    requires { ⌜ (length (now states) ≡ (checksOf (codeOf number)) .n) × (length (now symbols) ≡ (checksOf (codeOf number)) .n * w) ⌝ }
     ensures { λ _. ⌜ length (now (xs .exit)) ≡ 64 ⌝ }
-    ensures { λ g. ⌜ Plan (checksOf (codeOf number)) (now (marks .entry)) (now (plan .exit)) (g .early) (g .steps) (g .pivots) ⌝ }
+    ensures { λ g. ⌜ Plan (checksOf (codeOf number)) (now (states .entry)) (now (plan .exit)) (g .early) (g .steps) (g .pivots) ⌝ }
     ensures { λ g. ⌜ Closed (checksOf (codeOf number)) (now (plan .exit)) × Unsolved (now (plan .exit)) (g .pivots) ⌝ }
-    ensures { λ g. ⌜ Values (checksOf (codeOf number)) w (now (symbols .entry)) (now (marks .entry)) (now (plan .exit)) (now (symbols .exit)) (g .steps) (g .pivots) ⌝ }
+    ensures { λ g. ⌜ Values (checksOf (codeOf number)) w (now (symbols .entry)) (now (states .entry)) (now (plan .exit)) (now (symbols .exit)) (g .steps) (g .pivots) ⌝ }
     ensures { λ g. ⌜ (g .pivots ≡ 0 → g .early ≡ g .steps) ⌝ }
 {
     let table = hints::addresses(number, l);
     let mut counts = [0u8; 1024];
     let mut ready = [0u64; 16];
-    open_missing(marks, plan);
-    hints::count(l, &table, marks, &mut counts);
+    open_missing(states, plan);
+    hints::count(l, &table, states, &mut counts);
     hints::first_ready(l.m, &counts, &mut ready);
     let mut g = Progress {
         steps: 0,
@@ -328,7 +329,7 @@ pub fn peel(
         cursor: 0,
         fuel: 32768,
     };
-    while g.cursor < marks.len() {
+    while g.cursor < states.len() {
         g = turn(
             number,
             l,
@@ -339,7 +340,7 @@ pub fn peel(
             classes,
             &table,
             xs,
-            marks,
+            states,
             plan,
             symbols,
             &mut counts,

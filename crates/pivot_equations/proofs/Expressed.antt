@@ -11,7 +11,7 @@ use borrow.Author.Tests.{eq-eqb, ne-eqb, eqb-true, eqb-false}
 use lib.Dec.{eqb}
 use Rattle.algebra.specs.Sums.{_⊕_, pick, sum}
 use Rattle.algebra.specs.Codeword.{Checks}
-use Rattle.algebra.specs.Closing.{heard}
+use Rattle.peeling.specs.States.{isKnown}
 use Rattle.algebra.proofs.Sums.{self, sum-cong, sum-terms, sum-ext, sum-zeros, sum-only, sum-split}
 use Rattle.algebra.proofs.Codeword.{slot}
 use Rattle.algebra.proofs.Lists.{and-iff}
@@ -75,7 +75,7 @@ but-own : (a : Bool) (u : ℕ) → pick (a && false) u ≡ pick a 0
 but-own true u = refl
 but-own false u = refl
 
-module _ {c : Checks} {marks plan : List ℕ} {early steps pivots : ℕ} (made : Plan c marks plan early steps pivots) (closed : Closed c plan) where
+module _ {c : Checks} {states plan : List ℕ} {early steps pivots : ℕ} (made : Plan c states plan early steps pivots) (closed : Closed c plan) where
   -- a position is known, settled or put off
   data Settled (x : ℕ) : Type 0 where
     known : kindOf plan x ≡ 0 → Settled x
@@ -83,9 +83,9 @@ module _ {c : Checks} {marks plan : List ℕ} {early steps pivots : ℕ} (made :
     pivot : (u : ℕ) → u < pivots → pivotOf plan u ≡ x → 1024 < kindOf plan x → Settled x
 
   settled : (x : ℕ) → x < c .n → Settled x
-  settled x h = go (heard marks x) refl
+  settled x h = go (isKnown states x) refl
     where
-      go : (b : Bool) → heard marks x ≡ b → Settled x
+      go : (b : Bool) → isKnown states x ≡ b → Settled x
       go true e = known (made .known x h e)
       go false e =
           ⊎-elim (λ o. absurd (closed x h o))
@@ -135,7 +135,7 @@ module _ {c : Checks} {marks plan : List ℕ} {early steps pivots : ℕ} (made :
         (λ x g e. eqb-true x p (and-iff (a x) (eqb x p) .0 e .1)) ∙ own)
         ∙ self (pick (rowBit l′ (t * (words + 1)) i) 1)
       where
-        s : Step c marks plan early t
+        s : Step c states plan early t
         s = made .step t h
 
         p : ℕ
@@ -178,7 +178,7 @@ module _ {c : Checks} {marks plan : List ℕ} {early steps pivots : ℕ} (made :
       (λ x g on. ap (λ (b : Bool). pick b 1) (hangs-none l words early (kindOf plan x) i (low x g on)))
       ∙ sum-zeros (c .has (rowOf plan t)) (c .n)
     where
-      s : Step c marks plan early t
+      s : Step c states plan early t
       s = made .step t (omega (arith, made .early-steps))
 
       low : (x : ℕ) → x < c .n → c .has (rowOf plan t) x ≡ true → kindOf plan x ≤ early
@@ -188,7 +188,7 @@ module _ {c : Checks} {marks plan : List ℕ} {early steps pivots : ℕ} (made :
 
 -- ---- the check rows that no step used
 
-module _ {c : Checks} {marks plan : List ℕ} {early steps pivots : ℕ} (made : Plan c marks plan early steps pivots) (closed : Closed c plan)
+module _ {c : Checks} {states plan : List ℕ} {early steps pivots : ℕ} (made : Plan c states plan early steps pivots) (closed : Closed c plan)
     (unsolved : Unsolved plan pivots) where
   unsolved-kind : (x : ℕ) → x < c .n → kindOf plan x ≤ 4096
   unsolved-kind x h = go (settled made closed x h)

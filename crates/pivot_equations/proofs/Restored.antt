@@ -152,7 +152,7 @@ module _ (c : Checks) (w j p : ℕ) {s s′ : List ℕ} (h : Replaced (λ b. sum
 
 -- ---- step after step
 
-module _ (c : Checks) (w : ℕ) {marks plan : List ℕ} {early steps pivots : ℕ} (made : Plan c marks plan early steps pivots) where
+module _ (c : Checks) (w : ℕ) {states plan : List ℕ} {early steps pivots : ℕ} (made : Plan c states plan early steps pivots) where
   pub again-none : {s : List ℕ} → StepsHold c w plan s early → Again c w plan s s early early
   again-none h = record { size = refl; same = λ p b l g k. refl; holds = h }
 
@@ -160,7 +160,7 @@ module _ (c : Checks) (w : ℕ) {marks plan : List ℕ} {early steps pivots : �
       → Replaced (λ b. sum (c .has (rowOf plan t)) (without (positionOf plan t) (byteAt w s b)) (c .n)) w (positionOf plan t) s s′ → Again c w plan s₀ s′ early (t + 1)
   again-more {s₀} {s} {s′} {t} el h a r = record { size = r .size ∙ a .size; same = same; holds = holds }
     where
-      own : Step c marks plan early t
+      own : Step c states plan early t
       own = made .step t h
 
       same : (p b : ℕ) → p < c .n → b < w → (kindOf plan p ≤ early) ⊎ (1024 < kindOf plan p) → byteAt w s′ b p ≡ byteAt w s₀ b p

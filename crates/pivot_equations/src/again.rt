@@ -68,13 +68,13 @@ pub fn again(
     ends: &[u16; 512],
     classes: &[usize; 8],
     xs: &mut [usize; 64],
-    marks: &[u8],
+    states: &[u8],
     plan: &[u16],
     symbols: &mut [u8],
 )
     requires { ⌜ Table number l (now firsts) (now ends) (now classes) ⌝ }
     requires { ⌜ length (now xs) ≡ 64 ⌝ }
-    requires { ⌜ Plan (checksOf (codeOf number)) (now marks) (now plan) early steps pivots × Closed (checksOf (codeOf number)) (now plan) ⌝ }
+    requires { ⌜ Plan (checksOf (codeOf number)) (now states) (now plan) early steps pivots × Closed (checksOf (codeOf number)) (now plan) ⌝ }
     requires { ⌜ (length (now symbols) ≡ (checksOf (codeOf number)) .n * w) × StepsHold (checksOf (codeOf number)) w (now plan) (now symbols) early ⌝ }
     ensures { λ _. ⌜ length (now (xs .exit)) ≡ 64 ⌝ }
     ensures { λ _. ⌜ Again (checksOf (codeOf number)) w (now (plan .entry)) (now (symbols .entry)) (now (symbols .exit)) early steps ⌝ }

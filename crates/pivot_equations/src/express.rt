@@ -123,13 +123,13 @@ pub fn steps(
     ends: &[u16; 512],
     classes: &[usize; 8],
     xs: &mut [usize; 64],
-    marks: &[u8],
+    states: &[u8],
     plan: &[u16],
     words: &mut [u64],
 )
     requires { ⌜ Table number l (now firsts) (now ends) (now classes) ⌝ }
     requires { ⌜ length (now xs) ≡ 64 ⌝ }
-    requires { ⌜ Plan (checksOf (codeOf number)) (now marks) (now plan) early steps pivots × Closed (checksOf (codeOf number)) (now plan) ⌝ }
+    requires { ⌜ Plan (checksOf (codeOf number)) (now states) (now plan) early steps pivots × Closed (checksOf (codeOf number)) (now plan) ⌝ }
     requires { ⌜ (packed ≤ 48) × ((checksOf (codeOf number)) .m * (packed + 1) ≤ length (now words)) ⌝ }
     requires { ⌜ Places (checksOf (codeOf number)) (now plan) (now words) packed steps ((checksOf (codeOf number)) .m) ⌝ }
     ensures { λ _. ⌜ length (now (xs .exit)) ≡ 64 ⌝ }
@@ -172,13 +172,13 @@ fn remaining_row(
     ends: &[u16; 512],
     classes: &[usize; 8],
     xs: &mut [usize; 64],
-    marks: &[u8],
+    states: &[u8],
     plan: &[u16],
     words: &mut [u64],
 ) -> usize
     requires { ⌜ Table number l (now firsts) (now ends) (now classes) ⌝ }
     requires { ⌜ length (now xs) ≡ 64 ⌝ }
-    requires { ⌜ Plan (checksOf (codeOf number)) (now marks) (now plan) early steps pivots × Closed (checksOf (codeOf number)) (now plan) ⌝ }
+    requires { ⌜ Plan (checksOf (codeOf number)) (now states) (now plan) early steps pivots × Closed (checksOf (codeOf number)) (now plan) ⌝ }
     requires { ⌜ (packed ≤ 48) × ((checksOf (codeOf number)) .m * (packed + 1) ≤ length (now words)) ⌝ }
     requires { ⌜ Places (checksOf (codeOf number)) (now plan) (now words) packed steps ((checksOf (codeOf number)) .m) ⌝ }
     requires { ⌜ Unsolved (now plan) pivots ⌝ }
@@ -223,13 +223,13 @@ pub fn remaining(
     ends: &[u16; 512],
     classes: &[usize; 8],
     xs: &mut [usize; 64],
-    marks: &[u8],
+    states: &[u8],
     plan: &[u16],
     words: &mut [u64],
 )
     requires { ⌜ Table number l (now firsts) (now ends) (now classes) ⌝ }
     requires { ⌜ length (now xs) ≡ 64 ⌝ }
-    requires { ⌜ Plan (checksOf (codeOf number)) (now marks) (now plan) early steps pivots × Closed (checksOf (codeOf number)) (now plan) ⌝ }
+    requires { ⌜ Plan (checksOf (codeOf number)) (now states) (now plan) early steps pivots × Closed (checksOf (codeOf number)) (now plan) ⌝ }
     requires { ⌜ (packed ≤ 48) × ((checksOf (codeOf number)) .m * (packed + 1) ≤ length (now words)) ⌝ }
     requires { ⌜ Places (checksOf (codeOf number)) (now plan) (now words) packed steps ((checksOf (codeOf number)) .m) ⌝ }
     requires { ⌜ Unsolved (now plan) pivots ⌝ }
@@ -254,7 +254,7 @@ pub fn remaining(
             ends,
             classes,
             xs,
-            marks,
+            states,
             plan,
             words,
         );

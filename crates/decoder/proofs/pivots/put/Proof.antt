@@ -10,11 +10,11 @@ use Rattle.decoder.proofs.pivots.put.Statement.{statement}
 use Rattle.decoder.proofs.pivots.put.Tie as tie
 
 abbrev Inv-loop : tie.InvT-loop
-Inv-loop number w steps rest early pivots packed marks words bytes plan₀ symbols₀ i₀ plan symbols i =
+Inv-loop number w steps rest early pivots packed states words bytes plan₀ symbols₀ i₀ plan symbols i =
     (i ≤ rest) × Put (checksOf (codeOf number)) w packed steps i pivots words bytes plan₀ symbols₀ plan symbols
 
 abbrev μ-loop : tie.MeasureT-loop
-μ-loop number w steps rest early pivots packed marks words bytes plan₀ symbols₀ i₀ plan symbols i = rest - i
+μ-loop number w steps rest early pivots packed states words bytes plan₀ symbols₀ i₀ plan symbols i = rest - i
 
 loop-holds : tie.Need-loop-holds Inv-loop μ-loop
 loop-holds c = (omega arith, put-none _ _ _ _ _ _ _ _ _)
@@ -24,7 +24,7 @@ put-one-requires c κs =
     let l = c .before .before .before .loop in
     let s = c .before .before .before .before .before .before .before .before .before in
     let p = s .pre in
-    put-room _ _ _ _ _ _ (s .args .marks .now) _ _ _ _ (p .0 .0) (p .0 .1) (p .1 .1 .0 .0) _ _ _ (l .inv .1)
+    put-room _ _ _ _ _ _ (s .args .states .now) _ _ _ _ (p .0 .0) (p .0 .1) (p .1 .1 .0 .0) _ _ _ (l .inv .1)
     (s .args .rest) _ (c .before .before .loop-test .taken) (p .1 .0 .1 .0) (p .1 .0 .1 .1) (p .1 .1 .0 .1) (p .1 .1 .1)
 
 add-i : tie.Need-add-i Inv-loop μ-loop
@@ -40,7 +40,7 @@ loop-again c =
     let s = a .before .before .before .before .before .before .before in
     let p = s .pre in (
       omega arith,
-      put-more _ _ _ _ _ _ (s .args .marks .now) _ _ _ _ (p .0 .0) (p .0 .1) (p .1 .1 .0 .0) _ _ _ (l .inv .1)
+      put-more _ _ _ _ _ _ (s .args .states .now) _ _ _ _ (p .0 .0) (p .0 .1) (p .1 .1 .0 .0) _ _ _ (l .inv .1)
           _ _ (p .1 .1 .1 (l .i) (a .loop-test .taken)) (c .before .before .before .before .put-one .ensures),
     )
 

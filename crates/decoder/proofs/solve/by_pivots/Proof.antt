@@ -11,7 +11,7 @@ use Rattle.decoder.proofs.solve.by_pivots.Statement.{statement}
 use Rattle.decoder.proofs.solve.by_pivots.Tie as tie
 use Rattle.decoder.proofs.solve.by_pivots.Reads as reads
 use Rattle.decoder.proofs.solve.by_pivots.Lts as lts
-use Rattle.decoder.proofs.marks.clear_missing.Reads as clear-missing-reads
+use Rattle.decoder.proofs.missing.clear_missing.Reads as clear-missing-reads
 use Rattle.decoder.proofs.solve.consistent_from.Reads as consistent-from-reads
 use Rattle.decoder.proofs.solve.fill.Reads as fill-reads
 use Rattle.decoder.proofs.solve.reduce.Reads as reduce-reads

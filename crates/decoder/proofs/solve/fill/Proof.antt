@@ -17,8 +17,8 @@ use Rattle.decoder.proofs.solve.fill.Tie as tie
 use Rattle.decoder.proofs.solve.fill.Reads as reads
 use Rattle.decoder.proofs.solve.fill.Lts as lts
 use Rattle.pivot_equations.proofs.express.steps.Reads as steps-reads
-use Rattle.decoder.proofs.marks.fill_determined.Reads as fill-determined-reads
-use Rattle.decoder.proofs.marks.fill_missing.Reads as fill-missing-reads
+use Rattle.decoder.proofs.missing.fill_determined.Reads as fill-determined-reads
+use Rattle.decoder.proofs.missing.fill_missing.Reads as fill-missing-reads
 use Rattle.decoder.proofs.pivots.all_solved.Reads as all-solved-reads
 use Rattle.decoder.proofs.solve.put_in.Reads as put-in-reads
 

@@ -67,12 +67,12 @@ returns c =
     let s = c .before .before .before .before .before .before .before .before .before .before .before .before .before .before .before .before .before .before .before .before .before .before .before .before .before .before .before .before .before .before .before .before .before .before .before in
     let code = checksOf (codeOf (s .args .number)) in
     let block = s .args .symbols .now in
-    let marks = s .args .marks .now in
+    let states = s .args .states .now in
     let y = c .before .before .before .before .before .before .before .before .before .before .before .before .before .before .before .before .before .peel .last .1 .1 .1 .1 .1 .1 .1 .1 .1 .0 in
     let s′ = c .before .before .before .before .by-steps .last .1 .1 .1 .1 .1 .1 .1 .1 .1 .1 .1 .0 in
     let m′ = c .before .before .before .before .by-steps .last .1 .1 .1 .1 .1 .1 .1 .1 .1 .1 .1 .1 .0 in
     let ok = c .before .before .before .before .by-steps .result in
-    decoded code (s .args .w) block marks s′ m′ ok (s .pre .0 .1) (outcome-same code (s .args .w) block y marks (c .before .before .before .before .before .before .before .before .before .before .before .before .before .before .before .before .before .peel .ensures .1 .1 .1 .0 .heard-byte) s′ m′ ok (c .before .before .before .before .by-steps .ensures))
+    decoded code (s .args .w) block states s′ m′ ok (s .pre .0 .1) (outcome-same code (s .args .w) block y states (c .before .before .before .before .before .before .before .before .before .before .before .before .before .before .before .before .before .peel .ensures .1 .1 .1 .0 .known-byte) s′ m′ ok (c .before .before .before .before .by-steps .ensures))
 
 -- src/solve.rt:283:92
 slice-aggregate-by-pivots : tie.Need-slice-aggregate-by-pivots
@@ -108,12 +108,12 @@ returns-2 c =
     let s = c .before .before .before .before .before .before .before .before .before .before .before .before .before .before .before .before .before .before .before .before .before .before .before .before .before .before .before .before .before .before .before .before .before .before .before .before .before .before .before .before .before .before in
     let code = checksOf (codeOf (s .args .number)) in
     let block = s .args .symbols .now in
-    let marks = s .args .marks .now in
+    let states = s .args .states .now in
     let y = c .before .before .before .before .before .before .before .before .before .before .before .before .before .before .before .before .before .before .before .before .before .before .before .before .peel .last .1 .1 .1 .1 .1 .1 .1 .1 .1 .0 in
     let s′ = c .before .before .before .before .before .before .before .before .before .by-pivots .last .1 .1 .1 .1 .1 .1 .1 .1 .1 .1 .1 .0 in
     let m′ = c .before .before .before .before .before .before .before .before .before .by-pivots .last .1 .1 .1 .1 .1 .1 .1 .1 .1 .1 .1 .1 .0 in
     let ok = c .before .before .before .before .before .before .before .before .before .by-pivots .result in
-    decoded code (s .args .w) block marks s′ m′ ok (s .pre .0 .1) (outcome-same code (s .args .w) block y marks (c .before .before .before .before .before .before .before .before .before .before .before .before .before .before .before .before .before .before .before .before .before .before .before .before .peel .ensures .1 .1 .1 .0 .heard-byte) s′ m′ ok (c .before .before .before .before .before .before .before .before .before .by-pivots .ensures))
+    decoded code (s .args .w) block states s′ m′ ok (s .pre .0 .1) (outcome-same code (s .args .w) block y states (c .before .before .before .before .before .before .before .before .before .before .before .before .before .before .before .before .before .before .before .before .before .before .before .before .peel .ensures .1 .1 .1 .0 .known-byte) s′ m′ ok (c .before .before .before .before .before .before .before .before .before .by-pivots .ensures))
 
 pub solve-spec : {M : Type 1} → statement M
 solve-spec =

@@ -8,10 +8,10 @@ use Rattle.peeling.proofs.hints.count.Statement.{statement}
 use Rattle.peeling.proofs.hints.count.Tie as tie
 
 abbrev Inv-loop : tie.InvT-loop
-Inv-loop l table marks counts₀ x₀ counts x = length counts ≡ 1024
+Inv-loop l table states counts₀ x₀ counts x = length counts ≡ 1024
 
 abbrev μ-loop : tie.MeasureT-loop
-μ-loop l table marks counts₀ x₀ counts x = length marks - x
+μ-loop l table states counts₀ x₀ counts x = length states - x
 
 loop-holds : tie.Need-loop-holds Inv-loop μ-loop
 loop-holds c = search needs

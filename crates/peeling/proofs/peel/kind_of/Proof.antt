@@ -5,10 +5,10 @@ use Rattle.peeling.proofs.peel.kind_of.Statement.{statement}
 use Rattle.peeling.proofs.peel.kind_of.Tie as tie
 
 returns : tie.Need-returns
-returns c = rw (eq-eqb (c .before .args .mark) 1 (c .if1 .taken))
+returns c = rw (eq-eqb (c .before .args .state) 1 (c .if1 .taken))
 
 returns-2 : tie.Need-returns-2
-returns-2 c = rw (ne-eqb (c .before .args .mark) 1 (c .if1 .left))
+returns-2 c = rw (ne-eqb (c .before .args .state) 1 (c .if1 .left))
 
 pub kind-of-spec : {M : Type 1} → statement M
 kind-of-spec = tie.close (tie.spec returns returns-2)

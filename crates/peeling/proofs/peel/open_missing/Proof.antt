@@ -10,10 +10,10 @@ use Rattle.peeling.proofs.peel.open_missing.Statement.{statement}
 use Rattle.peeling.proofs.peel.open_missing.Tie as tie
 
 abbrev Inv-loop : tie.InvT-loop
-Inv-loop marks plan₀ x₀ plan x = (x ≤ length marks) × Opening marks plan x
+Inv-loop states plan₀ x₀ plan x = (x ≤ length states) × Opening states plan x
 
 abbrev μ-loop : tie.MeasureT-loop
-μ-loop marks plan₀ x₀ plan x = length marks - x
+μ-loop states plan₀ x₀ plan x = length states - x
 
 loop-holds : tie.Need-loop-holds Inv-loop μ-loop
 loop-holds c = (omega arith, opening-none _ _ 9216 refl (c .before .before .pre .1))

@@ -16,14 +16,14 @@ use Rattle.peeling.proofs.peel.peel.Statement.{statement}
 use Rattle.peeling.proofs.peel.peel.Tie as tie
 
 abbrev Inv-loop : tie.InvT-loop
-Inv-loop number l w firsts ends classes xs₀ marks plan₀ symbols₀ table counts₀ ready₀ g₀ xs plan symbols counts ready g =
-    (length xs ≡ 64) × (Hinted table counts ready × State (checksOf (codeOf number)) w symbols₀ marks plan symbols g)
+Inv-loop number l w firsts ends classes xs₀ states plan₀ symbols₀ table counts₀ ready₀ g₀ xs plan symbols counts ready g =
+    (length xs ≡ 64) × (Hinted table counts ready × State (checksOf (codeOf number)) w symbols₀ states plan symbols g)
 
 abbrev μ-loop : tie.MeasureT-loop
-μ-loop number l w firsts ends classes xs₀ marks plan₀ symbols₀ table counts₀ ready₀ g₀ xs plan symbols counts ready g =
+μ-loop number l w firsts ends classes xs₀ states plan₀ symbols₀ table counts₀ ready₀ g₀ xs plan symbols counts ready g =
     left (checksOf (codeOf number) .n) g
 
-few : (s : tie.Start Inv-loop μ-loop) → length (s .args .marks .now) ≤ 3072
+few : (s : tie.Start Inv-loop μ-loop) → length (s .args .states .now) ≤ 3072
 few s = omega (arith, few-positions (s .args .number), s .pre .1 .1 .1 .0)
 
 addresses-requires : tie.Need-addresses-requires Inv-loop μ-loop

@@ -26,7 +26,7 @@ start o = o .before .before .before .before .before .before
 passed : (o : tie.After-next-open)
     → let s = start o .args in
     let g = s .g in
-    State (checksOf (codeOf (s .number))) (s .w) (s .symbols .now) (s .marks .now) (s .plan .now) (s .symbols .now)
+    State (checksOf (codeOf (s .number))) (s .w) (s .symbols .now) (s .states .now) (s .plan .now) (s .symbols .now)
     (record { steps = g .steps; pivots = g .pivots; early = g .early; cursor = o .next-open .result; fuel = g .fuel })
 passed o = let s = start o in state-pass (s .pre .1 .1 .1) (all s) (o .next-open .ensures)
 

@@ -13,11 +13,11 @@ use Rattle.pivot_equations.proofs.again.again.Statement.{statement}
 use Rattle.pivot_equations.proofs.again.again.Tie as tie
 
 abbrev Inv-loop : tie.InvT-loop
-Inv-loop number l w early steps pivots firsts ends classes xs₀ marks plan symbols₀ t₀ xs symbols t =
+Inv-loop number l w early steps pivots firsts ends classes xs₀ states plan symbols₀ t₀ xs symbols t =
     ((early ≤ t) × (t ≤ steps)) × (length xs ≡ 64) × Again (checksOf (codeOf number)) w plan symbols₀ symbols early t
 
 abbrev μ-loop : tie.MeasureT-loop
-μ-loop number l w early steps pivots firsts ends classes xs₀ marks plan symbols₀ t₀ xs symbols t = steps - t
+μ-loop number l w early steps pivots firsts ends classes xs₀ states plan symbols₀ t₀ xs symbols t = steps - t
 
 few : (c : tie.In-loop Inv-loop μ-loop) → c .before .loop .t < 1024
 few c = omega (arith, few-steps (c .before .before .before .before .before .pre .1 .1 .0 .0))

@@ -16,11 +16,11 @@ use Rattle.pivot_equations.proofs.express.remaining.Lts as lts
 use Rattle.pivot_equations.proofs.express.remaining_row.Reads as remaining-row-reads
 
 abbrev Inv-loop : tie.InvT-loop
-Inv-loop number l early steps pivots packed firsts ends classes xs₀ marks plan words₀ m t₀ j₀ xs words t j =
+Inv-loop number l early steps pivots packed firsts ends classes xs₀ states plan words₀ m t₀ j₀ xs words t j =
     (length xs ≡ 64) × ((j ≤ m) × ((t ≡ steps + free plan j) × (RestTo (checksOf (codeOf number)) plan words packed early steps j × SameBelow words₀ words packed steps)))
 
 abbrev μ-loop : tie.MeasureT-loop
-μ-loop number l early steps pivots packed firsts ends classes xs₀ marks plan words₀ m t₀ j₀ xs words t j = m - j
+μ-loop number l early steps pivots packed firsts ends classes xs₀ states plan words₀ m t₀ j₀ xs words t j = m - j
 
 -- src/express.rt:220:5
 loop-holds : tie.Need-loop-holds Inv-loop μ-loop

@@ -16,11 +16,11 @@ use Rattle.pivot_equations.proofs.express.steps.Lts as lts
 use Rattle.pivot_equations.proofs.express.row.Reads as row-reads
 
 abbrev Inv-loop : tie.InvT-loop
-Inv-loop number l early steps pivots packed firsts ends classes xs₀ marks plan words₀ t₀ xs words t =
+Inv-loop number l early steps pivots packed firsts ends classes xs₀ states plan words₀ t₀ xs words t =
     (length xs ≡ 64) × ((early ≤ t) × ((t ≤ steps) × (StepsExpressed (checksOf (codeOf number)) plan words packed early t × SameFrom words₀ words packed steps)))
 
 abbrev μ-loop : tie.MeasureT-loop
-μ-loop number l early steps pivots packed firsts ends classes xs₀ marks plan words₀ t₀ xs words t = steps - t
+μ-loop number l early steps pivots packed firsts ends classes xs₀ states plan words₀ t₀ xs words t = steps - t
 
 -- src/express.rt:132:5
 loop-holds : tie.Need-loop-holds Inv-loop μ-loop

@@ -1,22 +1,22 @@
--- `decoder::marks::clear_at` meets its contract, by the mark at the position.
+-- `decoder::missing::clear_at` meets its contract, by the state at the position.
 -- Assumes nothing.
 use mathlib.Core.Path.{_∙_}
 use borrow.Author.Needs.{needs}
-use Rattle.decoder.proofs.Clearing.{heard-one, heard-not, stays, goes}
+use Rattle.decoder.proofs.Clearing.{known-one, known-not, stays, goes}
 use Rattle.peeling.proofs.SymbolLaws.{zeroed-symbol}
-use Rattle.decoder.proofs.marks.clear_at.Statement.{statement}
-use Rattle.decoder.proofs.marks.clear_at.Tie as tie
+use Rattle.decoder.proofs.missing.clear_at.Statement.{statement}
+use Rattle.decoder.proofs.missing.clear_at.Tie as tie
 
 slice-read-if1 : tie.Need-slice-read-if1
 slice-read-if1 c = search needs
 
 returns : tie.Need-returns
 returns c =
-    let h = heard-one (c .before .before .before .before .args .marks .now) (c .before .before .before .before .args .i) (c .if1 .taken) in
+    let h = known-one (c .before .before .before .before .args .states .now) (c .before .before .before .before .args .i) (c .if1 .taken) in
     (stays _ _ _ h, stays _ _ _ h)
 
-slice-write-marks : tie.Need-slice-write-marks
-slice-write-marks c = search needs
+slice-write-states : tie.Need-slice-write-states
+slice-write-states c = search needs
 
 mul-at : tie.Need-mul-at
 mul-at c = search needs
@@ -46,7 +46,7 @@ returns-2 : tie.Need-returns-2
 returns-2 c =
     let s = c .before .before .before .before .before .before .before .before in
     let a = s .args in
-    let h = heard-not (a .marks .now) (a .i) (c .before .before .before .before .if1 .left) in
+    let h = known-not (a .states .now) (a .i) (c .before .before .before .before .if1 .left) in
     (zeroed-symbol (a .symbols .now) (a .i) (a .w) (s .pre .1) _ (c .before .before .clear .ensures) ∙ goes _ _ _ h, goes _ _ _ h)
 
 pub clear-at-spec : {M : Type 1} → statement M
@@ -55,7 +55,7 @@ clear-at-spec =
     (tie.spec
     slice-read-if1
     returns
-    slice-write-marks
+    slice-write-states
     mul-at
     add-clear
     sub-clear

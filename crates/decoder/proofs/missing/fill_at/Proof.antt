@@ -1,15 +1,15 @@
--- `decoder::marks::fill_at` meets its contract, by the mark at the position and by what it hangs on.
+-- `decoder::missing::fill_at` meets its contract, by the state at the position and by what it hangs on.
 -- Assumes nothing.
 use mathlib.Core.Path.{subst}
 use native.Mathlib.Omega.{arith}
 use lib.ListN.{length}
 use Rattle.algebra.proofs.Codeword.{slot}
 use Rattle.decoder.specs.Pivots.{DeterminedIs}
-use Rattle.decoder.proofs.Clearing.{heard-one, heard-not}
-use Rattle.decoder.proofs.Filling.{one-heard, one-settled, one-left}
+use Rattle.decoder.proofs.Clearing.{known-one, known-not}
+use Rattle.decoder.proofs.Filling.{one-known, one-settled, one-left}
 use borrow.Author.Needs.{needs}
-use Rattle.decoder.proofs.marks.fill_at.Statement.{statement}
-use Rattle.decoder.proofs.marks.fill_at.Tie as tie
+use Rattle.decoder.proofs.missing.fill_at.Statement.{statement}
+use Rattle.decoder.proofs.missing.fill_at.Tie as tie
 
 abbrev start : tie.Else1 → tie.Start
 start c = c .before .before .before .before .before .before
@@ -18,16 +18,16 @@ slice-read-if1 : tie.Need-slice-read-if1
 slice-read-if1 c = search needs
 
 returns : tie.Need-returns
-returns c = one-heard _ _ _ _ _ _ _ _ (heard-one (c .before .before .before .before .before .before .args .marks .now) (c .before .before .before .before .before .before .args .p) (c .if1 .taken))
+returns c = one-known _ _ _ _ _ _ _ _ (known-one (c .before .before .before .before .before .before .args .states .now) (c .before .before .before .before .before .before .args .p) (c .if1 .taken))
 
 determined-requires : tie.Need-determined-requires
 determined-requires c κs =
     let s = start c in
     let r = s .pre .0 in
-    ((r .few, r .fit), ((omega (arith, r .positions, s .pre .1 .0 .0), r .plan-size), s .pre .1 .1 (heard-not (s .args .marks .now) (s .args .p) (c .if1 .left))))
+    ((r .few, r .fit), ((omega (arith, r .positions, s .pre .1 .0 .0), r .plan-size), s .pre .1 .1 (known-not (s .args .states .now) (s .args .p) (c .if1 .left))))
 
-slice-write-marks : tie.Need-slice-write-marks
-slice-write-marks c = search needs
+slice-write-states : tie.Need-slice-write-states
+slice-write-states c = search needs
 
 same-length : tie.Need-same-length
 same-length c = search needs
@@ -36,13 +36,13 @@ returns-2 : tie.Need-returns-2
 returns-2 c =
     let e = c .before .before in
     let s = start e in
-    one-settled _ _ _ _ _ _ (s .args .marks .now) _ (heard-not (s .args .marks .now) (s .args .p) (e .if1 .left)) (s .pre .1 .0 .0)
+    one-settled _ _ _ _ _ _ (s .args .states .now) _ (known-not (s .args .states .now) (s .args .p) (e .if1 .left)) (s .pre .1 .0 .0)
     (subst (DeterminedIs _ _ _ _) (c .if2 .taken) (c .before .determined .ensures))
 
 clear-at-requires : tie.Need-clear-at-requires
 clear-at-requires c κs =
     let s = start (c .before .before .before .before) in
-    (s .pre .1 .0 .0, omega (arith, slot (s .args .p) (length (s .args .marks .now)) (s .args .w) (s .pre .1 .0 .0), s .pre .1 .0 .1))
+    (s .pre .1 .0 .0, omega (arith, slot (s .args .p) (length (s .args .states .now)) (s .args .w) (s .pre .1 .0 .0), s .pre .1 .0 .1))
 
 same-length-2 : tie.Need-same-length-2
 same-length-2 c = search needs
@@ -56,8 +56,8 @@ returns-3 c =
     let f = k .before .before .before in
     let e = f .before .before in
     let s = start e in
-    one-left _ _ _ _ _ _ (s .args .marks .now) _ (heard-not (s .args .marks .now) (s .args .p) (e .if1 .left)) (s .pre .1 .0 .0)
-    (omega (arith, slot (s .args .p) (length (s .args .marks .now)) (s .args .w) (s .pre .1 .0 .0), s .pre .1 .0 .1))
+    one-left _ _ _ _ _ _ (s .args .states .now) _ (known-not (s .args .states .now) (s .args .p) (e .if1 .left)) (s .pre .1 .0 .0)
+    (omega (arith, slot (s .args .p) (length (s .args .states .now)) (s .args .w) (s .pre .1 .0 .0), s .pre .1 .0 .1))
     (subst (DeterminedIs _ _ _ _) (f .if2 .left) (f .before .determined .ensures)) _ _ (k .clear-at .ensures .0) (k .clear-at .ensures .1)
 
 pub fill-at-spec : {M : Type 1} → statement M
@@ -67,7 +67,7 @@ fill-at-spec =
     slice-read-if1
     returns
     determined-requires
-    slice-write-marks
+    slice-write-states
     same-length
     returns-2
     clear-at-requires

@@ -1,19 +1,19 @@
--- `decoder::marks::fill_determined` meets its contract. The invariant: the first i positions are filled.
+-- `decoder::missing::fill_determined` meets its contract. The invariant: the first i positions are filled.
 -- Assumes nothing.
 use mathlib.Core.Path.{_≡_, refl, sym, ap, _∙_}
 use Prim.Native.Nat.{ℕ, _-_, _*_, _≤_, _<_}
 use native.Mathlib.Omega.{arith}
 use lib.ListN.{length}
-use Rattle.decoder.proofs.Filling.{room-same, same-heard, FilledTo, filled-none, filled-more}
-use Rattle.decoder.proofs.marks.fill_determined.Statement.{statement}
-use Rattle.decoder.proofs.marks.fill_determined.Tie as tie
+use Rattle.decoder.proofs.Filling.{room-same, same-known, FilledTo, filled-none, filled-more}
+use Rattle.decoder.proofs.missing.fill_determined.Statement.{statement}
+use Rattle.decoder.proofs.missing.fill_determined.Tie as tie
 
 abbrev Inv-loop : tie.InvT-loop
-Inv-loop w early packed rows plan words symbols₀ marks₀ i₀ symbols marks i =
-    (i ≤ length marks₀) × (length symbols ≡ length symbols₀) × (length marks ≡ length marks₀) × FilledTo w early packed words plan symbols₀ marks₀ symbols marks i
+Inv-loop w early packed rows plan words symbols₀ states₀ i₀ symbols states i =
+    (i ≤ length states₀) × (length symbols ≡ length symbols₀) × (length states ≡ length states₀) × FilledTo w early packed words plan symbols₀ states₀ symbols states i
 
 abbrev μ-loop : tie.MeasureT-loop
-μ-loop w early packed rows plan words symbols₀ marks₀ i₀ symbols marks i = length marks₀ - i
+μ-loop w early packed rows plan words symbols₀ states₀ i₀ symbols states i = length states₀ - i
 
 loop-holds : tie.Need-loop-holds Inv-loop μ-loop
 loop-holds c = (omega arith, refl, refl, filled-none _ _ _ _ _ _ _)
@@ -22,11 +22,11 @@ fill-at-requires : tie.Need-fill-at-requires Inv-loop μ-loop
 fill-at-requires c κs =
     let l = c .before .before .before .loop in
     let s = c .before .before .before .before .before .before .before .before in
-    let h : l .i < length (s .args .marks .now) = omega arith in (
+    let h : l .i < length (s .args .states .now) = omega arith in (
       room-same (s .pre .0) (l .inv .2),
       (
         (omega arith, l .inv .1 ∙ s .pre .1 .0 ∙ ap (λ (n : ℕ). n * s .args .w) (sym (l .inv .2))),
-        λ e. s .pre .1 .1 (l .i) h (sym (same-heard (l .inv .3 .rest (l .i) (omega arith))) ∙ e),
+        λ e. s .pre .1 .1 (l .i) h (sym (same-known (l .inv .3 .rest (l .i) (omega arith))) ∙ e),
       ),
     )
 
@@ -51,7 +51,7 @@ same-length-2 c = c .before .loop .inv .2
 returns : tie.Need-returns Inv-loop μ-loop
 returns c =
     let l = c .before .loop in
-    record { symbols-size = l .inv .1; marks-size = l .inv .2; each = λ i h. l .inv .3 .done i (omega arith) }
+    record { symbols-size = l .inv .1; states-size = l .inv .2; each = λ i h. l .inv .3 .done i (omega arith) }
 
 pub fill-determined-spec : {M : Type 1} → statement M
 fill-determined-spec =

@@ -1,21 +1,21 @@
--- `decoder::marks::clear_missing` meets its contract.
+-- `decoder::missing::clear_missing` meets its contract.
 -- Assumes nothing.
 use mathlib.Core.Path.{_≡_, refl, _∙_, subst}
 use Prim.Native.Nat.{_-_, _≤_, _<_}
 use native.Mathlib.Omega.{arith}
 use lib.ListN.{length}
 use Rattle.algebra.proofs.Codeword.{slot}
-use Rattle.decoder.specs.Marks.{Cleared}
+use Rattle.decoder.specs.MissingPositions.{Cleared}
 use Rattle.decoder.proofs.Clearing.{cleared-none, cleared-more}
-use Rattle.decoder.proofs.marks.clear_missing.Statement.{statement}
-use Rattle.decoder.proofs.marks.clear_missing.Tie as tie
+use Rattle.decoder.proofs.missing.clear_missing.Statement.{statement}
+use Rattle.decoder.proofs.missing.clear_missing.Tie as tie
 
 abbrev Inv-loop : tie.InvT-loop
-Inv-loop w symbols₀ marks₀ i₀ symbols marks i =
-    (i ≤ length marks₀) × (length symbols ≡ length symbols₀) × (length marks ≡ length marks₀) × Cleared w symbols₀ marks₀ symbols marks i
+Inv-loop w symbols₀ states₀ i₀ symbols states i =
+    (i ≤ length states₀) × (length symbols ≡ length symbols₀) × (length states ≡ length states₀) × Cleared w symbols₀ states₀ symbols states i
 
 abbrev μ-loop : tie.MeasureT-loop
-μ-loop w symbols₀ marks₀ i₀ symbols marks i = length marks₀ - i
+μ-loop w symbols₀ states₀ i₀ symbols states i = length states₀ - i
 
 loop-holds : tie.Need-loop-holds Inv-loop μ-loop
 loop-holds c = (omega arith, refl, refl, cleared-none _ _ _)
@@ -24,8 +24,8 @@ clear-at-requires : tie.Need-clear-at-requires Inv-loop μ-loop
 clear-at-requires c κs =
     let l = c .before .before .before .loop in
     let s = c .before .before .before .before .before .before in
-    let h : l .i < length (s .args .marks .now) = omega arith in
-    (omega arith, omega (arith, slot (l .i) (length (s .args .marks .now)) (s .args .w) h))
+    let h : l .i < length (s .args .states .now) = omega arith in
+    (omega arith, omega (arith, slot (l .i) (length (s .args .states .now)) (s .args .w) h))
 
 add-i : tie.Need-add-i Inv-loop μ-loop
 add-i c = omega arith
@@ -39,11 +39,11 @@ loop-again c =
     let s = c .before .before .before .before .before .before .before .before .before .before .before in
     let a = s .args in
     let k = c .before .before .before .before .clear-at in
-    let h : l .i < length (a .marks .now) = omega arith in (
+    let h : l .i < length (a .states .now) = omega arith in (
       omega arith,
       k .kept .1 .0 ∙ l .inv .1,
       k .kept .1 .1 .0 ∙ l .inv .2,
-      cleared-more (length (a .marks .now)) (a .w) (a .symbols .now) (a .marks .now) (l .symbols) (l .marks) (l .i) h (l .inv .1 ∙ s .pre) (l .inv .2) (l .inv .3) _ _ (k .ensures .0) (k .ensures .1),
+      cleared-more (length (a .states .now)) (a .w) (a .symbols .now) (a .states .now) (l .symbols) (l .states) (l .i) h (l .inv .1 ∙ s .pre) (l .inv .2) (l .inv .3) _ _ (k .ensures .0) (k .ensures .1),
     )
 
 same-length : tie.Need-same-length Inv-loop μ-loop
@@ -55,7 +55,7 @@ same-length-2 c = c .before .loop .inv .2
 returns : tie.Need-returns Inv-loop μ-loop
 returns c =
     let l = c .before .loop in
-    let h : l .i ≡ length (c .before .before .before .before .args .marks .now) = omega arith in
+    let h : l .i ≡ length (c .before .before .before .before .args .states .now) = omega arith in
     subst (Cleared _ _ _ _ _) h (l .inv .3)
 
 pub clear-missing-spec : {M : Type 1} → statement M
