@@ -103,7 +103,7 @@ inconsistent-iff (a ∷ (a′ ∷ l)) = (λ e. absurd (ambiguous-inconsistent e)
 -- ---- the symbols afterwards
 
 module _ (c : Checks) (w : ℕ) (known : ℕ → Bool) (s : List ℕ) where
-  byte-at : (i b : ℕ) → i < c .n → b < w → byteAt w (filledSymbols c w known s) b i ≡ filledByte c w known s b i
+  pub byte-at : (i b : ℕ) → i < c .n → b < w → byteAt w (filledSymbols c w known s) b i ≡ filledByte c w known s b i
   unfolding filledSymbols
   byte-at i b h l =
       getD-tab (c .n * w) (λ t. filledByte c w known s (t % w) (t / w)) 0 (i * w + b) (digits-lt h l)

@@ -1,6 +1,6 @@
 -- Arrays that are filled from the front.
 -- Assumes nothing.
-use mathlib.Core.Path.{_≡_, sym, ap, _∙_}
+use mathlib.Core.Path.{_≡_, refl, sym, ap, _∙_}
 use mathlib.Core.List.{List}
 use Prim.Native.Nat.{ℕ, _+_, _<_, _≤_}
 use native.Mathlib.Nat.{not-suc-le-zero}
@@ -39,3 +39,19 @@ module _ {f : ℕ → ℕ} {n : ℕ} {t : List ℕ} where
 
   pub filled-all : {i : ℕ} → Filled f n i t → n ≤ i → (b : ℕ) → b < n → getD t b 0 ≡ f b
   filled-all h g b k = h .each b (omega arith)
+
+-- the first i elements of l are changed to what f says, and the others are as they were
+pub record Changed (f : ℕ → ℕ) (l t : List ℕ) (i : ℕ) : Type 0 where
+  pub size : length t ≡ length l
+  pub done : (k : ℕ) → k < i → getD t k 0 ≡ f k
+  pub rest : (k : ℕ) → i ≤ k → getD t k 0 ≡ getD l k 0
+
+pub changed-none : (f : ℕ → ℕ) (l : List ℕ) → Changed f l l 0
+changed-none f l = record { size = refl; done = λ k h. absurd (not-suc-le-zero h); rest = λ k h. refl }
+
+pub changed-more : {f : ℕ → ℕ} {l t : List ℕ} {i : ℕ} (v : ℕ) → Changed f l t i → i < length l → v ≡ f i → Changed f l (set t i v) (i + 1)
+changed-more {f} {l} {t} {i} v C h e = record {
+  size = length-set t i v ∙ C .size;
+  done = front-more f t i v (omega (arith, C .size)) (C .done) e;
+  rest = λ k g. getD-set-other t i k v 0 (λ q. omega arith) ∙ C .rest k (omega arith);
+}

@@ -11,7 +11,8 @@ use Rattle.ccsds.specs.Codes.{nOf}
 use Rattle.ccsds.specs.Tables.{codeOf}
 use Rattle.ccsds.specs.Refusals.{firstOf, wrongCode, wrongWidth, wrongLabel, wrongLength, bytesOf}
 use Rattle.ccsds.proofs.Refusals.{or-false, length-right, length-same, length-wrong, bytes-right, first-is, first-on, first-end, first-none}
-use Rattle.block.specs.Block.{checks, wrongBuffers, blockRefusal, wrongMark}
+use Rattle.block.specs.Block.{checks, wrongBuffers, blockRefusal}
+use Rattle.block.specs.Status.{wrongMark}
 use Rattle.block.specs.Close.{wrongMarks}
 use Rattle.block.specs.declared.Block.{Block}
 

@@ -10,8 +10,8 @@ use lib.ListN.{length, getD, drop}
 use lib.Seq.{drop-cons, drop-length}
 use lib.Dec.{ltb}
 use borrow.Author.Tests.{ltb-true, ltb-false, lt-ltb, le-ltb, eq-eqb, ne-eqb}
-use Rattle.algebra.specs.Closing.{count}
-use Rattle.block.specs.Block.{wrongMark}
+use Rattle.algebra.specs.Lists.{count}
+use Rattle.block.specs.Status.{wrongMark}
 use Rattle.block.specs.Close.{wrongMarks}
 
 or-false : (a : Bool) → a || false ≡ a

@@ -13,9 +13,10 @@ use Rattle.ccsds.specs.Tables.{codeOf}
 use Rattle.ccsds.specs.Refusals.{wrongPosition, wrongSymbol, Outcome, refused, answered, outcome, _⟫_}
 use Rattle.ccsds.specs.Reader.{Parts, readUnit}
 use Rattle.ccsds.proofs.Refusals.{or-false, first-is, first-on, first-end, first-none, refused-by, answered-by}
-use Rattle.block.specs.Block.{checks, blockRefusal, wrongMark}
+use Rattle.block.specs.Block.{checks, blockRefusal}
+use Rattle.block.specs.Status.{heardMark, filledMark, wrongMark, Status, heard, missing, statusOf, statusBy}
 use Rattle.algebra.specs.Codeword.{symbolAt}
-use Rattle.block.specs.Take.{wrongParameters, foreign, unitRefusal, Placed, admission, Arrival, kept, repeated, Take, sameBytes, stored, unchanged, arrival, takeAdmitted, takeBy, takeOf}
+use Rattle.block.specs.Take.{wrongParameters, foreign, unitRefusal, Placed, admission, Arrival, kept, repeated, Take, sameBytes, stored, unchanged, takeAt, arrival, takeAdmitted, takeBy, takeOf}
 use Rattle.block.specs.declared.Block.{Block}
 use Rattle.block.proofs.BlockRefusal.{checks-n}
 
@@ -112,22 +113,14 @@ module _ (b : Block) (unit : List ℕ) where
 -- ---- an admitted unit, by the mark at its position
 
 module _ (b : Block) (symbols marks : List ℕ) (x : Placed) where
-  pub at-wrong : 2 < getD marks (x .position) 0 → arrival b symbols marks x ≡ unchanged b symbols marks (refused 11)
-  unfolding arrival wrongMark
-  at-wrong h = rw (lt-ltb 2 (getD marks (x .position) 0) h)
+  pub at-wrong : wrongMark (getD marks (x .position) 0) ≡ true → arrival b symbols marks x ≡ unchanged b symbols marks (refused 11)
+  unfolding arrival
+  at-wrong h = rw h
 
-  -- at mark 1
-  pub at-heard : getD marks (x .position) 0 ≡ 1
-      → arrival b symbols marks x ≡ unchanged b symbols marks (cond (sameBytes (symbolAt (b .w) symbols (x .position)) (x .symbol)) (answered repeated) (refused 12))
-  unfolding arrival wrongMark
-  at-heard e = rw e
-
-  -- at mark 0 or 2
-  pub at-new : getD marks (x .position) 0 ≤ 2 → (getD marks (x .position) 0 ≡ 1 → ⊥)
-      → arrival b symbols marks x
-      ≡ record { answer = answered kept; symbols = stored symbols (x .position * b .w) (x .symbol); marks = set marks (x .position) 1 }
-  unfolding arrival wrongMark
-  at-new h n = rw (le-ltb 2 (getD marks (x .position) 0) h, ne-eqb (getD marks (x .position) 0) 1 n)
+  pub at-right : wrongMark (getD marks (x .position) 0) ≡ false → (s : Status) → statusOf b marks (x .position) ≡ s
+      → arrival b symbols marks x ≡ takeAt b symbols marks x s
+  unfolding arrival
+  at-right h s e = rw (h, e)
 
 -- ---- a take, by the refusal of the block and by admission
 

@@ -3,8 +3,6 @@
 use mathlib.Core.Bool.{Bool, _||_}
 use mathlib.Core.List.{List, [], _∷_}
 use Prim.Native.Nat.{ℕ, _*_}
-use lib.Dec.{ltb}
-use lib.ListN.{take, drop}
 use Rattle.algebra.specs.Codeword.{Checks}
 use Rattle.ccsds.specs.Codes.{checksOf}
 use Rattle.ccsds.specs.Tables.{codeOf}
@@ -29,7 +27,3 @@ blockRefusal b symbols marks =
     ∷ (wrongBuffers b symbols marks, 4)
     ∷ []
     )
-
--- 11, mark: above 2
-unfoldable pub wrongMark : ℕ → Bool
-wrongMark mark = ltb 2 mark

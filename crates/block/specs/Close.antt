@@ -1,12 +1,14 @@
--- Document 01, "Open, take, close": close, by the codewords that agree with the heard symbols (`Closing` of algebra).
+-- Document 01, "Open, take, close": close, by the codewords that agree with the heard symbols (`agreeing` of algebra).
 -- Assumes nothing.
 use mathlib.Core.Bool.{Bool, false, _||_}
 use mathlib.Core.List.{List, [], _∷_}
 use Prim.Native.Nat.{ℕ, _+_, _*_, _/_}
 use lib.ListN.{length, replicate}
-use Rattle.algebra.specs.Closing.{Verdict, whole, ambiguous, inconsistent, verdict, symbolsAfter, marksAfter, count}
+use Rattle.algebra.specs.Lists.{tab, count}
+use Rattle.algebra.specs.Agreeing.{Verdict, whole, ambiguous, inconsistent, agreeing, verdictOf, determined, filledSymbols}
 use Rattle.ccsds.specs.Refusals.{firstOf, wrongCode, wrongWidth, wrongLabel, wrongLength, Outcome, refused, answered, outcome, afterwards}
-use Rattle.block.specs.Block.{checks, wrongBuffers, wrongMark}
+use Rattle.block.specs.Block.{checks, wrongBuffers}
+use Rattle.block.specs.Status.{missingMark, heardMark, filledMark, wrongMark, statusOf, known, markAfter}
 use Rattle.block.specs.declared.Block.{Block}
 use Rattle.block.specs.declared.close.Verdict as coded-verdict
 use Rattle.block.specs.declared.close.Verdict.the-variants.{Whole, Ambiguous, Inconsistent}
@@ -31,7 +33,23 @@ pub record Report : Type 0 where
   pub left : ℕ
 
 abbrev pub reportOf : Verdict → List ℕ → Report
-reportOf v marks = record { verdict = v; heard = count 1 marks; filled = count 2 marks; left = count 0 marks }
+reportOf v marks = record { verdict = v; heard = count heardMark marks; filled = count filledMark marks; left = count missingMark marks }
+
+-- ---- the verdict
+
+module _ (b : Block) (symbols marks : List ℕ) where
+  -- all codewords that agree with the heard symbols
+  unfoldable pub candidates : List (List ℕ)
+  candidates = agreeing (checks b) (b .w) (known b marks) symbols
+
+  -- Heard positions stay as they are; those where all candidates have the same symbol get it and mark 2; all others get zero bytes and mark 0.
+  unfoldable pub symbolsAfter : List ℕ
+  symbolsAfter = filledSymbols (checks b) (b .w) (known b marks) symbols
+
+  unfoldable pub marksAfter : List ℕ
+  marksAfter = tab (checks b .n) (λ i. markAfter (statusOf b marks i) (determined (b .w) candidates i))
+
+-- ---- close
 
 -- what close answers, and what its four lent buffers hold after it
 pub record Close : Type 0 where
@@ -57,9 +75,9 @@ module _ (b : Block) (symbols marks words bytes : List ℕ) where
   -- the work buffers are all zero after a verdict
   unfoldable pub closeOf : Close
   closeOf = record {
-    answer = outcome closeRefusal (reportOf (verdict (checks b) (b .w) symbols marks) (marksAfter (checks b) (b .w) symbols marks));
-    symbols = afterwards closeRefusal (symbolsAfter (checks b) (b .w) symbols marks) symbols;
-    marks = afterwards closeRefusal (marksAfter (checks b) (b .w) symbols marks) marks;
+    answer = outcome closeRefusal (reportOf (verdictOf (candidates b symbols marks)) (marksAfter b symbols marks));
+    symbols = afterwards closeRefusal (symbolsAfter b symbols marks) symbols;
+    marks = afterwards closeRefusal (marksAfter b symbols marks) marks;
     words = afterwards closeRefusal (replicate (length words) 0) words;
     bytes = afterwards closeRefusal (replicate (length bytes) 0) bytes;
   }

@@ -9,7 +9,8 @@ use lib.ListN.{length, getD, take, drop, set}
 use Rattle.ccsds.specs.Tables.{codeOf}
 use Rattle.ccsds.specs.Refusals.{firstOf, wrongPosition, wrongSymbol, Outcome, refused, answered, outcome, _⟫_}
 use Rattle.ccsds.specs.Reader.{Coding, Parts, readUnit}
-use Rattle.block.specs.Block.{checks, blockRefusal, wrongMark}
+use Rattle.block.specs.Block.{checks, blockRefusal}
+use Rattle.block.specs.Status.{heardMark, wrongMark, Status, heard, missing, statusOf}
 use Rattle.algebra.specs.Codeword.{symbolAt}
 use Rattle.block.specs.declared.Block.{Block}
 use Rattle.block.specs.declared.take.Taken.{Taken}
@@ -75,13 +76,14 @@ module _ (b : Block) (symbols marks : List ℕ) where
   abbrev pub unchanged : Outcome Arrival → Take
   unchanged a = record { answer = a; symbols = symbols; marks = marks }
 
-  -- an admitted unit, by the mark at its position: 11; at mark 1 repeated or 12; at mark 0 or 2 kept
+  -- an admitted unit, by the status of its position: at a heard one repeated or 12, at a missing one kept
+  abbrev pub takeAt : Placed → Status → Take
+  takeAt x heard = unchanged (cond (sameBytes (symbolAt (b .w) symbols (x .position)) (x .symbol)) (answered repeated) (refused 12))
+  takeAt x missing = record { answer = answered kept; symbols = stored symbols (x .position * b .w) (x .symbol); marks = set marks (x .position) heardMark }
+
+  -- 11 by the mark there
   unfoldable pub arrival : Placed → Take
-  arrival x =
-      cond (wrongMark (getD marks (x .position) 0)) (unchanged (refused 11))
-      (cond (eqb (getD marks (x .position) 0) 1)
-      (unchanged (cond (sameBytes (symbolAt (b .w) symbols (x .position)) (x .symbol)) (answered repeated) (refused 12)))
-      (record { answer = answered kept; symbols = stored symbols (x .position * b .w) (x .symbol); marks = set marks (x .position) 1 }))
+  arrival x = cond (wrongMark (getD marks (x .position) 0)) (unchanged (refused 11)) (takeAt x (statusOf b marks (x .position)))
 
   -- by admission
   abbrev pub takeAdmitted : Outcome Placed → Take

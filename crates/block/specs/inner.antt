@@ -1,2 +1,3 @@
+pub mod States
 pub mod Ready
 pub mod Steps

@@ -1,13 +1,17 @@
 // Close.
 use crate::Block;
 use crate::checks;
+use crate::status;
 use ccsds::code::Code;
 ghost use mathlib.Core.Path.{_≡_};
 ghost use Prim.Native.Nat.{ℕ, _<_, _≤_};
 ghost use lib.ListN.{length, getD};
-ghost use Rattle.algebra.specs.Closing.{count};
+ghost use Rattle.algebra.specs.Lists.{count};
+ghost use Rattle.algebra.specs.Agreeing.{verdictOf};
 ghost use Rattle.decoder.specs.Outcome.{verdictBy};
-ghost use Rattle.block.specs.Close.{wrongMarks, reportOf, closeRefusal, closeOf, verdictAs, reportAs, closedAs};
+ghost use Rattle.block.specs.Status.{missingMark, heardMark, filledMark};
+ghost use Rattle.block.specs.Close.{wrongMarks, reportOf, candidates, symbolsAfter, marksAfter, closeRefusal, closeOf, verdictAs, reportAs, closedAs};
+ghost use Rattle.block.specs.inner.Ready.{Ready};
 
 pub enum Verdict {
     Whole,
@@ -42,7 +46,7 @@ fn wrong_marks(marks: &[u8]) -> bool
         }
         i += 1;
     }
-    top > 2
+    status::wrong(top)
 }
 
 // The number of close's refusal, or 0.
@@ -66,23 +70,23 @@ fn check_close(b: Block, symbols: &[u8], marks: &[u8], words: &[u64], bytes: &[u
     0
 }
 
-// How many marks are 1, and how many are 2.
+// How many positions are heard, and how many are filled.
 struct Counts {
     heard: usize,
     filled: usize,
 }
 
 fn count_marks(marks: &[u8]) -> Counts
-    ensures { λ r. ⌜ (r .heard ≡ count 1 (now (marks .entry))) × (r .filled ≡ count 2 (now (marks .entry))) ⌝ }
+    ensures { λ r. ⌜ (r .heard ≡ count heardMark (now (marks .entry))) × (r .filled ≡ count filledMark (now (marks .entry))) ⌝ }
 {
     let mut heard = 0;
     let mut filled = 0;
     let mut i = 0;
     while i < marks.len() {
-        if marks[i] == 1 {
+        if marks[i] == status::HEARD {
             heard += 1;
         }
-        if marks[i] == 2 {
+        if marks[i] == status::FILLED {
             filled += 1;
         }
         i += 1;
@@ -106,7 +110,7 @@ fn verdict_by(ok: bool, left: usize) -> Verdict
 // The report, from the marks afterwards.
 fn tell(ok: bool, marks: &[u8]) -> Report
     requires { ⌜ ((i : ℕ) → i < length (now marks) → getD (now marks) i 0 ≤ 2) ⌝ }
-    ensures { λ r. ⌜ reportAs r ≡ reportOf (verdictBy ok (count 0 (now (marks .entry)))) (now (marks .entry)) ⌝ }
+    ensures { λ r. ⌜ reportAs r ≡ reportOf (verdictBy ok (count missingMark (now (marks .entry)))) (now (marks .entry)) ⌝ }
 {
     let counts = count_marks(marks);
     let heard = counts.heard;
@@ -119,6 +123,34 @@ fn tell(ok: bool, marks: &[u8]) -> Report
         filled,
         left,
     }
+}
+
+// The symbols and marks of a block after the verdict; false where no codeword agrees with the heard symbols.
+fn decode(
+    b: Block,
+    symbols: &mut [u8],
+    marks: &mut [u8],
+    states: &mut [u8],
+    words: &mut [u64],
+    bytes: &mut [u8],
+) -> bool
+    requires { ⌜ Ready b (length (now symbols)) (length (now marks)) (length (now words)) (length (now bytes)) ⌝ }
+    requires { ⌜ length (now states) ≡ length (now marks) ⌝ }
+    ensures { λ _. ⌜ now (symbols .exit) ≡ symbolsAfter b (now (symbols .entry)) (now (marks .entry)) ⌝ }
+    ensures { λ _. ⌜ now (marks .exit) ≡ marksAfter b (now (symbols .entry)) (now (marks .entry)) ⌝ }
+    ensures { λ ok. ⌜ verdictBy ok (count missingMark (now (marks .exit))) ≡ verdictOf (candidates b (now (symbols .entry)) (now (marks .entry))) ⌝ }
+{
+    status::tell(b, marks, states);
+    let ok = decoder::solve::solve(b.code, b.w, symbols, states, words, bytes);
+    status::set_marks(b, states, marks);
+    ok
+}
+
+// What the decoder is told of each position, before anything is told.
+fn blank() -> [u8; 3072]
+    ensures { λ r. ⌜ length r ≡ 3072 ⌝ }
+{
+    [0u8; 3072]
 }
 
 // Closes the block: the verdict with its counts, or a refusal, which changes nothing. The work buffers may hold anything.
@@ -139,7 +171,9 @@ pub fn close(
     if refusal != 0 {
         return Closed::Refused(refusal);
     }
-    let ok = decoder::solve::solve(b.code, b.w, symbols, marks, words, bytes);
+    let n = marks.len();
+    let mut states = blank();
+    let ok = decode(b, symbols, marks, &mut states[..n], words, bytes);
     buffers::clear_words(words);
     buffers::clear(bytes);
     Closed::Told(tell(ok, marks))

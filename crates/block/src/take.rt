@@ -1,6 +1,8 @@
 // Take.
 use crate::Block;
 use crate::checks;
+use crate::status;
+use crate::status::Status;
 use ccsds::code::Code;
 use unit_claims::expected::Expected;
 use ccsds::reader::Extension;
@@ -115,19 +117,23 @@ fn arrive(b: Block, symbols: &mut [u8], marks: &mut [u8], position: usize, symbo
 {
     let w = b.w;
     let mark = marks[position];
-    if mark > 2 {
+    if status::wrong(mark) {
         return Taken::Refused(11);
     }
     let at = position * w;
-    if mark == 1 {
-        if check::same(&symbols[at..at + w], symbol) {
-            return Taken::Repeated;
+    match status::of(mark) {
+        Status::Heard => {
+            if check::same(&symbols[at..at + w], symbol) {
+                return Taken::Repeated;
+            }
+            Taken::Refused(12)
         }
-        return Taken::Refused(12);
+        Status::Missing => {
+            marks[position] = status::HEARD;
+            buffers::put_from(symbols, at, symbol, 0, w);
+            Taken::Kept
+        }
     }
-    marks[position] = 1;
-    buffers::put_from(symbols, at, symbol, 0, w);
-    Taken::Kept
 }
 
 // Takes one unit: kept, repeated, or a refusal. Only a kept one changes the block.

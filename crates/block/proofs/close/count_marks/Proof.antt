@@ -5,7 +5,7 @@ use mathlib.Core.Logic.{⊎-elim}
 use Prim.Native.Nat.{_+_, _-_, _≤_, _<_}
 use native.Mathlib.Omega.{arith}
 use lib.ListN.{length, drop}
-use Rattle.algebra.specs.Closing.{count}
+use Rattle.algebra.specs.Lists.{count}
 use Rattle.block.proofs.Marks.{count-end, count-one, count-other}
 use Rattle.block.proofs.close.count_marks.Statement.{statement}
 use Rattle.block.proofs.close.count_marks.Tie as tie

@@ -4,7 +4,7 @@ use mathlib.Core.Path.{_≡_}
 use Prim.Native.Nat.{_+_, _-_}
 use native.Mathlib.Omega.{arith}
 use lib.ListN.{length}
-use Rattle.algebra.specs.Closing.{count}
+use Rattle.algebra.specs.Lists.{count}
 use Rattle.algebra.proofs.Counts.{count-all}
 use Rattle.block.specs.Close.{verdictAs}
 use Rattle.block.proofs.Closing.{told}

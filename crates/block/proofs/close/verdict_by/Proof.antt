@@ -4,7 +4,7 @@ use mathlib.Core.Path.{_≡_, refl, sym}
 use mathlib.Core.Bool.{Bool, true, false, not, false≢true}
 use Prim.Native.Nat.{ℕ, zero, suc}
 use native.Mathlib.Nat.{suc-ne-zero}
-use Rattle.algebra.specs.Closing.{whole, ambiguous, inconsistent}
+use Rattle.algebra.specs.Agreeing.{whole, ambiguous, inconsistent}
 use Rattle.decoder.specs.Outcome.{verdictBy}
 use Rattle.block.proofs.close.verdict_by.Statement.{statement}
 use Rattle.block.proofs.close.verdict_by.Tie as tie

@@ -1,0 +1,54 @@
+-- Document 01, "Open, take, close": the marks of a block (0 missing, 1 heard, 2 filled), and the status of a position by them. Nothing else compares a
+-- mark with a number.
+-- Assumes nothing.
+use mathlib.Core.Bool.{Bool, true, false, cond}
+use mathlib.Core.List.{List}
+use Prim.Native.Nat.{ℕ}
+use lib.Dec.{eqb, ltb}
+use lib.ListN.{getD}
+use Rattle.block.specs.declared.Block.{Block}
+use Rattle.block.specs.declared.status.Status as coded
+use Rattle.block.specs.declared.status.Status.the-variants.{Heard, Missing}
+
+abbrev pub missingMark : ℕ
+missingMark = 0
+
+abbrev pub heardMark : ℕ
+heardMark = 1
+
+abbrev pub filledMark : ℕ
+filledMark = 2
+
+-- 11, mark: above 2
+unfoldable pub wrongMark : ℕ → Bool
+wrongMark mark = ltb filledMark mark
+
+-- what a position is: heard, or missing, whether an earlier close filled it or not
+pub data Status : Type 0 where
+  heard missing : Status
+
+-- by its mark
+abbrev pub statusBy : ℕ → Status
+statusBy mark = cond (eqb mark heardMark) heard missing
+
+-- the status of position i of a block
+abbrev pub statusOf : Block → List ℕ → ℕ → Status
+statusOf b marks i = statusBy (getD marks i 0)
+
+-- close knows the symbols of the heard positions
+abbrev pub isHeard : Status → Bool
+isHeard heard = true
+isHeard missing = false
+
+unfoldable pub known : Block → List ℕ → ℕ → Bool
+known b marks i = isHeard (statusOf b marks i)
+
+-- the mark after a verdict, by the status and by whether all codewords that agree have the same symbol there
+abbrev pub markAfter : Status → Bool → ℕ
+markAfter heard determined = heardMark
+markAfter missing determined = cond determined filledMark missingMark
+
+-- the cases of the status in the code
+abbrev pub statusAs : coded.Status → Status
+statusAs Heard = heard
+statusAs Missing = missing
