@@ -157,7 +157,8 @@ fn is_definition(crate_name: &str, rest: &str) -> bool {
 
 /// Whether a file of code declares an item: a function, a type or a constant; inside a type also a field or a case.
 fn declares(text: &str, name: &str, inside: bool) -> bool {
-    let begins = |line: &str, name: &str| line.strip_prefix(name).is_some_and(|rest| !rest.starts_with(|c: char| c.is_alphanumeric() || c == '_'));
+    let begins =
+        |line: &str, name: &str| line.strip_prefix(name).is_some_and(|rest| !rest.starts_with(|c: char| c.is_alphanumeric() || c == '_'));
     text.lines().map(str::trim_start).any(|line| {
         let line = line.strip_prefix("pub ").unwrap_or(line);
         let line = line.strip_prefix("extern \"C\" ").unwrap_or(line);
@@ -227,7 +228,8 @@ fn changes_code(name: &str) -> bool {
 
 /// The edits, as crate/name.
 fn edits() -> BTreeSet<String> {
-    let of_crate = |path: &PathBuf| folder(&path.join("must-fail")).iter().map(|edit| format!("{}/{}", stem(path), stem(edit))).collect::<Vec<_>>();
+    let of_crate =
+        |path: &PathBuf| folder(&path.join("must-fail")).iter().map(|edit| format!("{}/{}", stem(path), stem(edit))).collect::<Vec<_>>();
     folder(&root().join("crates")).iter().flat_map(of_crate).collect()
 }
 
@@ -319,6 +321,34 @@ fn edits_are_named() {
     println!("{} edits are named", edits.len());
 }
 
+/// README's table of crates has each crate and no other.
+#[test]
+fn crates_are_described() {
+    let readme = document("README.md");
+    let rows =
+        readme.lines().skip_while(|line| *line != "| crate | what it has | builds on |").skip(2).take_while(|line| line.starts_with('|'));
+    let described: BTreeSet<String> =
+        rows.flat_map(|row| row.split('|').nth(1).unwrap().split('`').skip(1).step_by(2)).map(str::to_owned).collect();
+    let crates: BTreeSet<String> = folder(&root().join("crates")).iter().map(|path| stem(path)).collect();
+    assert_eq!(described, crates);
+}
+
+/// The lines of README's blocks of code that are definitions stand so in specs.
+#[test]
+fn quoted_definitions_stand_in_specs() {
+    let specs: Vec<PathBuf> = folder(&root().join("crates")).iter().flat_map(|path| folder(&path.join("specs"))).collect();
+    let lines: BTreeSet<String> = specs
+        .iter()
+        .filter_map(|file| text(file))
+        .flat_map(|text| text.lines().map(|line| line.trim().to_owned()).collect::<Vec<_>>())
+        .collect();
+    let readme = document("README.md");
+    let quoted: Vec<&str> = readme.lines().filter(|line| line.starts_with("    ") && line.contains(['≡', '→'])).map(str::trim).collect();
+    assert!(quoted.len() >= 5, "only {} lines were found", quoted.len());
+    let wrong: Vec<&&str> = quoted.iter().filter(|line| !lines.contains(**line)).collect();
+    assert!(wrong.is_empty(), "README quotes lines that are not in specs: {wrong:#?}");
+}
+
 /// What names nothing is not passed over.
 #[test]
 fn wrong_names_are_found() {
@@ -337,7 +367,10 @@ fn wrong_names_are_found() {
         ("edits `algebra/first_verdict`", "an edit of a definition, and not said to be one"),
         ("edit of a definition `block/close_always_ambiguous`", "an edit of code, and said to be one of a definition"),
         ("| wrong code |\n|---|\n| `algebra/first_verdict` |", "an edit of a definition, and not said to be one"),
-        ("| x | wrong definition |\n|---|---|\n| | `block/close_always_ambiguous` |", "an edit of code, and said to be one of a definition"),
+        (
+            "| x | wrong definition |\n|---|---|\n| | `block/close_always_ambiguous` |",
+            "an edit of code, and said to be one of a definition",
+        ),
         ("test `written_units`", "not a test"),
         ("tests `units::sizes` and `units::report`", "not a test"),
         ("program `ccsds`", "not a program"),
