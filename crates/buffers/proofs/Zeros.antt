@@ -7,7 +7,6 @@ use native.Mathlib.Decide.{decLt}
 use native.Mathlib.Omega.{arith}
 use lib.ListN.{length, getD, drop, replicate, length-replicate, getD-replicate, List·getD-eq-default}
 use lib.Seq.{drop-length}
-use Rattle.buffers.specs.Gather.{Bytes}
 
 -- every element is 0, and so is what is read past the end
 pub zeros : (n i : ℕ) → _≡_ {A = ℕ} (getD (replicate n 0) i 0) 0
@@ -16,10 +15,6 @@ zeros n i = go (decLt i n)
     go : Dec (i < n) → _≡_ {A = ℕ} (getD (replicate n 0) i 0) 0
     go (yes h) = getD-replicate n i 0 0 h
     go (no h) = List·getD-eq-default (replicate n 0) 0 (omega (arith, length-replicate {A = ℕ} n 0))
-
--- 16 of them
-pub zero-bytes : {c : ℕ} → Bytes (λ b. 0) c (replicate 16 0)
-zero-bytes = record { size = length-replicate {A = ℕ} 16 0; each = λ b g. zeros 16 b }
 
 -- cleared as far as i, and i is the length: nothing of the old elements is left
 pub cleared : (p₀ p : List ℕ) (i : ℕ) → p ≡ replicate i 0 ++ drop i p₀ → i ≡ length p₀ → p ≡ replicate (length p₀) 0

@@ -1,6 +1,4 @@
 // Sums and copies on parts of lent byte buffers, and clearing. The loops go by index, so that they are compiled to vector instructions.
-pub mod gather;
-
 ghost use mathlib.Core.Path.{_≡_};
 ghost use Prim.Native.Nat.{_≤_, _+_};
 ghost use lib.ListN.{length, replicate};
@@ -9,7 +7,7 @@ ghost use Rattle.buffers.specs.AllZero.{AllZeroIs};
 
 // The 16 bytes of dst from index `at` on, each with the byte of src added that stands as far from index `from`. An array of its own overlaps with
 // nothing, and so short a loop is compiled to one vector instruction, without a test of whether dst and src overlap.
-fn sum_16(dst: &[u8], at: usize, src: &[u8], from: usize) -> [u8; 16]
+pub fn sum_16(dst: &[u8], at: usize, src: &[u8], from: usize) -> [u8; 16]
     requires { ⌜ (at + 16 ≤ length (now dst)) × (from + 16 ≤ length (now src)) ⌝ }
     ensures { λ r. ⌜ Sum (now (dst .entry)) at (now (src .entry)) from 16 r ⌝ }
 {
@@ -23,7 +21,7 @@ fn sum_16(dst: &[u8], at: usize, src: &[u8], from: usize) -> [u8; 16]
 }
 
 // Puts the bytes of t over those of dst from index `at` on.
-fn put_16(dst: &mut [u8], at: usize, t: &[u8; 16])
+pub fn put_16(dst: &mut [u8], at: usize, t: &[u8; 16])
     requires { ⌜ (at + 16 ≤ length (now dst)) × (length (now t) ≡ 16) ⌝ }
     ensures { λ _. ⌜ now (dst .exit) ≡ put (now (dst .entry)) at (now (t .entry)) 0 16 ⌝ }
 {
@@ -56,7 +54,7 @@ fn add_within_64(buf: &mut [u8], at: usize, from: usize)
 }
 
 // The 16 bytes of src from index `from` on.
-fn part_16(src: &[u8], from: usize) -> [u8; 16]
+pub fn part_16(src: &[u8], from: usize) -> [u8; 16]
     requires { ⌜ from + 16 ≤ length (now src) ⌝ }
     ensures { λ r. ⌜ Part (now (src .entry)) from 16 r ⌝ }
 {

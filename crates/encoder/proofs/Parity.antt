@@ -16,7 +16,7 @@ use Rattle.algebra.specs.Staircase.{before, parity, parityBytes}
 use Rattle.algebra.proofs.Sums as sums
 use Rattle.algebra.proofs.Lists.{length-tab, getD-tab}
 use Rattle.algebra.proofs.Codeword.{slot}
-use Rattle.buffers.specs.Gather.{gathered, Inside, Replaced}
+use Rattle.symbol_sums.specs.Gather.{gathered, Inside, Replaced}
 use Rattle.ccsds.specs.Codes.{Params, touches, encodeOf}
 use Rattle.encoder.specs.inner.Positions.{Information}
 use Rattle.encoder.specs.inner.Steps.{Done}

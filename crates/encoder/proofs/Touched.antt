@@ -12,7 +12,7 @@ use lib.Dec.{eqb}
 use lib.ListN.{length, getD, length-map}
 use borrow.Author.Tests.{eq-eqb, ne-eqb, eqb-true}
 use Rattle.algebra.specs.Sums.{_⊕_, sum}
-use Rattle.buffers.specs.Gather.{gathered}
+use Rattle.symbol_sums.specs.Gather.{gathered}
 use Rattle.algebra.proofs.Sums as sums
 use Rattle.algebra.proofs.Codeword.{slot}
 use Rattle.ccsds.specs.Codes.{Params, rowOf, place, hits, touches}

@@ -19,7 +19,7 @@ use Rattle.algebra.specs.Staircase.{stair, staircase, before}
 use Rattle.algebra.proofs.Sums as sums
 use Rattle.algebra.proofs.Lists.{getD-tab}
 use Rattle.algebra.proofs.Staircase.{has-info, has-parity, check-row}
-use Rattle.buffers.specs.Gather.{gathered}
+use Rattle.symbol_sums.specs.Gather.{gathered}
 use Rattle.ccsds.specs.Codes.{Params, hits, touches, checksOf}
 use Rattle.encoder.specs.inner.Positions.{positions, Information, RowOf}
 use Rattle.ccsds.proofs.Valid.{Valid}

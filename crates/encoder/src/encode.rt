@@ -42,7 +42,7 @@ fn put_row(
     let n = counts[r];
     let j = s * l.a + r;
     positions::information(number, l.q, firsts, ends, n, r, s, xs);
-    buffers::gather::put_sum(w, j, j, xs, n, info, parity);
+    symbol_sums::put_sum(w, j, j, xs, n, info, parity);
 }
 
 // Parity symbols s * a to s * a + a - 1.

@@ -8,7 +8,7 @@ use lib.ListN.{getD}
 use Rattle.algebra.specs.Codeword.{Checks}
 use Rattle.algebra.specs.Staircase.{staircase}
 use Rattle.algebra.proofs.Codeword.{slot}
-use Rattle.buffers.specs.Gather.{Inside}
+use Rattle.symbol_sums.specs.Gather.{Inside}
 use Rattle.ccsds.specs.Codes.{checksOf}
 use Rattle.ccsds.specs.Tables.{codeOf}
 use Rattle.encoder.specs.inner.Positions.{RowOf}

@@ -15,7 +15,7 @@ use Rattle.algebra.specs.Codeword.{Checks, byteAt}
 use Rattle.peeling.specs.States.{isKnown}
 use Rattle.algebra.proofs.Sums.{self, sum-cong, sum-ext}
 use Rattle.algebra.proofs.Codeword.{slot}
-use Rattle.buffers.specs.Gather.{gathered, Inside, Replaced}
+use Rattle.symbol_sums.specs.Gather.{gathered, Inside, Replaced}
 use Rattle.encoder.specs.inner.Positions.{RowOf}
 use Rattle.peeling.specs.Plan.{kindOf, pivotOf, rowOf, positionOf, usedBy, Before, Step, PutOff, Sort}
 use Rattle.peeling.specs.Values.{rowSum}

@@ -16,7 +16,7 @@ use Rattle.algebra.specs.Sums.{_⊕_, pick, sum}
 use Rattle.algebra.specs.Codeword.{Checks}
 use Rattle.algebra.proofs.Sums.{assoc, comm, cancel, cancel-l, sum-suc, sum-ext, sum-terms, sum-zeros, sum-alone}
 use Rattle.algebra.proofs.Codeword.{slot}
-use Rattle.buffers.specs.Gather.{gathered, Inside}
+use Rattle.symbol_sums.specs.Gather.{gathered, Inside}
 use Rattle.encoder.specs.inner.Positions.{RowOf}
 
 -- one number changes

@@ -9,7 +9,7 @@ use native.Mathlib.Omega.{arith}
 use lib.ListN.{length, take, drop, replicate}
 use Rattle.algebra.specs.Codeword.{byteAt}
 use Rattle.algebra.proofs.Codeword.{slot}
-use Rattle.buffers.specs.Gather.{Replaced}
+use Rattle.symbol_sums.specs.Gather.{Replaced}
 use Rattle.peeling.proofs.Zeroing.{zerosAt, zeros-size, zeros-in, zeros-out, zeroed}
 
 pub replaced-by : {f g : ℕ → ℕ} {w x : ℕ} {s s′ : List ℕ} → ((b : ℕ) → f b ≡ g b) → Replaced f w x s s′ → Replaced g w x s s′

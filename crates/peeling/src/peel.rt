@@ -11,7 +11,7 @@ ghost use Prim.Native.Nat.{ℕ, _+_, _*_, _<_, _≤_};
 ghost use lib.Dec.{eqb};
 ghost use lib.ListN.{length, getD, set, replicate};
 ghost use Rattle.algebra.specs.Codeword.{byteAt};
-ghost use Rattle.buffers.specs.Gather.{gathered, Inside, Replaced};
+ghost use Rattle.symbol_sums.specs.Gather.{gathered, Inside, Replaced};
 ghost use Rattle.ccsds.specs.Codes.{checksOf};
 ghost use Rattle.ccsds.specs.Tables.{codeOf, Known};
 ghost use Rattle.ccsds.specs.inner.Layout.{Given};
@@ -95,7 +95,7 @@ fn settle(
     ensures { λ _. ⌜ now (plan .exit) ≡ set (set (set (set (now (plan .entry)) (6144 + t) r) (7168 + t) p) (8192 + r) 1) p (t + 1) ⌝ }
     ensures { λ _. ⌜ Replaced (λ b. gathered (byteAt w (now (symbols .entry)) b) (now (xs .entry)) n) w p (now (symbols .entry)) (now (symbols .exit)) ⌝ }
 {
-    buffers::gather::restore(w, p, xs, n, symbols);
+    symbol_sums::restore(w, p, xs, n, symbols);
     plan[6144 + t] = r as u16;
     plan[7168 + t] = p as u16;
     plan[8192 + r] = 1;

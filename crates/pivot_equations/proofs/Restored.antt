@@ -17,7 +17,7 @@ use Rattle.algebra.specs.Sums.{_⊕_, pick, sum}
 use Rattle.algebra.specs.Codeword.{Checks, byteAt}
 use Rattle.algebra.proofs.Sums as sums
 use Rattle.algebra.proofs.Lists.{and-iff}
-use Rattle.buffers.specs.Gather.{gathered, Inside, Replaced}
+use Rattle.symbol_sums.specs.Gather.{gathered, Inside, Replaced}
 use Rattle.encoder.specs.inner.Positions.{RowOf}
 use Rattle.peeling.specs.Plan.{kindOf, rowOf, positionOf, Step, Plan}
 use Rattle.peeling.specs.Values.{rowSum, StepsHold, Again}

@@ -13,7 +13,7 @@ use lib.ListN.{length, getD, take, drop, replicate}
 use Rattle.algebra.specs.Sums.{_⊕_, pick, sum}
 use Rattle.algebra.specs.Codeword.{Checks}
 use Rattle.algebra.proofs.Sums.{sum-suc, sum-ext, pick-xor}
-use Rattle.buffers.specs.Gather.{gathered}
+use Rattle.symbol_sums.specs.Gather.{gathered}
 use Rattle.encoder.specs.inner.Positions.{RowOf}
 use Rattle.elimination.specs.Bits.{testBit, rowBit}
 use Rattle.elimination.proofs.Digits.{testBit-none}

@@ -14,7 +14,7 @@ use Rattle.algebra.specs.Codeword.{Checks, byteAt}
 use Rattle.algebra.specs.Staircase.{before}
 use Rattle.algebra.proofs.Sums.{unit-l}
 use Rattle.algebra.proofs.Codeword.{slot}
-use Rattle.buffers.specs.Gather.{gathered, Replaced, CancelIs}
+use Rattle.symbol_sums.specs.Gather.{gathered, Replaced, CancelIs}
 use Rattle.encoder.specs.inner.Positions.{RowOf}
 use Rattle.peeling.specs.Plan.{usedBy, free}
 use Rattle.peeling.specs.Values.{rowSum, HoldIs, Sides}

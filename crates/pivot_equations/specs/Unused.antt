@@ -8,7 +8,7 @@ use Prim.Native.Nat.{ℕ, _+_, _*_, _<_, _≤_}
 use lib.Dec.{eqb}
 use lib.ListN.{length, getD}
 use Rattle.algebra.specs.Codeword.{Checks}
-use Rattle.buffers.specs.Gather.{gathered}
+use Rattle.symbol_sums.specs.Gather.{gathered}
 use Rattle.peeling.specs.Plan.{usedBy, free}
 use Rattle.peeling.specs.Values.{rowSum}
 

@@ -8,7 +8,7 @@ ghost use lib.Dec.{eqb};
 ghost use lib.ListN.{length};
 ghost use Rattle.algebra.specs.Sums.{sum};
 ghost use Rattle.algebra.specs.Codeword.{byteAt};
-ghost use Rattle.buffers.specs.Gather.{Replaced};
+ghost use Rattle.symbol_sums.specs.Gather.{Replaced};
 ghost use Rattle.ccsds.specs.Codes.{checksOf};
 ghost use Rattle.ccsds.specs.Tables.{codeOf};
 ghost use Rattle.peeling.specs.Table.{Table};
@@ -53,7 +53,7 @@ fn restore_by(
 {
     let n = positions::of_row(number, l, firsts, ends, classes, j, xs);
     let k = others(xs, n, p);
-    buffers::gather::restore(w, p, xs, k, symbols);
+    symbol_sums::restore(w, p, xs, k, symbols);
 }
 
 // Restores the positions of the steps from `early` on once more.

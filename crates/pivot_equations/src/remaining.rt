@@ -34,7 +34,7 @@ fn passes(
         return true;
     }
     let n = positions::of_row(number, l, firsts, ends, classes, j, xs);
-    buffers::gather::cancels(w, xs, n, symbols)
+    symbol_sums::cancels(w, xs, n, symbols)
 }
 
 // Each of them adds up to zero.
@@ -92,7 +92,7 @@ fn put_row(
         return i;
     }
     let n = positions::of_row(number, l, firsts, ends, classes, j, xs);
-    buffers::gather::put_sum(w, i, 0, xs, n, symbols, bytes);
+    symbol_sums::put_sum(w, i, 0, xs, n, symbols, bytes);
     i + 1
 }
 

@@ -8,7 +8,7 @@ use lib.Dec.{eqb, ltb}
 use lib.ListN.{length, getD, set}
 use Rattle.algebra.specs.Sums.{sum}
 use Rattle.algebra.specs.Codeword.{Checks}
-use Rattle.buffers.specs.Gather.{gathered}
+use Rattle.symbol_sums.specs.Gather.{gathered}
 use Rattle.ccsds.specs.Codes.{Params}
 
 -- the first n of 64 elements of xs are the positions of check row j

@@ -1,0 +1,39 @@
+-- `symbol_sums::cancels_64` meets its contract.
+-- Assumes nothing.
+use Rattle.symbol_sums.proofs.ZeroTests.{zero-64}
+use borrow.Author.Needs.{needs}
+use Rattle.symbol_sums.proofs.cancels_64.Statement.{statement}
+use Rattle.symbol_sums.proofs.cancels_64.Tie as tie
+
+gather-64-requires : tie.Need-gather-64-requires
+gather-64-requires c κs = search needs
+
+join-requires : tie.Need-join-requires
+join-requires c κs = search needs
+
+join-requires-2 : tie.Need-join-requires-2
+join-requires-2 c κs = search needs
+
+join-requires-3 : tie.Need-join-requires-3
+join-requires-3 c κs = search needs
+
+slice-aggregate-all-zero : tie.Need-slice-aggregate-all-zero
+slice-aggregate-all-zero c = search needs
+
+all-zero-requires : tie.Need-all-zero-requires
+all-zero-requires c κs = search needs
+
+returns : tie.Need-returns
+returns c = zero-64 (c .before .before .before .before .before .before .before .before .before .before .before .before .before .gather-64 .ensures) (c .before .before .before .before .before .before .before .before .before .join .ensures) (c .before .before .before .before .before .join2 .ensures) (c .before .before .join3 .ensures) (c .all-zero .result) (c .all-zero .ensures)
+
+pub cancels-64-spec : {M : Type 1} → statement M
+cancels-64-spec =
+    tie.close
+    (tie.spec
+    gather-64-requires
+    join-requires
+    join-requires-2
+    join-requires-3
+    slice-aggregate-all-zero
+    all-zero-requires
+    returns)

@@ -1,0 +1,88 @@
+-- Sums of symbols that stand anywhere in a buffer.
+-- Assumes nothing.
+use mathlib.Core.Path.{_≡_}
+use mathlib.Core.Logic.{_⊎_, _≢_}
+use mathlib.Core.Bool.{Bool, true, false}
+use mathlib.Core.List.{List}
+use Prim.Native.Nat.{ℕ, _+_, _*_, _<_, _≤_}
+use lib.Bits.{bitOr}
+use lib.ListN.{length, getD}
+use Rattle.algebra.specs.Sums.{_⊕_, sum}
+use Rattle.algebra.specs.Codeword.{byteAt}
+use Rattle.algebra.specs.Staircase.{before}
+use Rattle.buffers.specs.Parts.{put}
+
+-- the sum of u at the first n positions of xs
+abbrev pub gathered : (ℕ → ℕ) → List ℕ → ℕ → ℕ
+gathered u xs n = sum (λ i. true) (λ i. u (getD xs i 0)) n
+
+-- xs has 64 elements, and its first n are positions of symbols of w bytes within a buffer of `bytes` bytes
+pub record Inside (xs : List ℕ) (n w bytes : ℕ) : Type 0 where
+  pub size : length xs ≡ 64
+  pub few : n ≤ 64
+  pub each : (i : ℕ) → i < n → getD xs i 0 * w + w ≤ bytes
+
+-- symbol j of p became f 0, .., f (w - 1), and nothing else changed
+pub record Replaced (f : ℕ → ℕ) (w j : ℕ) (p p′ : List ℕ) : Type 0 where
+  pub size : length p′ ≡ length p
+  pub outside : (t : ℕ) → (t < j * w) ⊎ (j * w + w ≤ t) → getD p′ t 0 ≡ getD p t 0
+  pub each : (b : ℕ) → b < w → byteAt w p′ b j ≡ f b
+
+-- r is the answer to: do the first n symbols xs of src add up to zero?
+abbrev pub CancelIs : ℕ → List ℕ → List ℕ → ℕ → Bool → Type 0
+CancelIs w src xs n true = (b : ℕ) → b < w → gathered (byteAt w src b) xs n ≡ 0
+CancelIs w src xs n false = (b : ℕ) × ((b < w) × (gathered (byteAt w src b) xs n ≢ 0))
+
+-- inner steps
+
+-- f b plus byte b of each of the first n symbols xs of src
+unfoldable pub summed : (ℕ → ℕ) → ℕ → List ℕ → List ℕ → ℕ → ℕ → ℕ
+summed f w src xs n b = f b ⊕ gathered (byteAt w src b) xs n
+
+-- byte b of symbol prev - 1, and 0 where prev is 0
+abbrev pub byteBefore : ℕ → List ℕ → ℕ → ℕ → ℕ
+byteBefore w p prev b = before (byteAt w p b) prev
+
+-- t is f c, .., f (c + 15)
+pub record Bytes (f : ℕ → ℕ) (c : ℕ) (t : List ℕ) : Type 0 where
+  pub size : length t ≡ 16
+  pub each : (b : ℕ) → b < 16 → getD t b 0 ≡ f (c + b)
+
+-- the same for f c, .., f (c + 63)
+pub record Bytes64 (f : ℕ → ℕ) (c : ℕ) (t u v z : List ℕ) : Type 0 where
+  pub first : Bytes f c t
+  pub second : Bytes f (c + 16) u
+  pub third : Bytes f (c + 32) v
+  pub fourth : Bytes f (c + 48) z
+
+-- four chunks of 16 bytes
+pub record Full (t u v z : List ℕ) : Type 0 where
+  pub first : length t ≡ 16
+  pub second : length u ≡ 16
+  pub third : length v ≡ 16
+  pub fourth : length z ≡ 16
+
+-- t is s plus bytes c, .., c + 15 of each of the first n symbols xs of src
+pub record Plus (w c : ℕ) (src xs : List ℕ) (n : ℕ) (s t : List ℕ) : Type 0 where
+  pub size : length t ≡ 16
+  pub each : (b : ℕ) → b < 16 → getD t b 0 ≡ getD s b 0 ⊕ gathered (byteAt w src (c + b)) xs n
+
+-- d, where four chunks stand from index `at` on
+abbrev pub putFour : List ℕ → ℕ → List ℕ → List ℕ → List ℕ → List ℕ → List ℕ
+putFour d at t u v z = put (put (put (put d at t 0 16) (at + 16) u 0 16) (at + 32) v 0 16) (at + 48) z 0 16
+
+-- f c, .., f (c + n - 1) were written from index at + c on, and nothing else changed
+pub record Written (f : ℕ → ℕ) (at c n : ℕ) (p p′ : List ℕ) : Type 0 where
+  pub size : length p′ ≡ length p
+  pub outside : (t : ℕ) → (t < at + c) ⊎ (at + (c + n) ≤ t) → getD p′ t 0 ≡ getD p t 0
+  pub each : (b : ℕ) → b < n → getD p′ (at + (c + b)) 0 ≡ f (c + b)
+
+-- t is the bitwise or of s and u
+pub record Joined (s u t : List ℕ) : Type 0 where
+  pub size : length t ≡ 16
+  pub each : (b : ℕ) → b < 16 → getD t b 0 ≡ bitOr (getD s b 0) (getD u b 0)
+
+-- r is the answer to: is f zero at from, .., to - 1?
+abbrev pub ZeroIs : (ℕ → ℕ) → ℕ → ℕ → Bool → Type 0
+ZeroIs f from to true = (b : ℕ) → from ≤ b → b < to → f b ≡ 0
+ZeroIs f from to false = (b : ℕ) × ((from ≤ b) × ((b < to) × (f b ≢ 0)))
