@@ -9,18 +9,18 @@ use lib.Bits.{bitXor}
 use lib.ListN.{length, getD, set}
 use Rattle.algebra.specs.Sums.{_⊕_}
 use Rattle.buffers.specs.Parts.{added}
-use Rattle.buffers.proofs.Laid.{Laid, laid-length, laid-out, laid-in, laid-more, laid-same}
+use Rattle.buffers.proofs.Writes.{Writes, writes-length, writes-out, writes-in, writes-more, writes-same}
 
 module _ (d : List ℕ) (at : ℕ) (s : List ℕ) (from : ℕ) where
-  pub added-laid : Laid d at (λ b. getD d (at + b) 0 ⊕ getD s (from + b) 0) (added d at s from)
+  pub added-writes : Writes d at (λ b. getD d (at + b) 0 ⊕ getD s (from + b) 0) (added d at s from)
   unfolding added
-  added-laid = record { none = refl; next = λ n. refl }
+  added-writes = record { none = refl; next = λ n. refl }
 
   pub added-length : (n : ℕ) → length (added d at s from n) ≡ length d
-  added-length = laid-length added-laid
+  added-length = writes-length added-writes
 
   pub added-out : (n t : ℕ) → ((b : ℕ) → b < n → t ≢ at + b) → getD (added d at s from n) t 0 ≡ getD d t 0
-  added-out = laid-out added-laid
+  added-out = writes-out added-writes
 
   pub added-below : (n t : ℕ) → t < at → getD (added d at s from n) t 0 ≡ getD d t 0
   added-below n t h = added-out n t (λ b g e. omega arith)
@@ -29,14 +29,14 @@ module _ (d : List ℕ) (at : ℕ) (s : List ℕ) (from : ℕ) where
   added-above n t h = added-out n t (λ b g e. omega arith)
 
   pub added-in : (n b : ℕ) → b < n → at + n ≤ length d → getD (added d at s from n) (at + b) 0 ≡ getD d (at + b) 0 ⊕ getD s (from + b) 0
-  added-in = laid-in added-laid
+  added-in = writes-in added-writes
 
   -- one byte more
   pub added-more : (n : ℕ) (l : List ℕ) → l ≡ added d at s from n → (y : ℕ) → y ≡ getD s (from + n) 0
       → set l (at + n) (bitXor (getD l (at + n) 0) y) ≡ added d at s from (n + 1)
   unfolding _⊕_
   added-more n l e y hy =
-      laid-more added-laid n l _ e (ap₂ bitXor (ap (λ (k : List ℕ). getD k (at + n) 0) e ∙ added-above n (at + n) (omega arith)) hy)
+      writes-more added-writes n l _ e (ap₂ bitXor (ap (λ (k : List ℕ). getD k (at + n) 0) e ∙ added-above n (at + n) (omega arith)) hy)
 
   -- as many as were asked for
   pub added-all : (n w : ℕ) (l : List ℕ) → l ≡ added d at s from n → n ≡ w → l ≡ added d at s from w
@@ -45,4 +45,4 @@ module _ (d : List ℕ) (at : ℕ) (s : List ℕ) (from : ℕ) where
 -- only the bytes that are added matter, not where they stand
 pub added-same : (d : List ℕ) (to : ℕ) (s : List ℕ) (from : ℕ) (t : List ℕ) (at n : ℕ) → ((b : ℕ) → b < n → getD s (from + b) 0 ≡ getD t (at + b) 0)
     → added d to s from n ≡ added d to t at n
-added-same d to s from t at n e = laid-same (added-laid d to s from) (added-laid d to t at) n (λ b h. ap (_⊕_ (getD d (to + b) 0)) (e b h))
+added-same d to s from t at n e = writes-same (added-writes d to s from) (added-writes d to t at) n (λ b h. ap (_⊕_ (getD d (to + b) 0)) (e b h))

@@ -1,6 +1,6 @@
 pub mod Added
 pub mod AllZeroLaws
-pub mod Laid
 pub mod Put
 pub mod Sums
+pub mod Writes
 pub mod Zeros

@@ -3,40 +3,54 @@
 use mathlib.Core.Path.{_≡_, refl, ap, ap₂, _∙_}
 use mathlib.Core.Logic.{_≢_}
 use mathlib.Core.List.{List}
-use Prim.Native.Nat.{ℕ, zero, suc, _+_, _<_, _≤_}
-use native.Mathlib.Nat.{zero-add}
+use Prim.Native.Nat.{ℕ, zero, suc, _+_, _-_, _<_, _≤_}
+use native.Mathlib.Nat.{zero-add, add-assoc}
 use native.Mathlib.Omega.{arith}
 use lib.ListN.{length, getD, set}
 use lib.Seq.{paste, paste-zero, paste-suc}
 use Rattle.buffers.specs.Parts.{put, Part}
-use Rattle.buffers.proofs.Laid.{Laid, laid-out, laid-in, laid-more, laid-join}
+use Rattle.buffers.proofs.Writes.{Writes, writes-length, writes-out, writes-in, writes-more, writes-join}
 
 -- bytes from index 0 on
 pub from-zero : (t : List ℕ) (b : ℕ) → getD t (0 + b) 0 ≡ getD t b 0
 from-zero t b = ap (λ (i : ℕ). getD t i 0) (zero-add b)
 
 module _ (d : List ℕ) (at : ℕ) (s : List ℕ) (from : ℕ) where
-  pub put-laid : Laid d at (λ b. getD s (from + b) 0) (put d at s from)
+  pub put-writes : Writes d at (λ b. getD s (from + b) 0) (put d at s from)
   unfolding put
-  put-laid = record { none = refl; next = λ n. refl }
+  put-writes = record { none = refl; next = λ n. refl }
+
+  pub put-length : (n : ℕ) → length (put d at s from n) ≡ length d
+  put-length = writes-length put-writes
 
   pub put-out : (n t : ℕ) → ((b : ℕ) → b < n → t ≢ at + b) → getD (put d at s from n) t 0 ≡ getD d t 0
-  put-out = laid-out put-laid
+  put-out = writes-out put-writes
 
   pub put-in : (n b : ℕ) → b < n → at + n ≤ length d → getD (put d at s from n) (at + b) 0 ≡ getD s (from + b) 0
-  put-in = laid-in put-laid
+  put-in = writes-in put-writes
 
   -- one byte more
   pub put-more : (n : ℕ) (l : List ℕ) → l ≡ put d at s from n → (y : ℕ) → y ≡ getD s (from + n) 0 → set l (at + n) y ≡ put d at s from (n + 1)
-  put-more n l e y hy = laid-more put-laid n l y e hy
+  put-more n l e y hy = writes-more put-writes n l y e hy
 
--- one chunk more: n bytes were put, and then the next m, which were read before
-pub put-chunk : (d : List ℕ) (at : ℕ) (s : List ℕ) (from n m : ℕ) {t : List ℕ} (l k : List ℕ) → l ≡ put d at s from n → Part s (from + n) m t → k ≡ put l (at + n) t 0 m
+-- n bytes were put, and then m more, wherever these are read
+put-join : (d : List ℕ) (at : ℕ) (s : List ℕ) (from n m : ℕ) (t : List ℕ) (a : ℕ) {l k : List ℕ} → l ≡ put d at s from n
+    → ((b : ℕ) → b < m → getD t (a + b) 0 ≡ getD s (from + n + b) 0) → k ≡ put l (at + n) t a m → k ≡ put d at s from (n + m)
+put-join d at s from n m t a e h p =
+    p ∙ ap (λ (x : List ℕ). put x (at + n) t a m) e
+    ∙ writes-join (put-writes d at s from) n (put-writes (put d at s from n) (at + n) t a) m (λ b q. h b q ∙ ap (λ (i : ℕ). getD s i 0) (add-assoc from n b))
+
+-- one chunk more, which was read before
+pub put-chunk : (d : List ℕ) (at : ℕ) (s : List ℕ) (from n m : ℕ) {t l k : List ℕ} → l ≡ put d at s from n → Part s (from + n) m t → k ≡ put l (at + n) t 0 m
     → k ≡ put d at s from (n + m)
-put-chunk d at s from n m {t} l k e h p =
-    p ∙ ap (λ (x : List ℕ). put x (at + n) t 0 m) e
-    ∙ laid-join (put-laid d at s from) n (put-laid (put d at s from n) (at + n) t 0) m
-    (λ b q. let f : from + n + b ≡ from + (n + b) = omega arith in from-zero t b ∙ h .each b q ∙ ap (λ (i : ℕ). getD s i 0) f)
+put-chunk d at s from n m {t} e h p = put-join d at s from n m t 0 e (λ b q. from-zero t b ∙ h .each b q) p
+
+-- the rest
+pub put-rest : (d : List ℕ) (at : ℕ) (s : List ℕ) (from n len : ℕ) {l k : List ℕ} → n ≤ len → l ≡ put d at s from n → k ≡ put l (at + n) s (from + n) (len - n)
+    → k ≡ put d at s from len
+put-rest d at s from n len g e p =
+    let all : n + (len - n) ≡ len = omega arith in
+    put-join d at s from n (len - n) s (from + n) e (λ b q. refl) p ∙ ap (put d at s from) all
 
 -- the same by parts of lists
 pub put-paste : (d : List ℕ) (at : ℕ) (s : List ℕ) (n : ℕ) → at + n ≤ length d → n ≤ length s → put d at s 0 n ≡ paste d at s n

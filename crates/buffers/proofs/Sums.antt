@@ -3,24 +3,24 @@
 use mathlib.Core.Path.{_≡_, sym, ap, ap₂, _∙_}
 use mathlib.Core.Logic.{inl, inr, ⊎-elim}
 use mathlib.Core.List.{List}
-use Prim.Native.Nat.{ℕ, _+_, _<_, _≤_}
+use Prim.Native.Nat.{ℕ, _+_, _-_, _<_, _≤_}
 use native.Mathlib.Omega.{arith}
 use lib.Bits.{bitXor}
 use lib.ListN.{getD, set}
 use Rattle.algebra.specs.Sums.{_⊕_}
 use Rattle.buffers.specs.Parts.{added, put, Sum, Apart}
-use Rattle.buffers.proofs.Laid.{laid-same, laid-join}
-use Rattle.buffers.proofs.Added.{added-laid, added-above, added-below, added-more, added-same}
-use Rattle.buffers.proofs.Put.{put-laid, from-zero}
+use Rattle.buffers.proofs.Writes.{writes-same, writes-join}
+use Rattle.buffers.proofs.Added.{added-writes, added-above, added-below, added-more, added-all, added-same}
+use Rattle.buffers.proofs.Put.{put-writes, from-zero}
 
 -- the sums, put where they belong
 pub put-sums : {d : List ℕ} {at : ℕ} {s : List ℕ} {from n : ℕ} {t k : List ℕ} → Sum d at s from n t → k ≡ put d at t 0 n → k ≡ added d at s from n
-put-sums {d} {at} {s} {from} {n} {t} h e = e ∙ laid-same (put-laid d at t 0) (added-laid d at s from) n (λ b g. from-zero t b ∙ h .each b g)
+put-sums {d} {at} {s} {from} {n} {t} h e = e ∙ writes-same (put-writes d at t 0) (added-writes d at s from) n (λ b g. from-zero t b ∙ h .each b g)
 
 -- n bytes were added, and then m more
 pub added-join : (d : List ℕ) (at : ℕ) (s : List ℕ) (from n m : ℕ) → added (added d at s from n) (at + n) s (from + n) m ≡ added d at s from (n + m)
 added-join d at s from n m =
-    laid-join (added-laid d at s from) n (added-laid (added d at s from n) (at + n) s (from + n)) m
+    writes-join (added-writes d at s from) n (added-writes (added d at s from n) (at + n) s (from + n)) m
     (λ b h.
     let a : at + n + b ≡ at + (n + b) = omega arith in
     let f : from + n + b ≡ from + (n + b) = omega arith in
@@ -59,3 +59,8 @@ module _ (d : List ℕ) (at from : ℕ) where
       let c : from + n + b ≡ from + (n + b) = omega arith in
       ap (λ (x : List ℕ). getD x (from + n + b) 0) e ∙ ap (λ (j : ℕ). getD (added d at d from n) j 0) c
       ∙ kept-apart len n h (omega arith) (n + b) (omega arith) ∙ ap (λ (j : ℕ). getD d j 0) (sym c)))
+
+  -- the rest
+  pub within-rest : (len n : ℕ) (l k : List ℕ) → Apart at from len → n ≤ len → l ≡ added d at d from n → k ≡ added l (at + n) l (from + n) (len - n)
+      → k ≡ added d at d from len
+  within-rest len n l k h g e p = added-all d at d from (n + (len - n)) len k (within-chunk len n (len - n) l k h (omega arith) e p) (omega arith)

@@ -67,23 +67,80 @@ pub fn part_16(src: &[u8], from: usize) -> [u8; 16]
     t
 }
 
-// Adds len bytes of a buffer, from index `from` on, to those of the same buffer from index `at` on, which are apart from them.
-pub fn add_within(buf: &mut [u8], at: usize, from: usize, len: usize)
+// Adds as many of the len bytes from index `from` on as whole chunks of 64 hold to those from index `at` on; answers how many these are.
+fn add_chunks_64(buf: &mut [u8], at: usize, from: usize, len: usize) -> usize
     requires { ⌜ Apart at from len ⌝ }
     requires { ⌜ (at + len ≤ length (now buf)) × (from + len ≤ length (now buf)) ⌝ }
-    ensures { λ _. ⌜ now (buf .exit) ≡ added (now (buf .entry)) at (now (buf .entry)) from len ⌝ }
+    ensures { λ r. ⌜ (r ≤ len) × (now (buf .exit) ≡ added (now (buf .entry)) at (now (buf .entry)) from r) ⌝ }
 {
     let mut i = 0;
     while len - i >= 64 {
         add_within_64(buf, at + i, from + i);
         i += 64;
     }
+    i
+}
+
+// The same with chunks of 16.
+fn add_chunks_16(buf: &mut [u8], at: usize, from: usize, len: usize) -> usize
+    requires { ⌜ Apart at from len ⌝ }
+    requires { ⌜ (at + len ≤ length (now buf)) × (from + len ≤ length (now buf)) ⌝ }
+    ensures { λ r. ⌜ (r ≤ len) × (now (buf .exit) ≡ added (now (buf .entry)) at (now (buf .entry)) from r) ⌝ }
+{
+    let mut i = 0;
     while len - i >= 16 {
         add_within_16(buf, at + i, from + i);
         i += 16;
     }
+    i
+}
+
+// All of the len bytes, one by one.
+fn add_bytes(buf: &mut [u8], at: usize, from: usize, len: usize)
+    requires { ⌜ Apart at from len ⌝ }
+    requires { ⌜ (at + len ≤ length (now buf)) × (from + len ≤ length (now buf)) ⌝ }
+    ensures { λ _. ⌜ now (buf .exit) ≡ added (now (buf .entry)) at (now (buf .entry)) from len ⌝ }
+{
+    let mut i = 0;
     while i < len {
         buf[at + i] = buf[at + i] ^ buf[from + i];
+        i += 1;
+    }
+}
+
+// Adds len bytes of a buffer, from index `from` on, to those of the same buffer from index `at` on, which are apart from them.
+pub fn add_within(buf: &mut [u8], at: usize, from: usize, len: usize)
+    requires { ⌜ Apart at from len ⌝ }
+    requires { ⌜ (at + len ≤ length (now buf)) × (from + len ≤ length (now buf)) ⌝ }
+    ensures { λ _. ⌜ now (buf .exit) ≡ added (now (buf .entry)) at (now (buf .entry)) from len ⌝ }
+{
+    let wide = add_chunks_64(buf, at, from, len);
+    let done = wide + add_chunks_16(buf, at + wide, from + wide, len - wide);
+    add_bytes(buf, at + done, from + done, len - done);
+}
+
+// Puts as many of the len bytes of src from index `from` on as whole chunks of 16 hold over those of dst from index `at` on; answers how many.
+fn put_chunks(dst: &mut [u8], at: usize, src: &[u8], from: usize, len: usize) -> usize
+    requires { ⌜ (at + len ≤ length (now dst)) × (from + len ≤ length (now src)) ⌝ }
+    ensures { λ r. ⌜ (r ≤ len) × (now (dst .exit) ≡ put (now (dst .entry)) at (now (src .entry)) from r) ⌝ }
+{
+    let mut i = 0;
+    while len - i >= 16 {
+        let t = part_16(src, from + i);
+        put_16(dst, at + i, &t);
+        i += 16;
+    }
+    i
+}
+
+// All of the len bytes, one by one.
+fn put_bytes(dst: &mut [u8], at: usize, src: &[u8], from: usize, len: usize)
+    requires { ⌜ (at + len ≤ length (now dst)) × (from + len ≤ length (now src)) ⌝ }
+    ensures { λ _. ⌜ now (dst .exit) ≡ put (now (dst .entry)) at (now (src .entry)) from len ⌝ }
+{
+    let mut i = 0;
+    while i < len {
+        dst[at + i] = src[from + i];
         i += 1;
     }
 }
@@ -93,16 +150,8 @@ pub fn put_from(dst: &mut [u8], at: usize, src: &[u8], from: usize, len: usize)
     requires { ⌜ (at + len ≤ length (now dst)) × (from + len ≤ length (now src)) ⌝ }
     ensures { λ _. ⌜ now (dst .exit) ≡ put (now (dst .entry)) at (now (src .entry)) from len ⌝ }
 {
-    let mut i = 0;
-    while len - i >= 16 {
-        let t = part_16(src, from + i);
-        put_16(dst, at + i, &t);
-        i += 16;
-    }
-    while i < len {
-        dst[at + i] = src[from + i];
-        i += 1;
-    }
+    let done = put_chunks(dst, at, src, from, len);
+    put_bytes(dst, at + done, src, from + done, len - done);
 }
 
 // Sets every byte to 0.

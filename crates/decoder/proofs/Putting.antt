@@ -11,8 +11,7 @@ use lib.Seq.{getD-set-same, getD-set-other}
 use Rattle.algebra.specs.Codeword.{Checks, byteAt}
 use Rattle.algebra.proofs.Codeword.{slot}
 use Rattle.buffers.specs.Parts.{put}
-use Rattle.buffers.proofs.Laid.{laid-length}
-use Rattle.buffers.proofs.Put.{put-laid, put-in, put-out}
+use Rattle.buffers.proofs.Put.{put-length, put-in, put-out}
 use Rattle.elimination.specs.Reduced.{pivotWord}
 use Rattle.elimination.proofs.Order.{eq-or-ne}
 use Rattle.elimination.proofs.SweepLaws.{rows-apart}
@@ -114,7 +113,7 @@ module _ (c : Checks) (w words steps early pivots : ℕ) (states l d plan symbol
       more-one : Put c w words steps (i + 1) pivots l d plan symbols plan″ symbols″
       more-one = record {
         plan-size = ap length ep ∙ length-set plan′ (pivotOf plan u) (4097 + (steps + i)) ∙ X .plan-size;
-        symbols-size = ap length es ∙ laid-length (put-laid symbols′ (pivotOf plan u * w) d (i * w)) w ∙ X .symbols-size;
+        symbols-size = ap length es ∙ put-length symbols′ (pivotOf plan u * w) d (i * w) w ∙ X .symbols-size;
         pivot = λ v k. ⊎-elim
             (λ e. rw e (inl solved))
             (λ ne. carry v (λ e. ne (omega arith)) (other-kind (pivotOf plan v) (apart v k ne)) (λ b q. other-byte (pivotOf plan v) b (apart v k ne) q) (X .pivot v k))

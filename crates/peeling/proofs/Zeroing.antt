@@ -9,8 +9,7 @@ use native.Mathlib.Omega.{arith}
 use lib.ListN.{length, getD, take, drop, replicate, length-replicate, getD-replicate, length-drop}
 use lib.Seq.{length-take-le, drop-drop, take-length}
 use Rattle.buffers.specs.Parts.{put}
-use Rattle.buffers.proofs.Laid.{laid-length}
-use Rattle.buffers.proofs.Put.{put-laid, put-paste, put-in, put-out, from-zero}
+use Rattle.buffers.proofs.Put.{put-length, put-paste, put-in, put-out, from-zero}
 
 -- s with w zeros from index a on
 abbrev pub zerosAt : List ℕ → ℕ → ℕ → List ℕ
@@ -18,7 +17,7 @@ zerosAt s a w = put s a (replicate w 0) 0 w
 
 module _ (s : List ℕ) (a w : ℕ) where
   pub zeros-size : length (zerosAt s a w) ≡ length s
-  zeros-size = laid-length (put-laid s a (replicate w 0) 0) w
+  zeros-size = put-length s a (replicate w 0) 0 w
 
   pub zeros-in : a + w ≤ length s → (b : ℕ) → b < w → getD (zerosAt s a w) (a + b) 0 ≡ 0
   zeros-in h b l = put-in s a (replicate w 0) 0 w b l h ∙ from-zero (replicate w 0) b ∙ getD-replicate w b 0 0 l

@@ -19,9 +19,8 @@ use Rattle.algebra.proofs.Sums as sums
 use Rattle.algebra.proofs.Codeword.{slot}
 use Rattle.buffers.specs.Parts.{put, Part, Sum}
 use Rattle.symbol_sums.specs.Gather.{gathered, Inside, Replaced, summed, byteBefore, Bytes, Bytes64, Plus, putFour, Written}
-use Rattle.buffers.proofs.Laid.{laid-length}
 use Rattle.buffers.proofs.Zeros.{zeros}
-use Rattle.buffers.proofs.Put.{put-laid, put-out, put-in, from-zero}
+use Rattle.buffers.proofs.Put.{put-length, put-out, put-in, from-zero}
 
 -- ---- one position after the other
 
@@ -131,7 +130,7 @@ bytes-before w p prev {c} h s = record {
 
 pub put-written : {f : ℕ → ℕ} {at c : ℕ} {p p′ t : List ℕ} → Bytes f c t → at + c + 16 ≤ length p → p′ ≡ put p (at + c) t 0 16 → Written f at c 16 p p′
 put-written {f} {at} {c} {p} {p′} {t} h l e = record {
-  size = ap length e ∙ laid-length (put-laid p (at + c) t 0) 16;
+  size = ap length e ∙ put-length p (at + c) t 0 16;
   outside = λ i o. ap (λ (x : List ℕ). getD x i 0) e ∙ put-out p (at + c) t 0 16 i (λ b k q. apart i b k q o);
   each = λ b g.
       ap (λ (x : List ℕ). getD x (at + (c + b)) 0) e ∙ ap (λ (k : ℕ). getD (put p (at + c) t 0 16) k 0) (sym (add-assoc at c b))
