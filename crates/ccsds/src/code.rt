@@ -18,6 +18,23 @@ impl Code {
 
     pub const MAX_WIDTH: usize = 1024;
 
+    // Table 4-1's k and m, their sum, and the words of the first work buffer, where an array's length asks for a constant.
+    pub const C1_K: usize = 512;
+
+    pub const C1_M: usize = 256;
+
+    pub const C1_N: usize = Self::C1_K + Self::C1_M;
+
+    pub const C1_WORDS: usize = Self::C1_M * (Self::C1_N / 64 + 1);
+
+    pub const C2_K: usize = 2048;
+
+    pub const C2_M: usize = 1024;
+
+    pub const C2_N: usize = Self::C2_K + Self::C2_M;
+
+    pub const C2_WORDS: usize = Self::C2_M * (Self::C2_N / 64 + 1);
+
     // The number is a code's.
     pub fn known(self) -> bool
         ensures { λ r. ⌜ r ≡ isCode (self .number) ⌝ }

@@ -1,5 +1,6 @@
 // Tables 4-1, 4-2 and 4-3 as constant data. Internal: the crates of this repository call what is here, and a user of the layer has no
 // need to.
+use crate::code::Code;
 ghost use mathlib.Core.Path.{_≡_};
 ghost use mathlib.Core.List.{[]};
 ghost use Prim.Native.Nat.{_<_, _≤_};
@@ -65,8 +66,8 @@ pub fn layout_of(number: usize) -> Layout
     ensures { λ r. ⌜ Given (codeOf number) r ⌝ }
 {
     match number {
-        1 => Layout { k: 512, m: 256, q: 32, a: 8, rows: 16, long: 16, degree: 5, rest: 0 },
-        2 => Layout { k: 2048, m: 1024, q: 128, a: 8, rows: 16, long: 4, degree: 6, rest: 4 },
+        1 => Layout { k: Code::C1_K, m: Code::C1_M, q: 32, a: 8, rows: 16, long: 16, degree: 5, rest: 0 },
+        2 => Layout { k: Code::C2_K, m: Code::C2_M, q: 128, a: 8, rows: 16, long: 4, degree: 6, rest: 4 },
         _ => Layout { k: 0, m: 0, q: 0, a: 0, rows: 0, long: 0, degree: 0, rest: 0 },
     }
 }
