@@ -2,6 +2,7 @@
 // each addition keeps the solutions, and the hints only choose which are made. A hint is about the number of unknowns of a row, or CLOSED.
 // The list has, in any order, the rows that are not CLOSED, so that no other row is looked at for an unknown. A row that loses its last unknown stays in it.
 use crate::bits;
+use crate::bits::Found;
 use crate::sweep;
 ghost use mathlib.Core.Path.{_≡_};
 ghost use mathlib.Core.Bool.{true};
@@ -212,27 +213,14 @@ fn push(
     take_out(list, count, mine)
 }
 
-// An unknown of the row of `words` words at `base`: the lowest of its last word that is not 0; 64 * words where there is none. The parity symbols come
-// last, and the fewest rows have them.
-fn latest(rows: &[u64], base: usize, words: usize) -> usize
-    requires { ⌜ (words ≤ 48) × (base + words ≤ length (now rows)) ⌝ }
-    ensures { λ p. ⌜ p ≤ 64 * words ⌝ }
-{
-    let mut i = words;
-    while i > 0 {
-        i -= 1;
-        let k = base + i;
-        let w = rows[k];
-        if w != 0 {
-            let z = u64::trailing_zeros(w);
-            return i * 64 + z as usize;
-        }
-    }
-    64 * words
+// What one step leaves: how many rows are in the list, and the step's row and unknown, as unknown * 1024 + row. A row without unknowns has 0 in place of one.
+struct Step {
+    left: usize,
+    entry: u32,
 }
 
-// Pushes row r at unknown p, or closes it where p is none.
-fn push_row(
+// One step: pushes row r at its lowest unknown, or closes it where it has none.
+fn forward_step(
     rows: &mut [u64],
     rhs: &mut [u8],
     hints: &mut [u16; 1024],
@@ -242,22 +230,33 @@ fn push_row(
     words: usize,
     width: usize,
     r: usize,
-    p: usize,
-) -> usize
-    requires { ⌜ (r < m) × ((m ≤ 1024) × (count ≤ 1024)) ⌝ }
+) -> Step
+    requires { ⌜ (words ≤ 48) × ((r < m) × ((m ≤ 1024) × (count ≤ 1024))) ⌝ }
     requires { ⌜ (m * (words + 1) ≤ length (now rows)) × (m * width ≤ length (now rhs)) ⌝ }
-    ensures { λ left. ⌜ left ≤ count ⌝ }
+    ensures { λ t. ⌜ t .left ≤ count ⌝ }
     ensures { λ _. ⌜ Same (now (rows .entry)) (now (rhs .entry)) (now (rows .exit)) (now (rhs .exit)) m words width ⌝ }
 {
-    if p / 64 < words {
-        return push(rows, rhs, hints, list, count, m, words, width, r, p);
+    let f = bits::lowest(rows, r * (words + 1), words);
+    match f {
+        Found::At(p) => {
+            let left = push(rows, rhs, hints, list, count, m, words, width, r, p);
+            Step {
+                left: left,
+                entry: (p * 1024 + r) as u32,
+            }
+        }
+        Found::Nothing => {
+            hints[r] = CLOSED;
+            Step {
+                left: count,
+                entry: r as u32,
+            }
+        }
     }
-    hints[r] = CLOSED;
-    count
 }
 
-// At most m turns, in each of which the row with the least hint is pushed at an unknown that it has. Returns the number of turns, and in `order` what each
-// of them pushed, as unknown * 1024 + row.
+// At most m turns, in each of which the row with the least hint is pushed at its lowest unknown. Returns the number of turns, and in `order` the row and the
+// unknown of each.
 pub fn prepare(
     rows: &mut [u64],
     rhs: &mut [u8],
@@ -285,20 +284,9 @@ pub fn prepare(
         }
         from = r;
         enough = hints[r];
-        let p = latest(rows, r * (words + 1), words);
-        count = push_row(
-            rows,
-            rhs,
-            &mut hints,
-            &mut list,
-            count,
-            m,
-            words,
-            width,
-            r,
-            p,
-        );
-        order[t] = (p * 1024 + r) as u32;
+        let done = forward_step(rows, rhs, &mut hints, &mut list, count, m, words, width, r);
+        count = done.left;
+        order[t] = done.entry;
         t += 1;
     }
     m

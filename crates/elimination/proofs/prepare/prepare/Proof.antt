@@ -1,12 +1,11 @@
--- `rows::prepare::prepare` meets its contract. The invariant: the solutions are those of the start.
+-- `elimination::prepare::prepare` meets its contract. The invariant: the solutions are those of the start.
 -- Assumes nothing.
 use native.Mathlib.Omega.{arith}
-use Prim.Native.Nat.{ℕ, _+_, _-_, _≤_, _<_}
+use Prim.Native.Nat.{ℕ, _-_, _≤_, _<_}
 use native.Mathlib.Nat.{eq-or-lt-of-le}
 use lib.ListN.{length}
 use mathlib.Core.Path.{_≡_, refl, _∙_}
 use mathlib.Core.Logic.{_≢_, ⊎-elim}
-use Rattle.algebra.proofs.Codeword.{slot}
 use Rattle.elimination.specs.System.{Same}
 use Rattle.elimination.proofs.SystemLaws.{same-refl, same-trans}
 use Rattle.elimination.proofs.prepare.prepare.Statement.{statement}
@@ -19,6 +18,10 @@ Inv-loop rows₀ rhs₀ order₀ m words width hints₀ list₀ count₀ from₀
 abbrev μ-loop : tie.MeasureT-loop
 μ-loop rows₀ rhs₀ order₀ m words width hints₀ list₀ count₀ from₀ enough₀ t₀ rows rhs order hints list count from enough t =
     m - t
+
+-- row r is one of the m
+below : {r m : ℕ} → r ≤ m → r ≢ m → r < m
+below h ne = ⊎-elim (λ e. absurd (ne e)) (λ lt. lt) (eq-or-lt-of-le h)
 
 weigh-requires : tie.Need-weigh-requires Inv-loop μ-loop
 weigh-requires c κs = omega arith
@@ -47,48 +50,29 @@ mul-enough c = omega arith
 array-read-enough : tie.Need-array-read-enough Inv-loop μ-loop
 array-read-enough c = omega arith
 
--- row r is one of the m
-below : {r m : ℕ} → r ≤ m → r ≢ m → r < m
-below h ne = ⊎-elim (λ e. absurd (ne e)) (λ lt. lt) (eq-or-lt-of-le h)
-
-add-latest : tie.Need-add-latest Inv-loop μ-loop
-add-latest c = omega arith
-
-mul-latest : tie.Need-mul-latest Inv-loop μ-loop
-mul-latest c = omega (arith, slot _ (c .before .before .before .before .before .before .before .before .before .before .before .before .before .before .args .m) (c .before .before .before .before .before .before .before .before .before .before .before .before .before .before .args .words + 1) (below (c .before .before .pick .ensures) (c .before .if1 .left)))
-
-latest-requires : tie.Need-latest-requires Inv-loop μ-loop
-latest-requires c κs = omega (arith, slot _ (c .before .before .before .before .before .before .before .before .before .before .before .before .before .before .args .m) (c .before .before .before .before .before .before .before .before .before .before .before .before .before .before .args .words + 1) (below (c .before .before .pick .ensures) (c .before .if1 .left)))
-
-push-row-requires : tie.Need-push-row-requires Inv-loop μ-loop
-push-row-requires c κs = omega arith
+forward-step-requires : tie.Need-forward-step-requires Inv-loop μ-loop
+forward-step-requires c κs =
+    let inside = below (c .before .before .before .before .before .pick .ensures) (c .before .before .before .before .if1 .left) in
+    let pre = c .before .before .before .before .before .before .before .before .before .before .before .before .before .before .before .before .before .pre in
+    let inv = c .before .before .before .before .before .before .before .before .loop .inv .1 .1 in ((pre .0 .0, (inside, (pre .0 .1, omega arith))), (omega arith, omega arith))
 
 mul-order : tie.Need-mul-order Inv-loop μ-loop
-mul-order c = omega (arith, c .before .before .before .before .before .before .before .before .before .before .before .before .before .before .before .before .before .before .before .before .before .before .before .before .pre .0 .0, c .before .before .before .before .before .before .before .before .before .before .before .before .before .before .before .before .before .before .before .before .before .before .before .before .pre .0 .1)
-
-add-order : tie.Need-add-order Inv-loop μ-loop
-add-order c = omega (arith, c .before .before .before .before .before .before .before .before .before .before .before .before .before .before .before .before .before .before .before .before .before .before .before .before .pre .0 .0, c .before .before .before .before .before .before .before .before .before .before .before .before .before .before .before .before .before .before .before .before .before .before .before .before .pre .0 .1)
-
-cast-order : tie.Need-cast-order Inv-loop μ-loop
-cast-order c = omega (arith, c .before .before .before .before .before .before .before .before .before .before .before .before .before .before .before .before .before .before .before .before .before .before .before .before .pre .0 .0, c .before .before .before .before .before .before .before .before .before .before .before .before .before .before .before .before .before .before .before .before .before .before .before .before .pre .0 .1)
-
-mul-order-2 : tie.Need-mul-order-2 Inv-loop μ-loop
-mul-order-2 c = omega (arith, c .before .before .before .before .before .before .before .before .before .before .before .before .before .before .before .before .before .before .before .before .before .before .before .before .pre .0 .0, c .before .before .before .before .before .before .before .before .before .before .before .before .before .before .before .before .before .before .before .before .before .before .before .before .pre .0 .1)
+mul-order c = omega (arith, c .before .before .before .before .before .before .before .before .before .before .before .before .before .before .before .before .before .before .before .before .before .before .pre .0 .1)
 
 element-write-order : tie.Need-element-write-order Inv-loop μ-loop
-element-write-order c = omega (arith, c .before .before .before .before .before .before .before .before .before .before .before .before .before .before .before .before .before .before .before .before .before .before .before .before .pre .0 .0, c .before .before .before .before .before .before .before .before .before .before .before .before .before .before .before .before .before .before .before .before .before .before .before .before .pre .0 .1)
+element-write-order c = omega (arith, c .before .before .before .before .before .before .before .before .before .before .before .before .before .before .before .before .before .before .before .before .before .before .pre .0 .1)
 
 add-t : tie.Need-add-t Inv-loop μ-loop
-add-t c = omega (arith, c .before .before .before .before .before .before .before .before .before .before .before .before .before .before .before .before .before .before .before .before .before .before .before .before .pre .0 .0, c .before .before .before .before .before .before .before .before .before .before .before .before .before .before .before .before .before .before .before .before .before .before .before .before .pre .0 .1)
+add-t c = omega (arith, c .before .before .before .before .before .before .before .before .before .before .before .before .before .before .before .before .before .before .before .before .before .before .pre .0 .1)
 
 loop-less : tie.Need-loop-less Inv-loop μ-loop
 loop-less c = omega arith
 
 loop-again : tie.Need-loop-again Inv-loop μ-loop
 loop-again c =
-    let at-push = c .before .before .before .before in
-    let inv = at-push .before .before .before .before .before .before .before .before .before .before .before .loop .inv in
-    (omega arith, (omega arith, (omega arith, (at-push .push-row .kept .0 ∙ inv .1 .1 .1 .0, (at-push .push-row .kept .1 .0 ∙ inv .1 .1 .1 .1 .0, same-trans (inv .1 .1 .1 .1 .1) (at-push .push-row .ensures .1))))))
+    let call = c .before .before .before .before .forward-step in
+    let inv = c .before .before .before .before .before .before .before .before .before .before .before .before .before .loop .inv in
+    (omega arith, (omega arith, (omega (arith, call .ensures .0), (call .kept .0 ∙ inv .1 .1 .1 .0, (call .kept .1 .0 ∙ inv .1 .1 .1 .1 .0, same-trans (inv .1 .1 .1 .1 .1) (call .ensures .1))))))
 
 same-length-3 : tie.Need-same-length-3 Inv-loop μ-loop
 same-length-3 c = omega arith
@@ -114,14 +98,8 @@ prepare-spec =
     returns
     mul-enough
     array-read-enough
-    add-latest
-    mul-latest
-    latest-requires
-    push-row-requires
+    forward-step-requires
     mul-order
-    add-order
-    cast-order
-    mul-order-2
     element-write-order
     add-t
     loop-less
