@@ -1,9 +1,9 @@
 pub mod Order
 pub mod Digits
 pub mod BitsLaws
-pub mod SweepLaws
+pub mod ColumnLaws
 pub mod SystemLaws
 pub mod ReducedLaws
-pub mod StepLaws
-pub mod SharedLaws
-pub mod FillLaws
+pub mod PivotStepLaws
+pub mod SharedUnknownsLaws
+pub mod ConsistencyLaws

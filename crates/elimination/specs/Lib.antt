@@ -1,7 +1,7 @@
 pub mod Bits
-pub mod Sweep
+pub mod Column
 pub mod System
 pub mod Reduced
-pub mod Step
-pub mod Shared
-pub mod Fill
+pub mod PivotStep
+pub mod SharedUnknowns
+pub mod Consistency

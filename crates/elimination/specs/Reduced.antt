@@ -16,8 +16,8 @@ pivotAt words s = s * (words + 1) + words
 abbrev pub pivotWord : List ℕ → ℕ → ℕ → ℕ
 pivotWord l words s = getD l (pivotAt words s) 0
 
--- row s has no unknown
-pub record Empty (l : List ℕ) (words s : ℕ) : Type 0 where
+-- a zero row: row s has no unknown
+pub record ZeroRow (l : List ℕ) (words s : ℕ) : Type 0 where
   pub word : pivotWord l words s ≡ 0
   pub clear : (q : ℕ) → q < 64 * words → rowBit l (s * (words + 1)) q ≡ false
 
@@ -29,9 +29,10 @@ pub record Pivot (l : List ℕ) (m words s : ℕ) : Type 0 where
   pub here : rowBit l (s * (words + 1)) at ≡ true
   pub others : (j : ℕ) → j < m → j ≢ s → rowBit l (j * (words + 1)) at ≡ false
 
-abbrev pub Done : List ℕ → ℕ → ℕ → ℕ → Type 0
-Done l m words s = Empty l words s ⊎ Pivot l m words s
+-- row s is reduced
+abbrev pub RowReduced : List ℕ → ℕ → ℕ → ℕ → Type 0
+RowReduced l m words s = ZeroRow l words s ⊎ Pivot l m words s
 
--- the first k of the m rows are done
+-- the first k of the m rows are reduced
 abbrev pub Reduced : List ℕ → ℕ → ℕ → ℕ → Type 0
-Reduced l m words k = (s : ℕ) → s < k → Done l m words s
+Reduced l m words k = (s : ℕ) → s < k → RowReduced l m words s

@@ -19,10 +19,10 @@ abbrev pub Solves : List ℕ → List ℕ → ℕ → ℕ → ℕ → ℕ → (�
 Solves l d m words width n x = (j i : ℕ) → j < m → i < width → leftSide l words n x j i ≡ getD d (j * width + i) 0
 
 -- l, d and l′, d′ have the same solutions, over any number of unknowns that a row holds; and an unknown that no row of l has is in no row of l′
-pub record Same (l d l′ d′ : List ℕ) (m words width : ℕ) : Type 0 where
+pub record SameSolutions (l d l′ d′ : List ℕ) (m words width : ℕ) : Type 0 where
   pub solves : (n : ℕ) (x : ℕ → ℕ → ℕ) → n ≤ 64 * words → Solves l d m words width n x ↔ Solves l′ d′ m words width n x
   pub absent : (q : ℕ) → q < 64 * words → ((j : ℕ) → j < m → rowBit l (j * (words + 1)) q ≡ false) → (j : ℕ) → j < m → rowBit l′ (j * (words + 1)) q ≡ false
 
 -- l and l′ differ in the last words of rows only
-abbrev pub SameWords : List ℕ → List ℕ → ℕ → Type 0
-SameWords l l′ words = (j k : ℕ) → k < words → getD l′ (j * (words + 1) + k) 0 ≡ getD l (j * (words + 1) + k) 0
+abbrev pub SameCoefficients : List ℕ → List ℕ → ℕ → Type 0
+SameCoefficients l l′ words = (j k : ℕ) → k < words → getD l′ (j * (words + 1) + k) 0 ≡ getD l (j * (words + 1) + k) 0

@@ -2,43 +2,45 @@
 // words and `width` bytes of a right-hand side: the row's first words hold 64 unknowns each, and its last word, the pivot word, holds the
 // number of the unknown that is the row's pivot + 1, or 0. The words and the bytes are lent by the caller. What an unknown stands for is the
 // caller's matter.
-use alone::finish_all_alone;
-use finish::finish_next;
-use finish::finish_row;
-use prepare::prepare;
+use back_substitution::reduce_next;
+use back_substitution::reduce_row;
+use forward::forward_pass;
+use singletons::set_singletons;
 ghost use Prim.Native.Nat.{_+_, _*_, _≤_};
 ghost use lib.ListN.{length};
-ghost use Rattle.elimination.specs.System.{Same};
+ghost use Rattle.elimination.specs.System.{SameSolutions};
 ghost use Rattle.elimination.specs.Reduced.{Reduced};
 
 pub mod parts; // parts of a buffer: exclusive or
 pub mod bits; // unknowns of a row
 pub mod solution; // whether the reduced form has a solution
-mod sweep; // one row added to others
-mod prepare; // elimination, first part: fewer additions
-mod alone; // second part: pivots that stand in no other row
-mod finish; // second part: every other row
+mod column; // a row added to others: a column cleared
+mod weights; // forward pass: the rows' weights
+mod active; // forward pass: the list of active rows
+mod forward; // the forward pass
+mod singletons; // pivots that stand in no other row
+mod back_substitution; // every other row
 
-// Brings all m rows into reduced form; the equations keep their solutions. `prepare` chooses an order and a pivot for each row, and this goes
-// over its order backwards, so that each row is added to others when it has hardly an unknown left. The last loop leaves no row out, whatever
-// the order was.
+// Brings all m rows into reduced form; the equations keep their solutions. The forward pass chooses an order and a pivot for each row, and back
+// substitution goes over its order backwards, so that each row is added to others when it has hardly an unknown left. The last loop leaves no row
+// out, whatever the order was.
 pub fn eliminate(rows: &mut [u64], rhs: &mut [u8], m: usize, words: usize, width: usize)
     requires { ⌜ (words ≤ 48) × (m ≤ 1024) ⌝ }
     requires { ⌜ (m * (words + 1) ≤ length (now rows)) × (m * width ≤ length (now rhs)) ⌝ }
     ensures { λ _. ⌜ Reduced (now (rows .exit)) m words m ⌝ }
-    ensures { λ _. ⌜ Same (now (rows .entry)) (now (rhs .entry)) (now (rows .exit)) (now (rhs .exit)) m words width ⌝ }
+    ensures { λ _. ⌜ SameSolutions (now (rows .entry)) (now (rhs .entry)) (now (rows .exit)) (now (rhs .exit)) m words width ⌝ }
 {
     let mut order = [0u32; 1024];
-    let mut t = prepare(rows, rhs, &mut order, m, words, width);
+    let mut t = forward_pass(rows, rhs, &mut order, m, words, width);
     let mut done = [0u8; 1024];
-    finish_all_alone(rows, &mut done, &order, m, words, t);
+    set_singletons(rows, &mut done, &order, m, words, t);
     while t > 0 {
         t -= 1;
-        finish_next(rows, rhs, &mut done, m, words, width, order[t]);
+        reduce_next(rows, rhs, &mut done, m, words, width, order[t]);
     }
     let mut s = 0;
     while s < m {
-        finish_row(rows, rhs, &mut done, m, words, width, s, 0);
+        reduce_row(rows, rhs, &mut done, m, words, width, s, 0);
         s += 1;
     }
 }

@@ -2,7 +2,7 @@
 ghost use Prim.Native.Nat.{_+_, _*_, _≤_};
 ghost use lib.ListN.{length};
 ghost use Rattle.elimination.specs.Reduced.{Reduced};
-ghost use Rattle.elimination.specs.Fill.{ConsistentIs};
+ghost use Rattle.elimination.specs.Consistency.{ConsistentIs};
 
 // There is a solution: no equation without unknowns fails.
 pub fn consistent(rows: &[u64], rhs: &[u8], m: usize, words: usize, width: usize) -> bool

@@ -1,4 +1,4 @@
--- `rows::bits::bit_at` meets its contract: `rowBit` is what the code computes.
+-- `elimination::bits::bit_at` meets its contract: `rowBit` is what the code computes.
 -- Assumes nothing.
 use mathlib.Core.Path.{refl}
 use Rattle.elimination.specs.Bits.{testBit}

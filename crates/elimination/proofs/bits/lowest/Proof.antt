@@ -1,4 +1,4 @@
--- `rows::bits::lowest` meets its contract. The invariant: the words passed have no unknown.
+-- `elimination::bits::lowest` meets its contract. The invariant: the words passed have no unknown.
 -- Assumes nothing.
 use mathlib.Core.Path.{_≡_}
 use mathlib.Core.Bool.{false}

@@ -1,4 +1,4 @@
--- `rows::bits::only` meets its contract. The invariant: the words passed have no unknown but p.
+-- `elimination::bits::only` meets its contract. The invariant: the words passed have no unknown but p.
 -- Assumes nothing.
 use mathlib.Core.Path.{_≡_, sym, _∙_}
 use mathlib.Core.Logic.{_≢_, ⊎-elim}

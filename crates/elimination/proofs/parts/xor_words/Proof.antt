@@ -1,4 +1,4 @@
--- `rows::parts::xor_words` meets its contract. The invariant: the first i elements are done, which `added` says of i.
+-- `elimination::parts::xor_words` meets its contract. The invariant: the first i elements are done, which `added` says of i.
 -- Assumes nothing.
 use mathlib.Core.Path.{_≡_, refl, ap, _∙_}
 use Prim.Native.Nat.{_-_, _≤_}

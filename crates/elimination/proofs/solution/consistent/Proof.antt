@@ -1,4 +1,4 @@
--- `rows::solution::consistent` meets its contract. The invariant: no row passed is empty with a right-hand side other than 0.
+-- `elimination::solution::consistent` meets its contract. The invariant: no row passed is empty with a right-hand side other than 0.
 -- Assumes nothing.
 use mathlib.Core.Path.{_≡_, subst}
 use mathlib.Core.Logic.{⊎-elim}
@@ -9,7 +9,7 @@ use lib.ListN.{length, getD}
 use Rattle.algebra.proofs.Codeword.{slot}
 use Rattle.buffers.specs.AllZero.{AllZeroIs}
 use Rattle.elimination.specs.Reduced.{pivotWord}
-use Rattle.elimination.proofs.FillLaws.{word-empty, zeros-more, zero-at}
+use Rattle.elimination.proofs.ConsistencyLaws.{word-zero-row, zeros-more, zero-at}
 use Rattle.elimination.proofs.solution.consistent.Statement.{statement}
 use Rattle.elimination.proofs.solution.consistent.Tie as tie
 
@@ -62,7 +62,7 @@ returns c =
       byte = e .0;
       below = turn .loop-test .taken;
       within = e .1 .0;
-      empty = word-empty _ _ _ _ (c .before .before .before .before .before .before .before .before .pre .1 _ (turn .loop-test .taken)) (c .before .before .if1 .taken);
+      empty = word-zero-row _ _ _ _ (c .before .before .before .before .before .before .before .before .pre .1 _ (turn .loop-test .taken)) (c .before .before .if1 .taken);
       there = e .1 .1;
     }
 

@@ -1,0 +1,126 @@
+-- `elimination::singletons::set_singleton` meets its contract: where it writes, it does what the pivot step would do.
+-- Assumes nothing.
+use borrow.Author.Needs.{needs}
+use native.Mathlib.Omega.{arith}
+use Prim.Native.Nat.{ℕ, _+_, _*_, _/_, _%_, _≤_, _<_}
+use mathlib.Core.Path.{_≡_, refl, sym, _∙_}
+use mathlib.Core.Bool.{false}
+use mathlib.Core.List.{List, []}
+use native.Mathlib.Nat.{le-trans}
+use lib.ListN.{length, getD, set, length-set}
+use borrow.Author.Tests.{ne-eqb}
+use Rattle.elimination.specs.Bits.{testBit}
+use Rattle.algebra.proofs.Codeword.{slot}
+use Rattle.elimination.specs.Reduced.{pivotAt}
+use Rattle.elimination.proofs.SharedUnknownsLaws.{singleton-step}
+use Rattle.elimination.proofs.SystemLaws.{coefficients-pivotSet}
+use Rattle.elimination.proofs.PivotStepLaws.{step-where}
+use Rattle.elimination.proofs.singletons.set_singleton.Statement.{statement}
+use Rattle.elimination.proofs.singletons.set_singleton.Tie as tie
+
+-- row r ends within the rows
+ends : (c : tie.Else3)
+    → c .before .before .before .before .before .args .v % 1024 * (c .before .before .before .before .before .args .words + 1) + (c .before .before .before .before .before .args .words + 1) ≤ length (c .before .before .before .before .before .args .rows .now)
+ends c =
+    let a = c .before .before .before .before .before .args in le-trans (slot (a .v % 1024) (a .m) (a .words + 1) (omega arith)) (c .before .before .before .before .before .pre .1 .0 .0)
+
+cast-r : tie.Need-cast-r
+cast-r c = search needs
+
+cast-p : tie.Need-cast-p
+cast-p c = search needs
+
+returns : tie.Need-returns
+returns c = search needs
+
+returns-2 : tie.Need-returns-2
+returns-2 c = search needs
+
+mul-mask : tie.Need-mul-mask
+mul-mask c = search needs
+
+element-copy-out-mask : tie.Need-element-copy-out-mask
+element-copy-out-mask c = search needs
+
+shr-if3 : tie.Need-shr-if3
+shr-if3 c = search needs
+
+returns-3 : tie.Need-returns-3
+returns-3 c = search needs
+
+add-base : tie.Need-add-base
+add-base c = search needs
+
+mul-base : tie.Need-mul-base
+mul-base c = omega (arith, ends c)
+
+bit-at-requires : tie.Need-bit-at-requires
+bit-at-requires c κs = omega (arith, ends (c .before))
+
+add-k : tie.Need-add-k
+add-k c = omega (arith, ends (c .before .before .before))
+
+add-rows : tie.Need-add-rows
+add-rows c = search needs
+
+mul-rows : tie.Need-mul-rows
+mul-rows c = omega (arith, ends (c .before .before .before))
+
+slice-write-rows : tie.Need-slice-write-rows
+slice-write-rows c = omega (arith, ends (c .before .before .before))
+
+element-write-done : tie.Need-element-write-done
+element-write-done c = search needs
+
+same-length : tie.Need-same-length
+same-length c = search needs
+
+returns-4 : tie.Need-returns-4
+unfolding testBit
+returns-4 c =
+    let start = c .before .before .before .before .before .before .before .before in
+    let a = start .args in
+    let l : List ℕ = a .rows .now in
+    let f : List ℕ = a .done .now in
+    let r : ℕ = a .v % 1024 in
+    let p : ℕ = a .v / 1024 in
+    let inside : r < a .m = omega arith in
+    let off : testBit (getD (a .masks .now) (p / 64) 0) (p % 64) ≡ false = ne-eqb _ 1 (c .before .before .before .if3 .left) in
+    let step = singleton-step (a .masks .now) l (a .m) (a .words) r p inside (omega arith) (start .pre .1 .0 .1) off (sym (c .before .bit-at .ensures) ∙ c .if4 .taken) [] 0 in (
+      coefficients-pivotSet l (a .words) r (p + 1),
+      (
+        simp length-set (start .pre .1 .1 .0),
+        step-where l [] (set l (pivotAt (a .words) r) (p + 1)) [] (a .m) (a .words) 0 r step inside (start .pre .1 .0 .0) (omega arith) f (set f r 1) (start .pre .1 .1 .1) refl,
+      ),
+    )
+
+same-length-2 : tie.Need-same-length-2
+same-length-2 c = search needs
+
+returns-5 : tie.Need-returns-5
+returns-5 c = search needs
+
+pub set-singleton-spec : {M : Type 1} → statement M
+set-singleton-spec =
+    tie.close
+    (tie.spec
+    cast-r
+    cast-p
+    returns
+    returns-2
+    mul-mask
+    element-copy-out-mask
+    shr-if3
+    returns-3
+    add-base
+    mul-base
+    bit-at-requires
+    add-k
+    add-rows
+    mul-rows
+    slice-write-rows
+    element-write-done
+    same-length
+    returns-4
+    same-length-2
+    returns-5)

@@ -1,0 +1,72 @@
+// The list of the active rows, in any order: those that the forward pass has not retired. A row that loses its last unknown stays in it.
+use crate::bits;
+use crate::weights::RETIRED;
+ghost use mathlib.Core.Path.{_≡_};
+ghost use mathlib.Core.Bool.{true};
+ghost use Prim.Native.Nat.{_+_, _*_, _/_, _≤_, _<_};
+ghost use lib.ListN.{length, getD};
+
+// Lists the rows whose weight is not RETIRED; returns how many these are.
+pub fn list_active(weights: &[u16; 1024], active: &mut [u16; 1024], m: usize) -> usize
+    requires { ⌜ m ≤ 1024 ⌝ }
+    ensures { λ r. ⌜ r ≤ m ⌝ }
+{
+    let mut count = 0;
+    let mut j = 0;
+    while j < m {
+        if weights[j] != RETIRED {
+            active[count] = j as u16;
+            count += 1;
+        }
+        j += 1;
+    }
+    count
+}
+
+// Row j is one of the m and has unknown p.
+fn has_unknown(rows: &[u64], m: usize, words: usize, j: u16, p: usize) -> bool
+    requires { ⌜ (p / 64 < words) × (m * (words + 1) ≤ length (now rows)) ⌝ }
+    ensures { λ r. ⌜ (r ≡ true → j < m) ⌝ }
+{
+    let k = j as usize;
+    if k < m {
+        return bits::bit_at(rows, k * (words + 1), p);
+    }
+    false
+}
+
+// The first place from i on in the list whose row has unknown p; count where there is none.
+pub fn next_active(
+    rows: &[u64],
+    active: &[u16; 1024],
+    count: usize,
+    m: usize,
+    words: usize,
+    p: usize,
+    i: usize,
+) -> usize
+    requires { ⌜ (p / 64 < words) × ((i ≤ count) × (count ≤ 1024)) ⌝ }
+    requires { ⌜ m * (words + 1) ≤ length (now rows) ⌝ }
+    ensures { λ k. ⌜ (i ≤ k) × ((k ≤ count) × (k < count → getD (now (active .entry)) k 0 < m)) ⌝ }
+{
+    let mut k = i;
+    while k < count {
+        if has_unknown(rows, m, words, active[k], p) {
+            return k;
+        }
+        k += 1;
+    }
+    count
+}
+
+// Takes the row at `place` out of the list; returns how many are left.
+pub fn remove_active(active: &mut [u16; 1024], count: usize, place: usize) -> usize
+    requires { ⌜ count ≤ 1024 ⌝ }
+    ensures { λ r. ⌜ r ≤ count ⌝ }
+{
+    if place < count {
+        active[place] = active[count - 1];
+        return count - 1;
+    }
+    count
+}
