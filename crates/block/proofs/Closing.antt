@@ -31,6 +31,11 @@ told v ok h f l marks e p q r = rw (e ∙ ap (verdictBy ok) r, p, q, r)
 
 -- ---- from the decoder's states to the marks
 
+-- a mark after a verdict and the decoder's state are the same number
+pub mark-by : (x : Status) (d : Bool) → markAfter x d ≡ cond (isHeard x) 1 (cond d 2 0)
+mark-by heard d = refl
+mark-by missing d = refl
+
 module _ (b : Block) (s k states : List ℕ) (pos : 0 < b .w) (size : length k ≡ checks b .n) (T : Told b k states) where
   -- the decoder knows what the block knows
   same-known : (i : ℕ) → i < checks b .n → isKnown states i ≡ known b k i
@@ -53,7 +58,6 @@ module _ (b : Block) (s k states : List ℕ) (pos : 0 < b .w) (size : length k �
     unfolding symbolsAfter
     symbols-after = D .symbols-are ∙ same-filled (checks b) (b .w) (isKnown states) s (known b k) s same pos
 
-    -- a state and a mark after the verdict are the same number
     one : (x : Status) (d : Bool) → eqb (cond (isHeard x) 1 (cond d 2 0)) 2 ≡ cond (isHeard x) false d
     one heard d = refl
     one missing true = refl
@@ -62,10 +66,6 @@ module _ (b : Block) (s k states : List ℕ) (pos : 0 < b .w) (size : length k �
     mark-of : (x : Status) (d : Bool) → markAfter x (cond (isHeard x) false d) ≡ markAfter x d
     mark-of heard d = refl
     mark-of missing d = refl
-
-    mark-state : (x : Status) (d : Bool) → markAfter x d ≡ cond (isHeard x) 1 (cond d 2 0)
-    mark-state heard d = refl
-    mark-state missing d = refl
 
     state-at : (i : ℕ) → i < checks b .n → getD states′ i 0 ≡ cond (isHeard (statusOf b k i)) 1 (cond (determined (b .w) (candidates b s k) i) 2 0)
     unfolding statesAfter known
@@ -91,7 +91,7 @@ module _ (b : Block) (s k states : List ℕ) (pos : 0 < b .w) (size : length k �
     states-marks =
         ext-getD 0 states′ k′ (states-size ∙ sym (M .size ∙ size)) (λ i h.
         let l : i < checks b .n = omega (arith, states-size) in
-        state-at i l ∙ sym (mark-at i l ∙ mark-state (statusOf b k i) (determined (b .w) (candidates b s k) i)))
+        state-at i l ∙ sym (mark-at i l ∙ mark-by (statusOf b k i) (determined (b .w) (candidates b s k) i)))
       where
         states-size : length states′ ≡ checks b .n
         unfolding statesAfter

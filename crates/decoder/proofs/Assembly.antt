@@ -18,7 +18,7 @@ use Rattle.ccsds.specs.Tables.{codeOf, Known}
 use Rattle.ccsds.proofs.Valid.{valid-of}
 use Rattle.algebra.specs.Unique.{Some, Common}
 use Rattle.decoder.specs.Outcome.{AgreesWith}
-use Rattle.elimination.specs.Fill.{Consistent, ConsistentIs}
+use Rattle.elimination.specs.Consistency.{Consistent, ConsistentIs}
 use Rattle.peeling.specs.Plan.{free, Plan, Closed, Unsolved}
 use Rattle.peeling.specs.Values.{Values, HoldIs}
 use Rattle.decoder.specs.Pivots.{AllSolvedIs, DeterminedIs}

@@ -21,8 +21,8 @@ use Rattle.decoder.specs.Outcome.{AgreesWith}
 use Rattle.algebra.proofs.Sums.{unit, unit-l, cancel-l, self, add-byte, add-ne, sum-ext, sum-none, sum-only, sum-tests, sum-terms, sum-xor, sum-zeros}
 use Rattle.algebra.proofs.Lists.{length-tab, getD-tab}
 use Rattle.elimination.specs.Bits.{testBit, rowBit}
-use Rattle.elimination.specs.Reduced.{pivotWord, Pivot, Done}
-use Rattle.elimination.specs.Fill.{Consistent}
+use Rattle.elimination.specs.Reduced.{pivotWord, Pivot, RowReduced}
+use Rattle.elimination.specs.Consistency.{Consistent}
 use Rattle.elimination.proofs.Order.{lt-or-le, eq-or-ne}
 use Rattle.peeling.specs.Plan.{kindOf, rowOf, pivotOf, Plan, Closed}
 use Rattle.peeling.specs.Values.{Again}
@@ -313,7 +313,7 @@ module _ {c : Checks} {w : ℕ} {block states plan y l lr d lr′ d′ : List �
                 ap (λ (a : Bool). pick a (pick (D (pivotOf plan q) i) 1)) t
                 ∙ sym (ap (λ (a : Bool). pick a (pick (row i) 1)) (ap₂ xor (ne-eqb q at e) (ne-eqb q i k) ∙ xor-false false))
 
-        go : Done lr′ rest words r → sum row (λ q. pick (D (pivotOf plan q) i) 1) pivots ≡ 0
+        go : RowReduced lr′ rest words r → sum row (λ q. pick (D (pivotOf plan q) i) 1) pivots ≡ 0
         go (inl e) = sum-none row (λ q. pick (D (pivotOf plan q) i) 1) pivots (λ q h. e .clear q (omega (arith, G .room)))
         go (inr v) = pivot-row v
 

@@ -14,7 +14,7 @@ use Rattle.buffers.specs.Parts.{put}
 use Rattle.buffers.proofs.Put.{put-length, put-in, put-out}
 use Rattle.elimination.specs.Reduced.{pivotWord}
 use Rattle.elimination.proofs.Order.{eq-or-ne}
-use Rattle.elimination.proofs.SweepLaws.{rows-apart}
+use Rattle.elimination.proofs.ColumnLaws.{rows-apart}
 use Rattle.peeling.specs.Plan.{kindOf, pivotOf, Plan, Unsolved}
 use Rattle.decoder.specs.Pivots.{Solved, Free, Put, PutRoom, PutOne}
 

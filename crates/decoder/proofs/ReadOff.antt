@@ -16,10 +16,10 @@ use Rattle.algebra.specs.Unique.{Some, Common}
 use Rattle.decoder.specs.Outcome.{AgreesWith}
 use Rattle.algebra.proofs.Sums.{unit, sum-cong, sum-none, sum-zeros}
 use Rattle.elimination.specs.Bits.{rowBit}
-use Rattle.elimination.specs.System.{Solves, Same}
-use Rattle.elimination.specs.Reduced.{pivotWord, Done, Reduced}
-use Rattle.elimination.specs.Fill.{Consistent, Fails}
-use Rattle.elimination.proofs.FillLaws.{word-pivot}
+use Rattle.elimination.specs.System.{Solves, SameSolutions}
+use Rattle.elimination.specs.Reduced.{pivotWord, RowReduced, Reduced}
+use Rattle.elimination.specs.Consistency.{Consistent, Fails}
+use Rattle.elimination.proofs.ConsistencyLaws.{word-pivot}
 use Rattle.elimination.proofs.Order.{lt-or-le, eq-or-ne}
 use Rattle.peeling.specs.Plan.{kindOf, rowOf, positionOf, pivotOf, usedBy, Before, Step, Sort, Plan, Closed, Unsolved}
 use Rattle.peeling.specs.Values.{StepsHold, Values, Again}
@@ -40,7 +40,7 @@ module _ (l : List ℕ) (m words : ℕ) (red : Reduced l m words m) where
   pub row-others : (r i u : ℕ) → r < m → i < m → i ≢ r → pivotWord l words r ≡ u + 1 → rowBit l (i * (words + 1)) u ≡ false
   row-others r i u hr hi ne e = go (red r hr)
     where
-      go : Done l m words r → rowBit l (i * (words + 1)) u ≡ false
+      go : RowReduced l m words r → rowBit l (i * (words + 1)) u ≡ false
       go (inl z) = absurd (omega (arith, z .word))
       go (inr v) = let same : v .at ≡ u = omega (arith, v .word) in ap (rowBit l (i * (words + 1))) (sym same) ∙ v .others i hi ne
 
@@ -85,7 +85,7 @@ pub record Setting (c : Checks) (w : ℕ) (block states plan y l lr d lr′ d′
   pub step-rows : StepsExpressed c plan l words early steps
   pub system : System c w plan y l words early rest lr d
   pub room : pivots ≤ 64 * words
-  pub same : Same lr d lr′ d′ rest words w
+  pub same : SameSolutions lr d lr′ d′ rest words w
   pub reduced : Reduced lr′ rest words rest
   pub some : 0 < w
 
@@ -365,7 +365,7 @@ module _ {c : Checks} {w : ℕ} {block states plan y l lr d lr′ d′ : List �
         pub x-solves : Consistent lr′ d′ rest words w → Solves lr′ d′ rest words w pivots (pivotByte w plan x)
         x-solves consistent r b hr hb = go (G .reduced r hr)
           where
-            go : Done lr′ rest words r → sum (rowBit lr′ (r * (words + 1))) (λ q. pivotByte w plan x q b) pivots ≡ getD d′ (r * w + b) 0
+            go : RowReduced lr′ rest words r → sum (rowBit lr′ (r * (words + 1))) (λ q. pivotByte w plan x q b) pivots ≡ getD d′ (r * w + b) 0
             go (inl e) =
                 sum-none (rowBit lr′ (r * (words + 1))) (λ q. pivotByte w plan x q b) pivots (λ q h. e .clear q (omega (arith, G .room)))
                 ∙ sym (consistent r b hr hb e)

@@ -5,7 +5,7 @@ use mathlib.Core.List.{List}
 use Prim.Native.Nat.{ℕ, _+_, _*_, _<_, _≤_}
 use lib.ListN.{drop}
 use Rattle.algebra.specs.Codeword.{Checks}
-use Rattle.elimination.specs.System.{Same}
+use Rattle.elimination.specs.System.{SameSolutions}
 use Rattle.elimination.specs.Reduced.{Reduced}
 use Rattle.peeling.specs.Plan.{free}
 use Rattle.peeling.specs.Values.{Sides, Again}
@@ -24,7 +24,7 @@ pub record Equations (c : Checks) (w : ℕ) (plan symbols : List ℕ) (words ear
   pub step-rows : StepsExpressed c plan rows words early steps
   pub rest-rows : RestExpressed c plan rows words early steps
   pub sums : Sides c w plan symbols sides
-  pub same : Same (behind words steps rows) sides (behind words steps l) d rest words w
+  pub same : SameSolutions (behind words steps rows) sides (behind words steps l) d rest words w
   pub reduced : Reduced (behind words steps l) rest words rest
 
 -- the pivots' symbols were put in, and the steps restored again

@@ -15,9 +15,9 @@ ghost use Prim.Native.Nat.{_+_, _*_, _/_, _<_, _≤_};
 ghost use lib.ListN.{length, drop, replicate};
 ghost use Rattle.ccsds.specs.Codes.{nOf, checksOf};
 ghost use Rattle.ccsds.specs.Tables.{codeOf, Known};
-ghost use Rattle.elimination.specs.System.{Same};
+ghost use Rattle.elimination.specs.System.{SameSolutions};
 ghost use Rattle.elimination.specs.Reduced.{Reduced};
-ghost use Rattle.elimination.specs.Fill.{Consistent, ConsistentIs};
+ghost use Rattle.elimination.specs.Consistency.{Consistent, ConsistentIs};
 ghost use Rattle.peeling.specs.Table.{Table};
 ghost use Rattle.peeling.specs.Plan.{Plan, Closed, Unsolved};
 ghost use Rattle.peeling.specs.Values.{Values};
@@ -92,7 +92,7 @@ fn reduce_from(
 )
     requires { ⌜ (packed ≤ 48) × (rest ≤ 1024) ⌝ }
     requires { ⌜ (from + rest * (packed + 1) ≤ length (now words)) × (rest * w ≤ length (now bytes)) ⌝ }
-    ensures { λ _. ⌜ Same (drop from (now (words .entry))) (now (bytes .entry)) (drop from (now (words .exit))) (now (bytes .exit)) rest packed w ⌝ }
+    ensures { λ _. ⌜ SameSolutions (drop from (now (words .entry))) (now (bytes .entry)) (drop from (now (words .exit))) (now (bytes .exit)) rest packed w ⌝ }
     ensures { λ _. ⌜ Reduced (drop from (now (words .exit))) rest packed rest ⌝ }
 {
     elimination::eliminate(&mut words[from..], bytes, rest, packed, w);

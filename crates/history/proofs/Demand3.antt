@@ -11,24 +11,27 @@ use lib.Arith.{digits-div, digits-mod, digits-lt}
 use lib.Dec.{eqb}
 use lib.ListN.{length, getD, replicate, length-replicate, getD-replicate}
 use Rattle.algebra.specs.Codeword.{byteAt, symbolAt}
-use Rattle.algebra.specs.Closing.{whole, ambiguous, inconsistent, heard, verdictOf, settled, first, count}
+use Rattle.algebra.specs.Lists.{tab, count}
+use Rattle.algebra.specs.Agreeing.{whole, ambiguous, inconsistent, verdictOf, determined, first}
+use Rattle.algebra.specs.Unique.{JustOne, Two, Common}
 use Rattle.algebra.proofs.Lists.{eqb-iff, getD-tab, length-tab}
 use Rattle.algebra.proofs.Codeword.{ext-byteAt}
-use Rattle.algebra.proofs.Agreeing.{whole-iff, ambiguous-iff, inconsistent-iff, mem-agreeing, once-agreeing, settled-true, settled-same}
+use Rattle.algebra.proofs.Agreeing.{whole-iff, ambiguous-iff, inconsistent-iff, mem-agreeing, once-agreeing, determined-true, determined-same}
 use Rattle.algebra.proofs.Words.{Once}
 use Rattle.algebra.proofs.Counts.{count-all}
 use Rattle.ccsds.specs.Refusals.{Outcome, refused, answered}
 use Rattle.block.specs.Block.{checks}
+use Rattle.block.specs.Status.{heard, missing, known, isHeard, statusBy}
 use Rattle.block.specs.Open.{openOf}
 use Rattle.block.specs.Take.{Placed, kept, repeated, admission, sameBytes}
 use Rattle.block.specs.Close.{Report, reportOf, wrongWork}
-use Rattle.history.specs.Calls.{take, close, History, State, taken, closed, opened, isAt, symbolOf, heardAt, keptAt, heardMarks, keptSymbols, agreeingWith, latest, markOf, byteOf, stateOf, takeAnswer, answerOf}
-use Rattle.history.specs.Demand3.{Agrees, JustOne, Two, Common, Closes, Demand3, Demand2}
+use Rattle.history.specs.Calls.{takeUnit, closeWith, History, State, taken, closed, opened, isAt, symbolOf, heardAt, keptAt, keptSymbols, agreeingWith, latest, markOf, byteOf, stateOf, takeAnswer, answerOf}
+use Rattle.history.specs.Demand3.{Agrees, Closes, Demand3, Demand2}
 use Rattle.block.specs.declared.Block.{Block}
 use Rattle.block.proofs.Symbols.{length-symbol, symbol-byte, symbol-is}
 use Rattle.block.proofs.BlockRefusal.{Right}
 use Rattle.block.proofs.Taking.{admitted-inside}
-use Rattle.history.proofs.FromTheList.{pos, marks-size, symbols-size, mark-is, byte-is, small, heard-is, kept-size, heard-symbol, opens, from-the-list}
+use Rattle.history.proofs.FromTheList.{pos, marks-size, symbols-size, mark-is, byte-is, small, heard-is, kept-byte, kept-size, heard-symbol, opens, from-the-list}
 
 -- ---- counts of marks
 
@@ -50,104 +53,87 @@ module _ (n w : ℕ) (x y : List ℕ) (ex : length x ≡ n * w) (ey : length y �
 
 -- a take that is admitted at a position not yet heard
 module _ (b : Block) (h : History) (unit : List ℕ) (x : Placed) (e : admission b unit ≡ answered x) where
-  take-heard : heardAt b (take unit ∷ h) (x .position) ≡ true
+  take-heard : heardAt b (takeUnit unit ∷ h) (x .position) ≡ true
   unfolding heardAt isAt
   take-heard = ap (λ (a : Outcome Placed). isAt a (x .position) || heardAt b h (x .position)) e
       ∙ ap (λ (t : Bool). t || heardAt b h (x .position)) (eqb-iff (x .position) (x .position) .1 refl)
 
-  take-kept : heardAt b h (x .position) ≡ false → keptAt b (take unit ∷ h) (x .position) ≡ x .symbol
+  take-kept : heardAt b h (x .position) ≡ false → keptAt b (takeUnit unit ∷ h) (x .position) ≡ x .symbol
   unfolding keptAt isAt symbolOf
   take-kept f = rw (f, e, eqb-iff (x .position) (x .position) .1 refl)
 
 module _ (b : Block) (r : Right b) (h : History) where
   -- ---- the codewords that agree, as members of the list
 
-  heard-mark : (i : ℕ) → i < checks b .n → heard (heardMarks b h) i ≡ heardAt b h i
-  unfolding heard heardMarks
-  heard-mark i k = ap (λ (m : ℕ). eqb m 1) (getD-tab (checks b .n) (λ u. cond (heardAt b h u) 1 0) 0 i k) ∙ one (heardAt b h i)
-    where
-      one : (a : Bool) → eqb (cond a 1 0) 1 ≡ a
-      one true = refl
-      one false = refl
-
-  kept-byte : (i j : ℕ) → i < checks b .n → j < b .w → byteAt (b .w) (keptSymbols b h) j i ≡ getD (keptAt b h i) j 0
-  unfolding keptSymbols
-  kept-byte i j k l =
-      getD-tab (checks b .n * b .w) (λ u. getD (keptAt b h (u / b .w)) (u % b .w) 0) 0 (i * b .w + j) (digits-lt k l)
-      ∙ ap₂ (λ (u v : ℕ). getD (keptAt b h u) v 0) (digits-div i l) (digits-mod i l)
-
   member : (x : List ℕ) → List·Memᴰ x (agreeingWith b h) ↔ Agrees b h x
   unfolding agreeingWith
   member x = (
     λ m.
-        let a = mem-agreeing (checks b) (b .w) (keptSymbols b h) (heardMarks b h) x .0 m in
+        let a = mem-agreeing (checks b) (b .w) (heardAt b h) (keptSymbols b h) x .0 m in
         record {
           size = a .size;
           bytes = a .bytes;
           rows = a .rows;
           heard = λ i k t. symbol-is (checks b .n) (b .w) x (a .size) i k (keptAt b h i) (kept-size b r h i t) (λ j l.
-              a .same i k (heard-mark i k ∙ t) j l ∙ kept-byte i j k l);
+              a .same i k t j l ∙ kept-byte b r h i j k l);
         },
     λ a.
-        mem-agreeing (checks b) (b .w) (keptSymbols b h) (heardMarks b h) x .1 (record {
+        mem-agreeing (checks b) (b .w) (heardAt b h) (keptSymbols b h) x .1 (record {
           size = a .size;
           bytes = a .bytes;
           rows = a .rows;
           same = λ i k t j l.
               sym (symbol-byte (checks b .n) (b .w) x (a .size) i k j l)
-              ∙ ap (λ (s : List ℕ). getD s j 0) (a .heard i k (sym (heard-mark i k) ∙ t)) ∙ sym (kept-byte i j k l);
+              ∙ ap (λ (s : List ℕ). getD s j 0) (a .heard i k t) ∙ sym (kept-byte b r h i j k l);
         }),
   )
 
-  -- a position is settled where all that agree have the same symbol, and one agrees
-  settled-common : (i : ℕ) → i < checks b .n → settled (b .w) (agreeingWith b h) i ≡ true → Agrees b h (first (agreeingWith b h)) × Common b h i
-  settled-common i k e =
-      let a = settled-same (b .w) (agreeingWith b h) i e in (
+  -- a position is determined where all that agree have the same symbol, and one agrees
+  determined-common : (i : ℕ) → determined (b .w) (agreeingWith b h) i ≡ true → Agrees b h (first (agreeingWith b h)) × Common (b .w) (Agrees b h) i
+  determined-common i e =
+      let a = determined-same (b .w) (agreeingWith b h) i e in (
         member (first (agreeingWith b h)) .0 (a .0),
-        λ x y ax ay. symbols-same (checks b .n) (b .w) x y (ax .size) (ay .size) i k (λ j l.
-            sym (a .1 x (member x .1 ax) j l) ∙ a .1 y (member y .1 ay) j l),
+        λ x y ax ay j l. sym (a .1 x (member x .1 ax) j l) ∙ a .1 y (member y .1 ay) j l,
       )
 
-  common-settled : (i : ℕ) → i < checks b .n → (x : List ℕ) → Agrees b h x → Common b h i
-      → (settled (b .w) (agreeingWith b h) i ≡ true) × ((j : ℕ) → j < b .w → byteAt (b .w) (first (agreeingWith b h)) j i ≡ byteAt (b .w) x j i)
-  common-settled i k x ax f =
-      settled-true (b .w) (agreeingWith b h) i x (λ j. byteAt (b .w) x j i) (member x .1 ax) (λ y m.
-      let ay = member y .0 m in
-      bytes-same (checks b .n) (b .w) y x (ay .size) (ax .size) i k (f y x ay ax))
+  common-determined : (i : ℕ) (x : List ℕ) → Agrees b h x → Common (b .w) (Agrees b h) i
+      → (determined (b .w) (agreeingWith b h) i ≡ true) × ((j : ℕ) → j < b .w → byteAt (b .w) (first (agreeingWith b h)) j i ≡ byteAt (b .w) x j i)
+  common-determined i x ax f =
+      determined-true (b .w) (agreeingWith b h) i x (λ j. byteAt (b .w) x j i) (member x .1 ax) (λ y m. f y x (member y .0 m) ax)
 
   -- ---- a close that gives a verdict
 
   module _ (words bytes : List ℕ) (given : wrongWork b (length words) (length bytes) ≡ false) where
     abbrev now : State
-    now = stateOf b (close words bytes ∷ h)
+    now = stateOf b (closeWith words bytes ∷ h)
 
     module _ (i : ℕ) (k : i < checks b .n) where
       at-heard : heardAt b h i ≡ true → getD (now .marks) i 0 ≡ 1
       unfolding markOf heardAt
-      at-heard e = mark-is b r (close words bytes ∷ h) i k ∙ rw (e, markOf)
+      at-heard e = mark-is b r (closeWith words bytes ∷ h) i k ∙ rw (e, markOf)
 
-      at-settled : heardAt b h i ≡ false → settled (b .w) (agreeingWith b h) i ≡ true
+      at-determined : heardAt b h i ≡ false → determined (b .w) (agreeingWith b h) i ≡ true
           → (getD (now .marks) i 0 ≡ 2) × ((j : ℕ) → j < b .w → byteAt (b .w) (now .symbols) j i ≡ byteAt (b .w) (first (agreeingWith b h)) j i)
       unfolding markOf byteOf heardAt latest
-      at-settled e d = (mark-is b r (close words bytes ∷ h) i k ∙ rw (e, given, d), λ j l. byte-is b r (close words bytes ∷ h) i j k l ∙ rw (e, given, d))
+      at-determined e d = (mark-is b r (closeWith words bytes ∷ h) i k ∙ rw (e, given, d), λ j l. byte-is b r (closeWith words bytes ∷ h) i j k l ∙ rw (e, given, d))
 
-      at-left : heardAt b h i ≡ false → settled (b .w) (agreeingWith b h) i ≡ false
+      at-left : heardAt b h i ≡ false → determined (b .w) (agreeingWith b h) i ≡ false
           → (getD (now .marks) i 0 ≡ 0) × ((j : ℕ) → j < b .w → byteAt (b .w) (now .symbols) j i ≡ 0)
       unfolding markOf byteOf heardAt latest
-      at-left e d = (mark-is b r (close words bytes ∷ h) i k ∙ rw (e, given, d), λ j l. byte-is b r (close words bytes ∷ h) i j k l ∙ rw (e, given, d))
+      at-left e d = (mark-is b r (closeWith words bytes ∷ h) i k ∙ rw (e, given, d), λ j l. byte-is b r (closeWith words bytes ∷ h) i j k l ∙ rw (e, given, d))
 
-    missing-settled : (i : ℕ) → i < checks b .n → heardAt b h i ≡ false → getD (now .marks) i 0 ≡ 2 → settled (b .w) (agreeingWith b h) i ≡ true
-    missing-settled i k e m = go (settled (b .w) (agreeingWith b h) i) refl
+    missing-determined : (i : ℕ) → i < checks b .n → heardAt b h i ≡ false → getD (now .marks) i 0 ≡ 2 → determined (b .w) (agreeingWith b h) i ≡ true
+    missing-determined i k e m = go (determined (b .w) (agreeingWith b h) i) refl
       where
-        go : (d : Bool) → settled (b .w) (agreeingWith b h) i ≡ d → d ≡ true
+        go : (d : Bool) → determined (b .w) (agreeingWith b h) i ≡ d → d ≡ true
         go true q = refl
         go false q = absurd (omega (arith, at-left i k e q .0))
 
-    missing-left : (i : ℕ) → i < checks b .n → heardAt b h i ≡ false → getD (now .marks) i 0 ≢ 2 → settled (b .w) (agreeingWith b h) i ≡ false
-    missing-left i k e m = go (settled (b .w) (agreeingWith b h) i) refl
+    missing-left : (i : ℕ) → i < checks b .n → heardAt b h i ≡ false → getD (now .marks) i 0 ≢ 2 → determined (b .w) (agreeingWith b h) i ≡ false
+    missing-left i k e m = go (determined (b .w) (agreeingWith b h) i) refl
       where
-        go : (d : Bool) → settled (b .w) (agreeingWith b h) i ≡ d → d ≡ false
-        go true q = absurd (m (at-settled i k e q .0))
+        go : (d : Bool) → determined (b .w) (agreeingWith b h) i ≡ d → d ≡ false
+        go true q = absurd (m (at-determined i k e q .0))
         go false q = refl
 
     -- a position with mark 2 is missing
@@ -160,23 +146,23 @@ module _ (b : Block) (r : Right b) (h : History) where
 
     heard-now : (i : ℕ) → i < checks b .n → heardAt b h i ≡ true → symbolAt (b .w) (now .symbols) i ≡ keptAt b h i
     unfolding heardAt keptAt
-    heard-now i k e = heard-symbol b r (close words bytes ∷ h) i k e
+    heard-now i k e = heard-symbol b r (closeWith words bytes ∷ h) i k e
 
-    filled-now : (i : ℕ) → i < checks b .n → heardAt b h i ≡ false → (x : List ℕ) → Agrees b h x → Common b h i
+    filled-now : (i : ℕ) → i < checks b .n → heardAt b h i ≡ false → (x : List ℕ) → Agrees b h x → Common (b .w) (Agrees b h) i
         → (getD (now .marks) i 0 ≡ 2) × ((j : ℕ) → j < b .w → byteAt (b .w) (now .symbols) j i ≡ byteAt (b .w) x j i)
     filled-now i k e x ax f =
-        let a = common-settled i k x ax f in
-        let d = at-settled i k e (a .0) in
+        let a = common-determined i x ax f in
+        let d = at-determined i k e (a .0) in
         (d .0, λ j l. d .1 j l ∙ a .1 j l)
 
     size : length (now .symbols) ≡ checks b .n * b .w
-    size = symbols-size b r (close words bytes ∷ h)
+    size = symbols-size b r (closeWith words bytes ∷ h)
 
     -- just one agrees: all have the same symbol everywhere
-    one-common : JustOne b h → (i : ℕ) → Common b h i
-    one-common u i x y ax ay = ap (λ (z : List ℕ). symbolAt (b .w) z i) (u .2 x ax ∙ sym (u .2 y ay))
+    one-common : JustOne (Agrees b h) → (i : ℕ) → Common (b .w) (Agrees b h) i
+    one-common u i x y ax ay j l = ap (λ (z : List ℕ). byteAt (b .w) z j i) (u .2 x ax ∙ sym (u .2 y ay))
 
-    one-block : JustOne b h → (x : List ℕ) → Agrees b h x → now .symbols ≡ x
+    one-block : JustOne (Agrees b h) → (x : List ℕ) → Agrees b h x → now .symbols ≡ x
     one-block u x ax = ext-byteAt (checks b .n) (b .w) (now .symbols) x (pos b r) size (ax .size) (λ i j k l. go i j k l (heardAt b h i) refl)
       where
         go : (i j : ℕ) → i < checks b .n → j < b .w → (a : Bool) → heardAt b h i ≡ a → byteAt (b .w) (now .symbols) j i ≡ byteAt (b .w) x j i
@@ -185,15 +171,15 @@ module _ (b : Block) (r : Right b) (h : History) where
 
     once : Once (agreeingWith b h)
     unfolding agreeingWith
-    once = once-agreeing (checks b) (b .w) (keptSymbols b h) (heardMarks b h)
+    once = once-agreeing (checks b) (b .w) (heardAt b h) (keptSymbols b h)
 
-    said-whole : (verdictOf (agreeingWith b h) ≡ whole) ↔ JustOne b h
+    said-whole : (verdictOf (agreeingWith b h) ≡ whole) ↔ JustOne (Agrees b h)
     said-whole = (
       λ e. let a = whole-iff (agreeingWith b h) once .0 e in (a .0, member (a .0) .0 (a .1), λ y q. a .2 y (member y .1 q)),
       λ a. whole-iff (agreeingWith b h) once .1 (a .0, member (a .0) .1 (a .1), λ y q. a .2 y (member y .0 q)),
     )
 
-    said-ambiguous : (verdictOf (agreeingWith b h) ≡ ambiguous) ↔ Two b h
+    said-ambiguous : (verdictOf (agreeingWith b h) ≡ ambiguous) ↔ Two (Agrees b h)
     said-ambiguous = (
       λ e. let a = ambiguous-iff (agreeingWith b h) once .0 e in (a .0, a .1, member (a .0) .0 (a .2), member (a .1) .0 (a .3), a .4),
       λ a. ambiguous-iff (agreeingWith b h) once .1 (a .0, a .1, member (a .0) .1 (a .2), member (a .1) .1 (a .3), a .4),
@@ -205,12 +191,25 @@ module _ (b : Block) (r : Right b) (h : History) where
       λ n. inconsistent-iff (agreeingWith b h) .1 (λ a. n (a .0) (member (a .0) .0 (a .1))),
     )
 
-    heard-count : count 1 (now .marks) ≡ count 1 (heardMarks b h)
-    unfolding heard heardMarks heardAt
+    heard-count : count 1 (now .marks) ≡ count 1 (tab (checks b .n) (λ i. cond (heardAt b h i) 1 0))
+    unfolding known heardAt
     heard-count =
-        count-same 1 (now .marks) (heardMarks b h) (marks-size b r (close words bytes ∷ h) ∙ sym (length-tab (checks b .n) (λ i. cond (heardAt b h i) 1 0))) (λ i k.
-        let l : i < checks b .n = subst (λ (n : ℕ). i < n) (marks-size b r (close words bytes ∷ h)) k in
-        heard-is b r (close words bytes ∷ h) i l ∙ sym (heard-mark i l))
+        count-same 1 (now .marks) (tab (checks b .n) (λ i. cond (heardAt b h i) 1 0))
+        (marks-size b r (closeWith words bytes ∷ h) ∙ sym (length-tab (checks b .n) (λ i. cond (heardAt b h i) 1 0))) (λ i k.
+        let l : i < checks b .n = subst (λ (n : ℕ). i < n) (marks-size b r (closeWith words bytes ∷ h)) k in
+        one-by (getD (now .marks) i 0) ∙ heard-is b r (closeWith words bytes ∷ h) i l
+        ∙ sym (ap (λ (m : ℕ). eqb m 1) (getD-tab (checks b .n) (λ u. cond (heardAt b h u) 1 0) 0 i l) ∙ one (heardAt b h i)))
+      where
+        one-by : (m : ℕ) → eqb m 1 ≡ isHeard (statusBy m)
+        one-by m = go (eqb m 1)
+          where
+            go : (a : Bool) → a ≡ isHeard (cond a heard missing)
+            go true = refl
+            go false = refl
+
+        one : (a : Bool) → eqb (cond a 1 0) 1 ≡ a
+        one true = refl
+        one false = refl
 
     closes : Closes b h (reportOf (verdictOf (agreeingWith b h)) (now .marks)) now
     closes = record {
@@ -219,42 +218,42 @@ module _ (b : Block) (r : Right b) (h : History) where
       whole-block = λ e. one-block (said-whole .0 e);
       is-ambiguous = said-ambiguous;
       ambiguous-fills = λ e i k d. (
-        λ m. settled-common i k (missing-settled i k d m) .1,
+        λ m. determined-common i (missing-determined i k d m) .1,
         λ f. let u = said-ambiguous .0 e in filled-now i k d (u .0) (u .2) f .0,
       );
       is-inconsistent = said-inconsistent;
       inconsistent-fills = λ e i k m.
-          said-inconsistent .0 e (first (agreeingWith b h)) (settled-common i k (missing-settled i k (filled-missing i k m) m) .0);
+          said-inconsistent .0 e (first (agreeingWith b h)) (determined-common i (missing-determined i k (filled-missing i k m) m) .0);
       heard-stays = λ i k e. (at-heard i k e, heard-now i k e);
       filled-symbol = λ i k m x ax.
           let e = filled-missing i k m in
-          symbols-same (checks b .n) (b .w) (now .symbols) x size (ax .size) i k (filled-now i k e x ax (settled-common i k (missing-settled i k e m) .1) .1);
+          symbols-same (checks b .n) (b .w) (now .symbols) x size (ax .size) i k (filled-now i k e x ax (determined-common i (missing-determined i k e m) .1) .1);
       left-zero = λ i k e m.
           let a = at-left i k e (missing-left i k e m) in
           (a .0, symbol-is (checks b .n) (b .w) (now .symbols) size i k (replicate (b .w) 0) (length-replicate (b .w) 0) (λ j l. a .1 j l ∙ sym (getD-replicate (b .w) j 0 0 l)));
       count-heard = heard-count;
       count-filled = refl;
       count-left = refl;
-      count-all = count-all (now .marks) (λ i k. small b r (close words bytes ∷ h) i) ∙ marks-size b r (close words bytes ∷ h);
+      count-all = count-all (now .marks) (λ i k. small b r (closeWith words bytes ∷ h) i) ∙ marks-size b r (closeWith words bytes ∷ h);
     }
 
-  reports : (words bytes : List ℕ) (q : Report) → answerOf b h (close words bytes) ≡ closed (answered q) → Closes b h q (stateOf b (close words bytes ∷ h))
+  reports : (words bytes : List ℕ) (q : Report) → answerOf b h (closeWith words bytes) ≡ closed (answered q) → Closes b h q (stateOf b (closeWith words bytes ∷ h))
   unfolding answerOf
   reports words bytes q = go (wrongWork b (length words) (length bytes)) refl
     where
       report : Report
-      report = reportOf (verdictOf (agreeingWith b h)) (stateOf b (close words bytes ∷ h) .marks)
+      report = reportOf (verdictOf (agreeingWith b h)) (stateOf b (closeWith words bytes ∷ h) .marks)
 
       go : (a : Bool) → wrongWork b (length words) (length bytes) ≡ a → closed (cond a (refused 4) (answered report)) ≡ closed (answered q)
-          → Closes b h q (stateOf b (close words bytes ∷ h))
+          → Closes b h q (stateOf b (closeWith words bytes ∷ h))
       go true t e = let z : _≡_ {A = ℕ} 0 1 = cc in absurd (omega arith)
       go false t e =
           let p : report ≡ q = cc in
-          subst (λ (u : Report). Closes b h u (stateOf b (close words bytes ∷ h))) p (closes words bytes t)
+          subst (λ (u : Report). Closes b h u (stateOf b (closeWith words bytes ∷ h))) p (closes words bytes t)
 
   -- ---- a take
 
-  keeps : (unit : List ℕ) → (answerOf b h (take unit) ≡ taken (answered kept)) ↔ ((x : Placed) × (admission b unit ≡ answered x) × (heardAt b h (x .position) ≡ false))
+  keeps : (unit : List ℕ) → (answerOf b h (takeUnit unit) ≡ taken (answered kept)) ↔ ((x : Placed) × (admission b unit ≡ answered x) × (heardAt b h (x .position) ≡ false))
   unfolding answerOf
   keeps unit = (λ e. to (admission b unit) refl e, λ a. rw (a .1, a .2))
     where
@@ -273,37 +272,37 @@ module _ (b : Block) (r : Right b) (h : History) where
       to (answered x) q e = (x, q, new x (heardAt b h (x .position)) refl e)
 
   stores : (unit : List ℕ) (x : Placed) → admission b unit ≡ answered x → heardAt b h (x .position) ≡ false
-      → (getD (stateOf b (take unit ∷ h) .marks) (x .position) 0 ≡ 1) × (symbolAt (b .w) (stateOf b (take unit ∷ h) .symbols) (x .position) ≡ x .symbol)
+      → (getD (stateOf b (takeUnit unit ∷ h) .marks) (x .position) 0 ≡ 1) × (symbolAt (b .w) (stateOf b (takeUnit unit ∷ h) .symbols) (x .position) ≡ x .symbol)
   unfolding markOf
   stores unit x e f = (
-    mark-is b r (take unit ∷ h) (x .position) inside ∙ ap (λ (a : Bool). cond a 1 (cond (settled (b .w) (latest b (take unit ∷ h)) (x .position)) 2 0)) hears,
-    heard-symbol b r (take unit ∷ h) (x .position) inside hears ∙ holds,
+    mark-is b r (takeUnit unit ∷ h) (x .position) inside ∙ ap (λ (a : Bool). cond a 1 (cond (determined (b .w) (latest b (takeUnit unit ∷ h)) (x .position)) 2 0)) hears,
+    heard-symbol b r (takeUnit unit ∷ h) (x .position) inside hears ∙ holds,
   )
     where
       inside : x .position < checks b .n
       inside = admitted-inside b unit x e .position
 
-      hears : heardAt b (take unit ∷ h) (x .position) ≡ true
+      hears : heardAt b (takeUnit unit ∷ h) (x .position) ≡ true
       hears = take-heard b h unit x e
 
-      holds : keptAt b (take unit ∷ h) (x .position) ≡ x .symbol
+      holds : keptAt b (takeUnit unit ∷ h) (x .position) ≡ x .symbol
       holds = take-kept b h unit x e f
 
 pub demand-3 : Demand3
 demand-3 o b symbols marks q h words bytes p e =
     let s = opened (openOf o symbols marks) in
     let R = opens o b symbols marks q .1 in
-    subst (Closes b h p) (sym (from-the-list o b symbols marks q (close words bytes ∷ h) .state))
-    (reports b R h words bytes p (sym (from-the-list o b symbols marks q h .answers (close words bytes)) ∙ e))
+    subst (Closes b h p) (sym (from-the-list o b symbols marks q (closeWith words bytes ∷ h) .state))
+    (reports b R h words bytes p (sym (from-the-list o b symbols marks q h .answers (closeWith words bytes)) ∙ e))
 
 pub demand-2 : Demand2
 demand-2 o b symbols marks q h unit =
     let R = opens o b symbols marks q .1 in
-    let a = from-the-list o b symbols marks q h .answers (take unit) in
+    let a = from-the-list o b symbols marks q h .answers (takeUnit unit) in
     let k = keeps b R h unit in
     record {
       keeps = (λ e. k .0 (sym a ∙ e), λ t. a ∙ k .1 t);
       stores = λ x e f.
           subst (λ (t : State). (getD (t .marks) (x .position) 0 ≡ 1) × (symbolAt (b .w) (t .symbols) (x .position) ≡ x .symbol))
-          (sym (from-the-list o b symbols marks q (take unit ∷ h) .state)) (stores b R h unit x e f);
+          (sym (from-the-list o b symbols marks q (takeUnit unit ∷ h) .state)) (stores b R h unit x e f);
     }

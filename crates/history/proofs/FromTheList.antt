@@ -10,24 +10,26 @@ use lib.Arith.{digits-div, digits-mod, digits-lt}
 use lib.Dec.{eqb}
 use lib.ListN.{length, getD, set, length-set, replicate, length-replicate, getD-replicate, List·getD-eq-default}
 use lib.Seq.{ext-getD, getD-set-same, getD-set-other}
-use borrow.Author.Tests.{eqb-true, eqb-false, ne-eqb}
+use borrow.Author.Tests.{ne-eqb, le-ltb}
 use Rattle.algebra.specs.Codeword.{byteAt, symbolAt}
-use Rattle.algebra.specs.Closing.{heard, agreeing, verdictOf, verdict, settled, first, markAfter, byteAfter, marksAfter, symbolsAfter}
+use Rattle.algebra.specs.Agreeing.{verdictOf, determined, first, filledByte, filledSymbols}
 use Rattle.algebra.proofs.Lists.{eqb-iff, length-tab, getD-tab}
 use Rattle.algebra.proofs.Codeword.{ext-byteAt}
-use Rattle.algebra.proofs.Agreeing.{mark-at, byte-at, length-marks, length-symbols}
-use Rattle.algebra.proofs.SameHeard.{SameHeard, same-agreeing}
+use Rattle.algebra.proofs.Agreeing.{byte-at, length-symbols}
+use Rattle.algebra.proofs.SameKnown.{SameKnown, same-agreeing, same-filled}
 use Rattle.ccsds.specs.Refusals.{firstOf, Outcome, refused, answered, outcome, afterwards}
 use Rattle.ccsds.proofs.Refusals.{width-right}
 use Rattle.block.specs.Block.{checks, blockRefusal}
+use Rattle.block.specs.Status.{wrongMark, Status, heard, missing, statusBy, statusOf, isHeard, known, markAfter}
 use Rattle.block.specs.Open.{openOf}
 use Rattle.block.specs.Take.{Placed, Take, kept, repeated, admission, sameBytes, stored, unchanged, arrival, takeOf}
-use Rattle.block.specs.Close.{reportOf, wrongWork, closeRefusal, closeOf}
-use Rattle.history.specs.Calls.{Call, take, close, History, State, taken, closed, opened, next, answer, run, isAt, symbolOf, heardAt, keptAt, heardMarks, keptSymbols, agreeingWith, latest, markOf, byteOf, stateOf, takeAnswer, answerOf, Told, FromTheList}
+use Rattle.block.specs.Close.{reportOf, wrongWork, candidates, symbolsAfter, marksAfter, closeRefusal, closeOf}
+use Rattle.history.specs.Calls.{Call, takeUnit, closeWith, History, State, taken, closed, opened, next, answer, run, isAt, symbolOf, heardAt, keptAt, keptSymbols, agreeingWith, latest, markOf, byteOf, stateOf, takeAnswer, answerOf, Told, FromTheList}
 use Rattle.block.specs.declared.Block.{Block}
 use Rattle.block.proofs.Symbols.{symbol-is, length-stored, stored-same, stored-other}
 use Rattle.block.proofs.BlockRefusal.{Right, block-right, buffers-right, not-refused, marks-right}
-use Rattle.block.proofs.Taking.{Inside, admitted-inside, at-heard, at-new, take-by}
+use Rattle.block.proofs.Taking.{Inside, admitted-inside, at-right, take-by}
+use Rattle.block.proofs.Closing.{mark-by}
 
 same-state : {s t s′ t′ : List ℕ} → s ≡ s′ → t ≡ t′ → _≡_ {A = State} (record { symbols = s; marks = t }) (record { symbols = s′; marks = t′ })
 same-state = ap₂ {C = State} (λ (s t : List ℕ). record { symbols = s; marks = t })
@@ -71,7 +73,7 @@ module _ (b : Block) (r : Right b) where
 
     mark-small : (i : ℕ) → markOf b h i ≤ 2
     unfolding markOf
-    mark-small i = go (heardAt b h i) (settled (b .w) (latest b h) i)
+    mark-small i = go (heardAt b h i) (determined (b .w) (latest b h) i)
       where
         go : (a d : Bool) → cond a 1 (cond d 2 0) ≤ 2
         go true d = omega arith
@@ -85,42 +87,52 @@ module _ (b : Block) (r : Right b) where
         go (yes k) = omega (arith, mark-is i k, mark-small i)
         go (no k) = omega (arith, List·getD-eq-default (stateOf b h .marks) 0 {n = i} (omega (arith, marks-size)))
 
+    -- no mark is one that 11 refuses
+    pub right : (i : ℕ) → wrongMark (getD (stateOf b h .marks) i 0) ≡ false
+    unfolding wrongMark
+    right i = le-ltb 2 (getD (stateOf b h .marks) i 0) (small i)
+
     -- its heard positions are those of the list
-    pub heard-is : (i : ℕ) → i < checks b .n → heard (stateOf b h .marks) i ≡ heardAt b h i
-    unfolding heard markOf
-    heard-is i k = ap (λ (m : ℕ). eqb m 1) (mark-is i k) ∙ go (heardAt b h i) (settled (b .w) (latest b h) i)
+    pub heard-is : (i : ℕ) → i < checks b .n → known b (stateOf b h .marks) i ≡ heardAt b h i
+    unfolding known markOf
+    heard-is i k = ap (λ (m : ℕ). isHeard (statusBy m)) (mark-is i k) ∙ go (heardAt b h i) (determined (b .w) (latest b h) i)
       where
-        go : (a d : Bool) → eqb (cond a 1 (cond d 2 0)) 1 ≡ a
+        go : (a d : Bool) → isHeard (statusBy (cond a 1 (cond d 2 0))) ≡ a
         go true d = refl
         go false true = refl
         go false false = refl
 
-    pub same-heard : SameHeard (checks b) (b .w) (stateOf b h .symbols) (stateOf b h .marks) (keptSymbols b h) (heardMarks b h)
-    unfolding heard heardMarks keptSymbols byteOf
-    same-heard = record {
-      same-heard = λ i k. heard-is i k ∙ sym (ap (λ (m : ℕ). eqb m 1) (getD-tab (checks b .n) (λ u. cond (heardAt b h u) 1 0) 0 i k) ∙ one (heardAt b h i));
-      heard-byte = λ i k t j l.
-          byte-is i j k l ∙ ap (λ (a : Bool). cond a (getD (keptAt b h i) j 0) (rest i j)) (sym (heard-is i k) ∙ t)
-          ∙ sym (getD-tab (checks b .n * b .w) (λ u. getD (keptAt b h (u / b .w)) (u % b .w) 0) 0 (i * b .w + j) (digits-lt k l)
-          ∙ ap₂ (λ (u v : ℕ). getD (keptAt b h u) v 0) (digits-div i l) (digits-mod i l));
+    pub kept-byte : (i j : ℕ) → i < checks b .n → j < b .w → byteAt (b .w) (keptSymbols b h) j i ≡ getD (keptAt b h i) j 0
+    unfolding keptSymbols
+    kept-byte i j k l =
+        getD-tab (checks b .n * b .w) (λ u. getD (keptAt b h (u / b .w)) (u % b .w) 0) 0 (i * b .w + j) (digits-lt k l)
+        ∙ ap₂ (λ (u v : ℕ). getD (keptAt b h u) v 0) (digits-div i l) (digits-mod i l)
+
+    same-known : SameKnown (checks b) (b .w) (known b (stateOf b h .marks)) (stateOf b h .symbols) (heardAt b h) (keptSymbols b h)
+    unfolding byteOf
+    same-known = record {
+      same-known = heard-is;
+      same-byte = λ i k t j l.
+          byte-is i j k l ∙ ap (λ (a : Bool). cond a (getD (keptAt b h i) j 0) (rest i j)) (sym (heard-is i k) ∙ t) ∙ sym (kept-byte i j k l);
     }
       where
         rest : ℕ → ℕ → ℕ
-        rest i j = cond (settled (b .w) (latest b h) i) (byteAt (b .w) (first (latest b h)) j i) 0
+        rest i j = cond (determined (b .w) (latest b h) i) (byteAt (b .w) (first (latest b h)) j i) 0
 
-        one : (a : Bool) → eqb (cond a 1 0) 1 ≡ a
-        one true = refl
-        one false = refl
+    candidates-are : candidates b (stateOf b h .symbols) (stateOf b h .marks) ≡ agreeingWith b h
+    unfolding agreeingWith candidates
+    candidates-are = same-agreeing (checks b) (b .w) (known b (stateOf b h .marks)) (stateOf b h .symbols) (heardAt b h) (keptSymbols b h) same-known
 
-    agreeing-is : agreeing (checks b) (b .w) (stateOf b h .symbols) (stateOf b h .marks) ≡ agreeingWith b h
-    unfolding agreeingWith
-    agreeing-is = same-agreeing (checks b) (b .w) (stateOf b h .symbols) (stateOf b h .marks) (keptSymbols b h) (heardMarks b h) same-heard
+    -- the block's symbols after a verdict are those by the kept ones
+    symbols-are : symbolsAfter b (stateOf b h .symbols) (stateOf b h .marks) ≡ filledSymbols (checks b) (b .w) (heardAt b h) (keptSymbols b h)
+    unfolding symbolsAfter
+    symbols-are = same-filled (checks b) (b .w) (known b (stateOf b h .marks)) (stateOf b h .symbols) (heardAt b h) (keptSymbols b h) same-known pos
 
   -- a kept symbol has W bytes
   pub kept-size : (h : History) (i : ℕ) → heardAt b h i ≡ true → length (keptAt b h i) ≡ b .w
   unfolding heardAt keptAt isAt symbolOf
   kept-size [] i e = absurd (false≢true e)
-  kept-size (take unit ∷ h) i e = go (admission b unit) refl (heardAt b h i) (kept-size h i) e
+  kept-size (takeUnit unit ∷ h) i e = go (admission b unit) refl (heardAt b h i) (kept-size h i) e
     where
       go : (a : Outcome Placed) → admission b unit ≡ a → (d : Bool) → (d ≡ true → length (keptAt b h i) ≡ b .w)
           → isAt a i || d ≡ true → length (cond d (keptAt b h i) (cond (isAt a i) (symbolOf a) [])) ≡ b .w
@@ -131,7 +143,7 @@ module _ (b : Block) (r : Right b) where
           at : (t : Bool) → t || false ≡ true → length (cond t (x .symbol) []) ≡ b .w
           at true g = admitted-inside b unit x q .size
           at false g = absurd (false≢true g)
-  kept-size (close words bytes ∷ h) i e = kept-size h i e
+  kept-size (closeWith words bytes ∷ h) i e = kept-size h i e
 
   -- so the symbol that stands at a heard position is the kept one
   pub heard-symbol : (h : History) (i : ℕ) → i < checks b .n → heardAt b h i ≡ true → symbolAt (b .w) (stateOf b h .symbols) i ≡ keptAt b h i
@@ -145,7 +157,7 @@ module _ (b : Block) (r : Right b) where
   module _ (h : History) (unit : List ℕ) where
     -- it is not for position i, or that was heard: position i stays
     stays : (i : ℕ) (a d : Bool) → isAt (admission b unit) i ≡ a → heardAt b h i ≡ d → (a ≡ true → d ≡ true)
-        → (markOf b (take unit ∷ h) i ≡ markOf b h i) × ((j : ℕ) → byteOf b (take unit ∷ h) j i ≡ byteOf b h j i)
+        → (markOf b (takeUnit unit ∷ h) i ≡ markOf b h i) × ((j : ℕ) → byteOf b (takeUnit unit ∷ h) j i ≡ byteOf b h j i)
     unfolding markOf byteOf heardAt keptAt latest
     stays i true true e f g = (rw (e, f), λ j. rw (e, f))
     stays i true false e f g = absurd (false≢true (g refl))
@@ -154,19 +166,19 @@ module _ (b : Block) (r : Right b) where
 
     -- it is for position i, which was not heard
     arrives : (i : ℕ) → isAt (admission b unit) i ≡ true → heardAt b h i ≡ false
-        → (markOf b (take unit ∷ h) i ≡ 1) × ((j : ℕ) → byteOf b (take unit ∷ h) j i ≡ getD (symbolOf (admission b unit)) j 0)
+        → (markOf b (takeUnit unit ∷ h) i ≡ 1) × ((j : ℕ) → byteOf b (takeUnit unit ∷ h) j i ≡ getD (symbolOf (admission b unit)) j 0)
     unfolding markOf byteOf heardAt keptAt
     arrives i e f = (rw e, λ j. rw (e, f))
 
     -- what take leaves and answers is what the list says
     record Does (t : Take) : Type 0 where
-      state : _≡_ {A = State} (record { symbols = t .symbols; marks = t .marks }) (stateOf b (take unit ∷ h))
+      state : _≡_ {A = State} (record { symbols = t .symbols; marks = t .marks }) (stateOf b (takeUnit unit ∷ h))
       answer : t .answer ≡ takeAnswer b h (admission b unit)
 
     -- it changes nothing
-    quiet : ((i : ℕ) → i < checks b .n → isAt (admission b unit) i ≡ true → heardAt b h i ≡ true) → stateOf b h ≡ stateOf b (take unit ∷ h)
+    quiet : ((i : ℕ) → i < checks b .n → isAt (admission b unit) i ≡ true → heardAt b h i ≡ true) → stateOf b h ≡ stateOf b (takeUnit unit ∷ h)
     quiet f =
-        state-is (take unit ∷ h) (stateOf b h) (symbols-size h) (marks-size h)
+        state-is (takeUnit unit ∷ h) (stateOf b h) (symbols-size h) (marks-size h)
         (λ i k. mark-is h i k ∙ sym (stays i (isAt (admission b unit) i) (heardAt b h i) refl refl (f i k) .0))
         (λ i j k l. byte-is h i j k l ∙ sym (stays i (isAt (admission b unit) i) (heardAt b h i) refl refl (f i k) .1 j))
 
@@ -198,7 +210,7 @@ module _ (b : Block) (r : Right b) where
       unfolding symbolOf
       does-new t = record {
         state =
-            state-is (take unit ∷ h) (record { symbols = stored s (p * b .w) (x .symbol); marks = set m p 1 })
+            state-is (takeUnit unit ∷ h) (record { symbols = stored s (p * b .w) (x .symbol); marks = set m p 1 })
             (length-stored (checks b .n) (b .w) s (symbols-size h) p (I .position) (x .symbol) (I .size)) (length-set m p 1 ∙ marks-size h)
             (λ i k. mark i k (ℕ-discrete i p)) (λ i j k l. byte i j k l (ℕ-discrete i p));
         answer = sym (ap (takeAnswer b h) e ∙ ap (λ (a : Bool). cond a (cond (sameBytes (keptAt b h (x .position)) (x .symbol)) (answered repeated) (refused 12)) (answered kept)) t);
@@ -216,18 +228,18 @@ module _ (b : Block) (r : Right b) where
           I : Inside b x
           I = admitted-inside b unit x e
 
-          new : {i : ℕ} → i ≡ p → (markOf b (take unit ∷ h) i ≡ 1) × ((j : ℕ) → byteOf b (take unit ∷ h) j i ≡ getD (symbolOf (admission b unit)) j 0)
+          new : {i : ℕ} → i ≡ p → (markOf b (takeUnit unit ∷ h) i ≡ 1) × ((j : ℕ) → byteOf b (takeUnit unit ∷ h) j i ≡ getD (symbolOf (admission b unit)) j 0)
           new {i} q = arrives i (at-own i ∙ eqb-iff p i .1 (sym q)) (ap (heardAt b h) q ∙ t)
 
-          old : {i : ℕ} → (i ≡ p → ⊥) → (markOf b (take unit ∷ h) i ≡ markOf b h i) × ((j : ℕ) → byteOf b (take unit ∷ h) j i ≡ byteOf b h j i)
+          old : {i : ℕ} → (i ≡ p → ⊥) → (markOf b (takeUnit unit ∷ h) i ≡ markOf b h i) × ((j : ℕ) → byteOf b (takeUnit unit ∷ h) j i ≡ byteOf b h j i)
           old {i} d = stays i false (heardAt b h i) (at-own i ∙ ne-eqb p i (λ q. d (sym q))) refl (λ f. absurd (false≢true f))
 
-          mark : (i : ℕ) → i < checks b .n → Dec (i ≡ p) → getD (set m p 1) i 0 ≡ markOf b (take unit ∷ h) i
+          mark : (i : ℕ) → i < checks b .n → Dec (i ≡ p) → getD (set m p 1) i 0 ≡ markOf b (takeUnit unit ∷ h) i
           mark i k (yes q) =
               ap (λ (u : ℕ). getD (set m p 1) u 0) q ∙ getD-set-same m p 1 0 (subst (λ (n : ℕ). p < n) (sym (marks-size h)) (I .position)) ∙ sym (new q .0)
           mark i k (no d) = getD-set-other m p i 1 0 d ∙ mark-is h i k ∙ sym (old d .0)
 
-          byte : (i j : ℕ) → i < checks b .n → j < b .w → Dec (i ≡ p) → byteAt (b .w) (stored s (p * b .w) (x .symbol)) j i ≡ byteOf b (take unit ∷ h) j i
+          byte : (i j : ℕ) → i < checks b .n → j < b .w → Dec (i ≡ p) → byteAt (b .w) (stored s (p * b .w) (x .symbol)) j i ≡ byteOf b (takeUnit unit ∷ h) j i
           byte i j k l (yes q) =
               ap (λ (u : ℕ). byteAt (b .w) (stored s (p * b .w) (x .symbol)) j u) q
               ∙ stored-same (checks b .n) (b .w) s (symbols-size h) p (I .position) (x .symbol) (I .size) j l
@@ -236,18 +248,18 @@ module _ (b : Block) (r : Right b) where
               stored-other (checks b .n) (b .w) s (symbols-size h) p (I .position) (x .symbol) (I .size) i j l d ∙ byte-is h i j k l ∙ sym (old d .1 j)
 
       does-admitted : Does (arrival b (stateOf b h .symbols) (stateOf b h .marks) x)
-      unfolding heard
-      does-admitted = go (heardAt b h (x .position)) refl
+      unfolding known
+      does-admitted = go (statusOf b (stateOf b h .marks) p) refl
         where
           p : ℕ
           p = x .position
 
-          told : heardAt b h p ≡ eqb (getD (stateOf b h .marks) p 0) 1
-          told = sym (heard-is h p (admitted-inside b unit x e .position))
+          told : isHeard (statusOf b (stateOf b h .marks) p) ≡ heardAt b h p
+          told = heard-is h p (admitted-inside b unit x e .position)
 
-          go : (a : Bool) → heardAt b h p ≡ a → Does (arrival b (stateOf b h .symbols) (stateOf b h .marks) x)
-          go true t = subst Does (sym (at-heard b (stateOf b h .symbols) (stateOf b h .marks) x (eqb-true _ _ (sym told ∙ t)))) (does-heard t)
-          go false t = subst Does (sym (at-new b (stateOf b h .symbols) (stateOf b h .marks) x (small h p) (eqb-false _ _ (sym told ∙ t)))) (does-new t)
+          go : (s : Status) → statusOf b (stateOf b h .marks) p ≡ s → Does (arrival b (stateOf b h .symbols) (stateOf b h .marks) x)
+          go heard t = subst Does (sym (at-right b (stateOf b h .symbols) (stateOf b h .marks) x (right h p) heard t)) (does-heard (sym told ∙ ap isHeard t))
+          go missing t = subst Does (sym (at-right b (stateOf b h .symbols) (stateOf b h .marks) x (right h p) missing t)) (does-new (sym told ∙ ap isHeard t))
 
     does : Does (takeOf b (stateOf b h .symbols) (stateOf b h .marks) unit)
     does = go (admission b unit) refl
@@ -274,26 +286,31 @@ module _ (b : Block) (r : Right b) where
         )
 
     -- it is refused: nothing changes
-    refused-state : wrongWork b (length words) (length bytes) ≡ true → stateOf b h ≡ stateOf b (close words bytes ∷ h)
+    refused-state : wrongWork b (length words) (length bytes) ≡ true → stateOf b h ≡ stateOf b (closeWith words bytes ∷ h)
     unfolding markOf byteOf heardAt keptAt latest
     refused-state t =
-        state-is (close words bytes ∷ h) (stateOf b h) (symbols-size h) (marks-size h)
+        state-is (closeWith words bytes ∷ h) (stateOf b h) (symbols-size h) (marks-size h)
         (λ i k. mark-is h i k ∙ sym (rw t)) (λ i j k l. byte-is h i j k l ∙ sym (rw t))
 
     -- it gives a verdict
     closed-state : wrongWork b (length words) (length bytes) ≡ false
         → _≡_ {A = State}
         (record {
-          symbols = symbolsAfter (checks b) (b .w) (stateOf b h .symbols) (stateOf b h .marks);
-          marks = marksAfter (checks b) (b .w) (stateOf b h .symbols) (stateOf b h .marks);
+          symbols = symbolsAfter b (stateOf b h .symbols) (stateOf b h .marks);
+          marks = marksAfter b (stateOf b h .symbols) (stateOf b h .marks);
         })
-        (stateOf b (close words bytes ∷ h))
-    unfolding markOf byteOf markAfter byteAfter heardAt keptAt latest
+        (stateOf b (closeWith words bytes ∷ h))
+    unfolding markOf byteOf marksAfter symbolsAfter filledByte known heardAt keptAt latest
     closed-state t =
-        state-is (close words bytes ∷ h) (record { symbols = symbolsAfter (checks b) (b .w) s m; marks = marksAfter (checks b) (b .w) s m })
-        (length-symbols (checks b) (b .w) s m) (length-marks (checks b) (b .w) s m)
-        (λ i k. mark-at (checks b) (b .w) s m i k ∙ ap₂ (λ (a : Bool) (L : List (List ℕ)). cond a 1 (cond (settled (b .w) L i) 2 0)) (heard-is h i k) (agreeing-is h) ∙ sym (rw t))
-        (λ i j k l. byte-at (checks b) (b .w) s m i j k l ∙ byte i j k l (heardAt b h i) refl ∙ sym (rw t))
+        state-is (closeWith words bytes ∷ h) (record { symbols = symbolsAfter b s m; marks = marksAfter b s m })
+        (length-symbols (checks b) (b .w) (known b m) s) (length-tab (checks b .n) _)
+        (λ i k.
+        getD-tab (checks b .n) (λ j. markAfter (statusOf b m j) (determined (b .w) (candidates b s m) j)) 0 i k
+        ∙ mark-by (statusOf b m i) (determined (b .w) (candidates b s m) i)
+        ∙ ap₂ (λ (a : Bool) (L : List (List ℕ)). cond a 1 (cond (determined (b .w) L i) 2 0)) (heard-is h i k) (candidates-are h) ∙ sym (rw t))
+        (λ i j k l.
+        ap (λ (x : List ℕ). byteAt (b .w) x j i) (symbols-are h) ∙ byte-at (checks b) (b .w) (heardAt b h) (keptSymbols b h) i j k l
+        ∙ ap (λ (v : ℕ). cond (heardAt b h i) v (rest i j)) (kept-byte h i j k l) ∙ sym (rw t))
       where
         s : List ℕ
         s = stateOf b h .symbols
@@ -301,46 +318,35 @@ module _ (b : Block) (r : Right b) where
         m : List ℕ
         m = stateOf b h .marks
 
-        rest : ℕ → ℕ → List (List ℕ) → ℕ
-        rest i j L = cond (settled (b .w) L i) (byteAt (b .w) (first L) j i) 0
-
-        byte : (i j : ℕ) → i < checks b .n → j < b .w → (a : Bool) → heardAt b h i ≡ a
-            → cond (heard m i) (byteAt (b .w) s j i) (rest i j (agreeing (checks b) (b .w) s m))
-            ≡ cond (heardAt b h i) (getD (keptAt b h i) j 0) (rest i j (agreeingWith b h))
-        byte i j k l true q =
-            ap (λ (u : Bool). cond u (byteAt (b .w) s j i) (rest i j (agreeing (checks b) (b .w) s m))) (heard-is h i k ∙ q)
-            ∙ byte-is h i j k l ∙ ap (λ (u : Bool). cond u (getD (keptAt b h i) j 0) (rest i j (latest b h))) q
-            ∙ sym (ap (λ (u : Bool). cond u (getD (keptAt b h i) j 0) (rest i j (agreeingWith b h))) q)
-        byte i j k l false q =
-            ap₂ (λ (u : Bool) (L : List (List ℕ)). cond u (byteAt (b .w) s j i) (rest i j L)) (heard-is h i k ∙ q) (agreeing-is h)
-            ∙ sym (ap (λ (u : Bool). cond u (getD (keptAt b h i) j 0) (rest i j (agreeingWith b h))) q)
+        rest : ℕ → ℕ → ℕ
+        rest i j = cond (determined (b .w) (agreeingWith b h) i) (byteAt (b .w) (first (agreeingWith b h)) j i) 0
 
   -- ---- one call
 
   next-is : (h : History) (c : Call) → next b (stateOf b h) c ≡ stateOf b (c ∷ h)
   unfolding next closeOf
-  next-is h (take unit) = does h unit .state
-  next-is h (close words bytes) = go (wrongWork b (length words) (length bytes)) refl
+  next-is h (takeUnit unit) = does h unit .state
+  next-is h (closeWith words bytes) = go (wrongWork b (length words) (length bytes)) refl
     where
-      go : (a : Bool) → wrongWork b (length words) (length bytes) ≡ a → next b (stateOf b h) (close words bytes) ≡ stateOf b (close words bytes ∷ h)
+      go : (a : Bool) → wrongWork b (length words) (length bytes) ≡ a → next b (stateOf b h) (closeWith words bytes) ≡ stateOf b (closeWith words bytes ∷ h)
       go true t = rw (refusal-is h words bytes, t) (refused-state h words bytes t)
       go false t = rw (refusal-is h words bytes, t) (closed-state h words bytes t)
 
   answer-is : (h : History) (c : Call) → answer b (stateOf b h) c ≡ answerOf b h c
-  unfolding answer answerOf closeOf verdict
-  answer-is h (take unit) = ap taken (does h unit .answer)
-  answer-is h (close words bytes) = go (wrongWork b (length words) (length bytes)) refl
+  unfolding answer answerOf closeOf
+  answer-is h (takeUnit unit) = ap taken (does h unit .answer)
+  answer-is h (closeWith words bytes) = go (wrongWork b (length words) (length bytes)) refl
     where
-      go : (a : Bool) → wrongWork b (length words) (length bytes) ≡ a → answer b (stateOf b h) (close words bytes) ≡ answerOf b h (close words bytes)
+      go : (a : Bool) → wrongWork b (length words) (length bytes) ≡ a → answer b (stateOf b h) (closeWith words bytes) ≡ answerOf b h (closeWith words bytes)
       go true t = rw (refusal-is h words bytes, t)
       go false t =
           rw (refusal-is h words bytes, t)
-          (ap closed (ap answered (ap₂ reportOf (ap verdictOf (agreeing-is h)) (ap (λ (s : State). s .marks) (closed-state h words bytes t)))))
+          (ap closed (ap answered (ap₂ reportOf (ap verdictOf (candidates-are h)) (ap (λ (s : State). s .marks) (closed-state h words bytes t)))))
 
   -- ---- the list
 
   open-is : stateOf b [] ≡ record { symbols = replicate (checks b .n * b .w) 0; marks = replicate (checks b .n) 0 }
-  unfolding markOf byteOf heardAt latest settled
+  unfolding markOf byteOf heardAt latest determined
   open-is =
       sym (state-is [] (record { symbols = replicate (checks b .n * b .w) 0; marks = replicate (checks b .n) 0 })
       (length-replicate (checks b .n * b .w) 0) (length-replicate (checks b .n) 0)
@@ -355,7 +361,7 @@ module _ (b : Block) (r : Right b) where
   told s e h = record {
     state = run-is s e h;
     answers = λ c. ap (λ (u : State). answer b u c) (run-is s e h) ∙ answer-is h c;
-    marks = λ i. subst (λ (u : State). getD (u .marks) i 0 ≤ 2) (sym (run-is s e h)) (small h i);
+    marks = λ i. subst (λ (u : State). wrongMark (getD (u .marks) i 0) ≡ false) (sym (run-is s e h)) (right h i);
   }
 
 -- what an open that was not refused returned and left

@@ -9,9 +9,10 @@ use lib.Dec.{eqb}
 use lib.ListN.{length, getD}
 use Rattle.algebra.specs.Lists.{tab}
 use Rattle.algebra.specs.Codeword.{byteAt}
-use Rattle.algebra.specs.Closing.{agreeing, verdictOf, settled, first}
+use Rattle.algebra.specs.Agreeing.{agreeing, verdictOf, determined, first}
 use Rattle.ccsds.specs.Refusals.{Outcome, refused, answered}
 use Rattle.block.specs.Block.{checks}
+use Rattle.block.specs.Status.{missingMark, heardMark, filledMark, wrongMark}
 use Rattle.block.specs.Open.{Open, openOf}
 use Rattle.block.specs.Take.{Placed, Arrival, kept, repeated, admission, sameBytes, takeOf}
 use Rattle.block.specs.Close.{Report, reportOf, wrongWork, closeOf}
@@ -19,8 +20,8 @@ use Rattle.block.specs.declared.Block.{Block}
 
 -- a take with its unit's bytes, or a close with its two work buffers
 pub data Call : Type 0 where
-  take : List ℕ → Call
-  close : List ℕ → List ℕ → Call
+  takeUnit : List ℕ → Call
+  closeWith : List ℕ → List ℕ → Call
 
 -- the calls so far, the latest first
 abbrev pub History : Type 0
@@ -44,15 +45,15 @@ opened o = record { symbols = o .symbols; marks = o .marks }
 module _ (b : Block) where
   -- the state after a call, and its answer
   unfoldable pub next : State → Call → State
-  next s (take unit) = record { symbols = takeOf b (s .symbols) (s .marks) unit .symbols; marks = takeOf b (s .symbols) (s .marks) unit .marks }
-  next s (close words bytes) = record {
+  next s (takeUnit unit) = record { symbols = takeOf b (s .symbols) (s .marks) unit .symbols; marks = takeOf b (s .symbols) (s .marks) unit .marks }
+  next s (closeWith words bytes) = record {
     symbols = closeOf b (s .symbols) (s .marks) words bytes .symbols;
     marks = closeOf b (s .symbols) (s .marks) words bytes .marks;
   }
 
   unfoldable pub answer : State → Call → Answer
-  answer s (take unit) = taken (takeOf b (s .symbols) (s .marks) unit .answer)
-  answer s (close words bytes) = closed (closeOf b (s .symbols) (s .marks) words bytes .answer)
+  answer s (takeUnit unit) = taken (takeOf b (s .symbols) (s .marks) unit .answer)
+  answer s (closeWith words bytes) = closed (closeOf b (s .symbols) (s .marks) words bytes .answer)
 
   -- the state after all calls, from what open left
   unfoldable pub run : State → History → State
@@ -74,41 +75,38 @@ module _ (b : Block) where
   -- some take so far was admitted at position i
   unfoldable pub heardAt : History → ℕ → Bool
   heardAt [] i = false
-  heardAt (take unit ∷ h) i = isAt (admission b unit) i || heardAt h i
-  heardAt (close words bytes ∷ h) i = heardAt h i
+  heardAt (takeUnit unit ∷ h) i = isAt (admission b unit) i || heardAt h i
+  heardAt (closeWith words bytes ∷ h) i = heardAt h i
 
   -- the symbol of the first such take; none where there is none
   unfoldable pub keptAt : History → ℕ → List ℕ
   keptAt [] i = []
-  keptAt (take unit ∷ h) i = cond (heardAt h i) (keptAt h i) (cond (isAt (admission b unit) i) (symbolOf (admission b unit)) [])
-  keptAt (close words bytes ∷ h) i = keptAt h i
+  keptAt (takeUnit unit ∷ h) i = cond (heardAt h i) (keptAt h i) (cond (isAt (admission b unit) i) (symbolOf (admission b unit)) [])
+  keptAt (closeWith words bytes ∷ h) i = keptAt h i
 
-  -- the heard positions as marks, and the kept symbols in their places
-  unfoldable pub heardMarks : History → List ℕ
-  heardMarks h = tab (checks b .n) (λ i. cond (heardAt h i) 1 0)
-
+  -- the kept symbols in their places
   unfoldable pub keptSymbols : History → List ℕ
   keptSymbols h = tab (checks b .n * b .w) (λ t. getD (keptAt h (t / b .w)) (t % b .w) 0)
 
   -- all codewords that have the kept symbol at every heard position
   unfoldable pub agreeingWith : History → List (List ℕ)
-  agreeingWith h = agreeing (checks b) (b .w) (keptSymbols h) (heardMarks h)
+  agreeingWith h = agreeing (checks b) (b .w) (heardAt h) (keptSymbols h)
 
   -- those of the latest close that gave a verdict: a close is refused just where a work buffer isn't its size
   unfoldable pub latest : History → List (List ℕ)
   latest [] = []
-  latest (take unit ∷ h) = latest h
-  latest (close words bytes ∷ h) = cond (wrongWork b (length words) (length bytes)) (latest h) (agreeingWith h)
+  latest (takeUnit unit ∷ h) = latest h
+  latest (closeWith words bytes ∷ h) = cond (wrongWork b (length words) (length bytes)) (latest h) (agreeingWith h)
 
-  -- 1 at a heard position, 2 at one that the latest verdict filled, else 0
+  -- heard; filled by the latest verdict; else missing
   unfoldable pub markOf : History → ℕ → ℕ
-  markOf h i = cond (heardAt h i) 1 (cond (settled (b .w) (latest h) i) 2 0)
+  markOf h i = cond (heardAt h i) heardMark (cond (determined (b .w) (latest h) i) filledMark missingMark)
 
   -- byte j at position i: of the kept symbol; of the symbol that all agreeing codewords of the latest verdict have there; else 0
   unfoldable pub byteOf : History → ℕ → ℕ → ℕ
   byteOf h j i =
       cond (heardAt h i) (getD (keptAt h i) j 0)
-      (cond (settled (b .w) (latest h) i) (byteAt (b .w) (first (latest h)) j i) 0)
+      (cond (determined (b .w) (latest h) i) (byteAt (b .w) (first (latest h)) j i) 0)
 
   unfoldable pub stateOf : History → State
   stateOf h = record {
@@ -126,18 +124,18 @@ module _ (b : Block) where
 
   -- 4, or the verdict of the agreeing codewords and the counts of the marks after it
   unfoldable pub answerOf : History → Call → Answer
-  answerOf h (take unit) = taken (takeAnswer h (admission b unit))
-  answerOf h (close words bytes) =
+  answerOf h (takeUnit unit) = taken (takeAnswer h (admission b unit))
+  answerOf h (closeWith words bytes) =
       closed (cond (wrongWork b (length words) (length bytes)) (refused 4)
-      (answered (reportOf (verdictOf (agreeingWith h)) (stateOf (close words bytes ∷ h) .marks))))
+      (answered (reportOf (verdictOf (agreeingWith h)) (stateOf (closeWith words bytes ∷ h) .marks))))
 
 -- ---- the claim
 
--- state s after the calls of h is what the list says, and so is the answer to every further call; no mark is above 2
+-- state s after the calls of h is what the list says, and so is the answer to every further call; no mark is one that 11 refuses
 pub record Told (b : Block) (h : History) (s : State) : Type 0 where
   pub state : s ≡ stateOf b h
   pub answers : (c : Call) → answer b s c ≡ answerOf b h c
-  pub marks : (i : ℕ) → getD (s .marks) i 0 ≤ 2
+  pub marks : (i : ℕ) → wrongMark (getD (s .marks) i 0) ≡ false
 
 -- for every record that open returned, whatever the buffers held before, and every list of calls
 abbrev pub FromTheList : Type 0

@@ -3,18 +3,21 @@
 -- Assumes nothing.
 use mathlib.Core.Path.{_≡_}
 use mathlib.Core.Logic.{_↔_, _≢_}
-use mathlib.Core.Bool.{true, false}
+use mathlib.Core.Bool.{true, false, cond}
 use mathlib.Core.List.{List, _∷_}
 use Prim.Native.Nat.{ℕ, _+_, _*_, _<_}
 use lib.ListN.{length, getD, replicate}
 use Rattle.algebra.specs.Codeword.{rowSum, symbolAt}
-use Rattle.algebra.specs.Closing.{whole, ambiguous, inconsistent, count}
+use Rattle.algebra.specs.Lists.{tab, count}
+use Rattle.algebra.specs.Agreeing.{whole, ambiguous, inconsistent}
+use Rattle.algebra.specs.Unique.{JustOne, Two, Common}
 use Rattle.ccsds.specs.Refusals.{answered}
 use Rattle.block.specs.Block.{checks}
+use Rattle.block.specs.Status.{missingMark, heardMark, filledMark}
 use Rattle.block.specs.Open.{openOf}
 use Rattle.block.specs.Take.{Placed, kept, admission}
 use Rattle.block.specs.Close.{Report}
-use Rattle.history.specs.Calls.{take, close, History, State, taken, closed, opened, answer, run, heardAt, keptAt, heardMarks}
+use Rattle.history.specs.Calls.{takeUnit, closeWith, History, State, taken, closed, opened, answer, run, heardAt, keptAt}
 use Rattle.block.specs.declared.Block.{Block}
 
 module _ (b : Block) (h : History) where
@@ -25,57 +28,45 @@ module _ (b : Block) (h : History) where
     pub rows : (j : ℕ) → j < checks b .m → (d : ℕ) → d < b .w → rowSum (checks b) (b .w) x j d ≡ 0
     pub heard : (i : ℕ) → i < checks b .n → heardAt b h i ≡ true → symbolAt (b .w) x i ≡ keptAt b h i
 
-  -- just one codeword agrees
-  abbrev pub JustOne : Type 0
-  JustOne = (x : List ℕ) × Agrees x × ((y : List ℕ) → Agrees y → y ≡ x)
-
-  -- two or more agree
-  abbrev pub Two : Type 0
-  Two = (x : List ℕ) × (y : List ℕ) × Agrees x × Agrees y × (x ≢ y)
-
-  -- all that agree have the same symbol at position i
-  abbrev pub Common : ℕ → Type 0
-  Common i = (x y : List ℕ) → Agrees x → Agrees y → symbolAt (b .w) x i ≡ symbolAt (b .w) y i
-
   -- a close after the calls of h reports r and leaves s
   pub record Closes (r : Report) (s : State) : Type 0 where
     -- whole exactly when just one codeword agrees: every missing symbol is filled, and the block is that codeword
-    pub is-whole : (r .verdict ≡ whole) ↔ JustOne
-    pub whole-fills : r .verdict ≡ whole → (i : ℕ) → i < checks b .n → heardAt b h i ≡ false → getD (s .marks) i 0 ≡ 2
+    pub is-whole : (r .verdict ≡ whole) ↔ JustOne Agrees
+    pub whole-fills : r .verdict ≡ whole → (i : ℕ) → i < checks b .n → heardAt b h i ≡ false → getD (s .marks) i 0 ≡ filledMark
     pub whole-block : r .verdict ≡ whole → (x : List ℕ) → Agrees x → s .symbols ≡ x
     -- ambiguous exactly when two or more agree: a missing symbol is filled exactly when all of them have the same one there
-    pub is-ambiguous : (r .verdict ≡ ambiguous) ↔ Two
-    pub ambiguous-fills : r .verdict ≡ ambiguous → (i : ℕ) → i < checks b .n → heardAt b h i ≡ false → (getD (s .marks) i 0 ≡ 2) ↔ Common i
+    pub is-ambiguous : (r .verdict ≡ ambiguous) ↔ Two Agrees
+    pub ambiguous-fills : r .verdict ≡ ambiguous → (i : ℕ) → i < checks b .n → heardAt b h i ≡ false → (getD (s .marks) i 0 ≡ filledMark) ↔ Common (b .w) Agrees i
     -- inconsistent exactly when none agrees: nothing is filled
     pub is-inconsistent : (r .verdict ≡ inconsistent) ↔ ((x : List ℕ) → ¬ Agrees x)
-    pub inconsistent-fills : r .verdict ≡ inconsistent → (i : ℕ) → i < checks b .n → getD (s .marks) i 0 ≢ 2
+    pub inconsistent-fills : r .verdict ≡ inconsistent → (i : ℕ) → i < checks b .n → getD (s .marks) i 0 ≢ filledMark
     -- heard positions stay; a filled one gets the symbol that all that agree have there; all others get zero bytes and mark 0
-    pub heard-stays : (i : ℕ) → i < checks b .n → heardAt b h i ≡ true → (getD (s .marks) i 0 ≡ 1) × (symbolAt (b .w) (s .symbols) i ≡ keptAt b h i)
-    pub filled-symbol : (i : ℕ) → i < checks b .n → getD (s .marks) i 0 ≡ 2 → (x : List ℕ) → Agrees x → symbolAt (b .w) (s .symbols) i ≡ symbolAt (b .w) x i
-    pub left-zero : (i : ℕ) → i < checks b .n → heardAt b h i ≡ false → getD (s .marks) i 0 ≢ 2
-        → (getD (s .marks) i 0 ≡ 0) × (symbolAt (b .w) (s .symbols) i ≡ replicate (b .w) 0)
+    pub heard-stays : (i : ℕ) → i < checks b .n → heardAt b h i ≡ true → (getD (s .marks) i 0 ≡ heardMark) × (symbolAt (b .w) (s .symbols) i ≡ keptAt b h i)
+    pub filled-symbol : (i : ℕ) → i < checks b .n → getD (s .marks) i 0 ≡ filledMark → (x : List ℕ) → Agrees x → symbolAt (b .w) (s .symbols) i ≡ symbolAt (b .w) x i
+    pub left-zero : (i : ℕ) → i < checks b .n → heardAt b h i ≡ false → getD (s .marks) i 0 ≢ filledMark
+        → (getD (s .marks) i 0 ≡ missingMark) × (symbolAt (b .w) (s .symbols) i ≡ replicate (b .w) 0)
     -- the counts: of the heard positions, of those that this close fills, and of the others
-    pub count-heard : r .heard ≡ count 1 (heardMarks b h)
-    pub count-filled : r .filled ≡ count 2 (s .marks)
-    pub count-left : r .left ≡ count 0 (s .marks)
+    pub count-heard : r .heard ≡ count heardMark (tab (checks b .n) (λ i. cond (heardAt b h i) heardMark missingMark))
+    pub count-filled : r .filled ≡ count filledMark (s .marks)
+    pub count-left : r .left ≡ count missingMark (s .marks)
     pub count-all : r .heard + r .filled + r .left ≡ checks b .n
 
   -- a take after the calls of h, from state s to state t: it is kept exactly when its unit is admitted at a position not yet heard,
   -- and the unit's symbol then stands there as heard
   pub record Takes (unit : List ℕ) (s t : State) : Type 0 where
-    pub keeps : (answer b s (take unit) ≡ taken (answered kept)) ↔ ((x : Placed) × (admission b unit ≡ answered x) × (heardAt b h (x .position) ≡ false))
+    pub keeps : (answer b s (takeUnit unit) ≡ taken (answered kept)) ↔ ((x : Placed) × (admission b unit ≡ answered x) × (heardAt b h (x .position) ≡ false))
     pub stores : (x : Placed) → admission b unit ≡ answered x → heardAt b h (x .position) ≡ false
-        → (getD (t .marks) (x .position) 0 ≡ 1) × (symbolAt (b .w) (t .symbols) (x .position) ≡ x .symbol)
+        → (getD (t .marks) (x .position) 0 ≡ heardMark) × (symbolAt (b .w) (t .symbols) (x .position) ≡ x .symbol)
 
 -- for every record that open returned, every list of calls, and every close after it that is not refused
 abbrev pub Demand3 : Type 0
 Demand3 = (o b : Block) (symbols marks : List ℕ) → openOf o symbols marks .answer ≡ answered b
     → (h : History) (words bytes : List ℕ) (r : Report)
-    → answer b (run b (opened (openOf o symbols marks)) h) (close words bytes) ≡ closed (answered r)
-    → Closes b h r (run b (opened (openOf o symbols marks)) (close words bytes ∷ h))
+    → answer b (run b (opened (openOf o symbols marks)) h) (closeWith words bytes) ≡ closed (answered r)
+    → Closes b h r (run b (opened (openOf o symbols marks)) (closeWith words bytes ∷ h))
 
 -- and every take after it
 abbrev pub Demand2 : Type 0
 Demand2 = (o b : Block) (symbols marks : List ℕ) → openOf o symbols marks .answer ≡ answered b
     → (h : History) (unit : List ℕ)
-    → Takes b h unit (run b (opened (openOf o symbols marks)) h) (run b (opened (openOf o symbols marks)) (take unit ∷ h))
+    → Takes b h unit (run b (opened (openOf o symbols marks)) h) (run b (opened (openOf o symbols marks)) (takeUnit unit ∷ h))

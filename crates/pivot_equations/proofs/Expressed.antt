@@ -18,7 +18,7 @@ use Rattle.algebra.proofs.Lists.{and-iff}
 use Rattle.elimination.specs.Bits.{rowBit}
 use Rattle.elimination.specs.Reduced.{pivotWord}
 use Rattle.elimination.proofs.Order.{eq-or-ne}
-use Rattle.elimination.proofs.SweepLaws.{cond-elim}
+use Rattle.elimination.proofs.ColumnLaws.{cond-elim}
 use Rattle.peeling.specs.Plan.{kindOf, pivotOf, rowOf, positionOf, usedBy, free, Step, Plan, Closed, Unsolved}
 use Rattle.pivot_equations.specs.Express.{hang, Reads, OnlyRow, RowIs, Places, StepsExpressed, SameFrom, SameBelow, ReadsAll, RestTo}
 use Rattle.peeling.proofs.StepLaws.{few-steps, step-apart}

@@ -17,7 +17,7 @@ use Rattle.elimination.specs.Bits.{testBit, rowBit}
 use Rattle.elimination.specs.Reduced.{pivotWord}
 use Rattle.elimination.proofs.Order.{lt-or-le, eq-or-ne}
 use Rattle.elimination.proofs.Digits.{testBit-xor, testBit-pow}
-use Rattle.elimination.proofs.SweepLaws.{rows-beside}
+use Rattle.elimination.proofs.ColumnLaws.{rows-beside}
 use Rattle.pivot_equations.specs.Express.{hangs, Reads, OnlyRow, Added, flipRowBit}
 use Rattle.pivot_equations.proofs.Hanging.{hangs-none, hangs-step, hangs-pivot, hangs-solved}
 

@@ -3,7 +3,7 @@
 use mathlib.Core.Path.{sym, ap, _∙_, subst}
 use Prim.Native.Nat.{ℕ, _+_, _*_, _/_}
 use native.Mathlib.Omega.{arith}
-use Rattle.elimination.specs.Fill.{ConsistentIs}
+use Rattle.elimination.specs.Consistency.{ConsistentIs}
 use Rattle.decoder.specs.Equations.{behind}
 use Rattle.decoder.proofs.Assembly.{room-of, from-room, rest-fits, rest-bytes, by-rows-no}
 use borrow.Author.Needs.{needs}

@@ -6,7 +6,7 @@ use Prim.Native.Nat.{ℕ}
 use native.Mathlib.Omega.{arith}
 use lib.ListN.{length, length-drop}
 use Rattle.elimination.specs.Reduced.{Reduced}
-use Rattle.elimination.specs.Fill.{ConsistentIs}
+use Rattle.elimination.specs.Consistency.{ConsistentIs}
 use Rattle.decoder.proofs.Behind.{part-all}
 use borrow.Author.Needs.{needs}
 use Rattle.decoder.proofs.solve.consistent_from.Statement.{statement}

@@ -5,7 +5,7 @@ use mathlib.Core.List.{List}
 use Prim.Native.Nat.{ℕ, _≤_}
 use native.Mathlib.Omega.{arith}
 use lib.ListN.{length, drop}
-use Rattle.elimination.specs.System.{Same}
+use Rattle.elimination.specs.System.{SameSolutions}
 use Rattle.elimination.specs.Reduced.{Reduced}
 use Rattle.decoder.proofs.Behind.{part-all, part-back}
 use borrow.Author.Needs.{needs}
@@ -52,8 +52,8 @@ returns c =
     let d = c .before .before .before .before .eliminate .last .1 .0 in
     let b = part-back (a .from) (a .words .now) l h in
     let e = c .before .before .before .before .eliminate .ensures in (
-      subst (λ (z : List ℕ). Same (drop (a .from) (a .words .now)) (a .bytes .now) z d (a .rest) (a .packed) (a .w)) (sym b)
-          (subst (λ (z : List ℕ). Same z (a .bytes .now) l d (a .rest) (a .packed) (a .w)) (part-all (a .from) (a .words .now)) (e .1)),
+      subst (λ (z : List ℕ). SameSolutions (drop (a .from) (a .words .now)) (a .bytes .now) z d (a .rest) (a .packed) (a .w)) (sym b)
+          (subst (λ (z : List ℕ). SameSolutions z (a .bytes .now) l d (a .rest) (a .packed) (a .w)) (part-all (a .from) (a .words .now)) (e .1)),
       subst (λ (z : List ℕ). Reduced z (a .rest) (a .packed) (a .rest)) (sym b) (e .0),
     )
 

@@ -2,7 +2,7 @@ use Prim.Native.Nat.{_+_, _-_}
 use native.Mathlib.Omega.{arith}
 use lib.ListN.{getD}
 use Rattle.algebra.proofs.Codeword.{slot}
-use Rattle.elimination.proofs.SweepLaws.{rows-beside}
+use Rattle.elimination.proofs.ColumnLaws.{rows-beside}
 use Rattle.pivot_equations.proofs.RowChanges.{add-none, add-step, add-pivot, add-solved}
 use borrow.Author.Needs.{needs}
 use Rattle.pivot_equations.proofs.express.add.Statement.{statement}
