@@ -18,7 +18,8 @@ use Rattle.algebra.specs.Staircase.{before}
 use Rattle.algebra.proofs.Sums as sums
 use Rattle.algebra.proofs.Codeword.{slot}
 use Rattle.buffers.specs.Parts.{put, Part, Sum}
-use Rattle.symbol_sums.specs.Gather.{gathered, Inside, Replaced, summed, byteBefore, Bytes, Bytes64, Plus, putFour, Written}
+use Rattle.symbol_sums.specs.declared.Chunk64.{Chunk64}
+use Rattle.symbol_sums.specs.Gather.{gathered, Inside, Replaced, summed, byteBefore, Chunk16Is, Chunk64Is, Sum64, Sized64, PlusSymbols, put64, Written, SumWritten}
 use Rattle.buffers.proofs.Zeros.{zeros}
 use Rattle.buffers.proofs.Put.{put-length, put-out, put-in, from-zero}
 
@@ -48,19 +49,19 @@ sum-next w c src xs i s {t} g b k e =
     ∙ gathered-next (byteAt w src (c + b)) xs i s
 
 module _ {w c : ℕ} {src xs s : List ℕ} where
-  pub plus-none : length s ≡ 16 → Plus w c src xs 0 s s
+  pub plus-none : length s ≡ 16 → PlusSymbols w c src xs 0 s s
   plus-none h = record { size = h; each = λ b g. gathered-none (byteAt w src (c + b)) xs (getD s b 0) }
 
-  pub plus-more : {i : ℕ} {t t′ : List ℕ} → Plus w c src xs i s t → Sum t 0 src (getD xs i 0 * w + c) 16 t′ → Plus w c src xs (i + 1) s t′
+  pub plus-more : {i : ℕ} {t t′ : List ℕ} → PlusSymbols w c src xs i s t → Sum t 0 src (getD xs i 0 * w + c) 16 t′ → PlusSymbols w c src xs (i + 1) s t′
   plus-more {i} h g = record { size = g .size; each = λ b k. sum-next w c src xs i (getD s b 0) g b k (h .each b k) }
 
-  pub plus-all : {i n : ℕ} {t : List ℕ} → Plus w c src xs i s t → i ≡ n → Plus w c src xs n s t
-  plus-all {i} {n} {t} h e = subst (λ (k : ℕ). Plus w c src xs k s t) e h
+  pub plus-all : {i n : ℕ} {t : List ℕ} → PlusSymbols w c src xs i s t → i ≡ n → PlusSymbols w c src xs n s t
+  plus-all {i} {n} {t} h e = subst (λ (k : ℕ). PlusSymbols w c src xs k s t) e h
 
-  -- to bytes that are known
-  pub bytes-plus : {f : ℕ → ℕ} {n : ℕ} {t : List ℕ} → Bytes f c s → Plus w c src xs n s t → Bytes (summed f w src xs n) c t
+  -- to a chunk that is known
+  pub chunk16-plus : {f : ℕ → ℕ} {n : ℕ} {t : List ℕ} → Chunk16Is f c s → PlusSymbols w c src xs n s t → Chunk16Is (summed f w src xs n) c t
   unfolding summed
-  bytes-plus {f} {n} h g = record {
+  chunk16-plus {f} {n} h g = record {
     size = g .size;
     each = λ b k. g .each b k ∙ ap (λ (v : ℕ). v ⊕ gathered (byteAt w src (c + b)) xs n) (h .each b k);
   }
@@ -70,42 +71,46 @@ unfolding summed
 byte-plus f w c src xs n h g = g ∙ ap (λ (v : ℕ). v ⊕ gathered (byteAt w src c) xs n) h
 
 -- 16 zeros
-pub zero-bytes : {c : ℕ} → Bytes (λ b. 0) c (replicate 16 0)
-zero-bytes = record { size = length-replicate {A = ℕ} 16 0; each = λ b g. zeros 16 b }
+pub chunk16-zero : {c : ℕ} → Chunk16Is (λ b. 0) c (replicate 16 0)
+chunk16-zero = record { size = length-replicate {A = ℕ} 16 0; each = λ b g. zeros 16 b }
 
--- known bytes, and the positions added to them so far
+pub chunk64-zero : {c : ℕ} → Chunk64Is (λ b. 0) c (record { a = replicate 16 0; b = replicate 16 0; c = replicate 16 0; d = replicate 16 0 })
+chunk64-zero = record { first = chunk16-zero; second = chunk16-zero; third = chunk16-zero; fourth = chunk16-zero }
+
+-- a chunk, and the positions added to it so far
 module _ (f : ℕ → ℕ) (w : ℕ) (src xs : List ℕ) where
-  bytes-none : {c : ℕ} {t : List ℕ} → Bytes f c t → Bytes (summed f w src xs 0) c t
+  chunk16-none : {c : ℕ} {t : List ℕ} → Chunk16Is f c t → Chunk16Is (summed f w src xs 0) c t
   unfolding summed
-  bytes-none {c} h = record { size = h .size; each = λ b k. h .each b k ∙ gathered-none (byteAt w src (c + b)) xs (f (c + b)) }
+  chunk16-none {c} h = record { size = h .size; each = λ b k. h .each b k ∙ gathered-none (byteAt w src (c + b)) xs (f (c + b)) }
 
-  bytes-more : (i : ℕ) {c : ℕ} {t t′ : List ℕ} → Bytes (summed f w src xs i) c t → Sum t 0 src (getD xs i 0 * w + c) 16 t′
-      → Bytes (summed f w src xs (i + 1)) c t′
+  chunk16-more : (i : ℕ) {c : ℕ} {t t′ : List ℕ} → Chunk16Is (summed f w src xs i) c t → Sum t 0 src (getD xs i 0 * w + c) 16 t′
+      → Chunk16Is (summed f w src xs (i + 1)) c t′
   unfolding summed
-  bytes-more i {c} h g = record { size = g .size; each = λ b k. sum-next w c src xs i (f (c + b)) g b k (h .each b k) }
+  chunk16-more i {c} h g = record { size = g .size; each = λ b k. sum-next w c src xs i (f (c + b)) g b k (h .each b k) }
 
-  -- four chunks
-  pub bytes64-none : {c : ℕ} {t u v z : List ℕ} → Bytes f c t → Bytes f (c + 16) u → Bytes f (c + 32) v → Bytes f (c + 48) z
-      → Bytes64 (summed f w src xs 0) c t u v z
-  bytes64-none h₁ h₂ h₃ h₄ = record { first = bytes-none h₁; second = bytes-none h₂; third = bytes-none h₃; fourth = bytes-none h₄ }
+  -- 64 bytes
+  pub chunk64-none : {c : ℕ} {s : Chunk64} → Chunk64Is f c s → Chunk64Is (summed f w src xs 0) c s
+  chunk64-none h = record { first = chunk16-none (h .first); second = chunk16-none (h .second); third = chunk16-none (h .third); fourth = chunk16-none (h .fourth) }
 
-  -- one position more; its chunks stand 16 apart
-  pub bytes64-more : (i : ℕ) {c : ℕ} {t u v z t′ u′ v′ z′ : List ℕ} → Bytes64 (summed f w src xs i) c t u v z
-      → Sum t 0 src (getD xs i 0 * w + c) 16 t′ → Sum u 0 src (getD xs i 0 * w + c + 16) 16 u′
-      → Sum v 0 src (getD xs i 0 * w + c + 32) 16 v′ → Sum z 0 src (getD xs i 0 * w + c + 48) 16 z′
-      → Bytes64 (summed f w src xs (i + 1)) c t′ u′ v′ z′
-  bytes64-more i {c} {t} {u} {v} {z} {t′} {u′} {v′} {z′} h g₁ g₂ g₃ g₄ = record {
-    first = bytes-more i (h .first) g₁;
-    second = bytes-more i (h .second) (moved u u′ 16 g₂);
-    third = bytes-more i (h .third) (moved v v′ 32 g₃);
-    fourth = bytes-more i (h .fourth) (moved z z′ 48 g₄);
+  -- one position more; its four parts stand 16 apart
+  pub chunk64-more : (i : ℕ) {c : ℕ} {s r : Chunk64} → Chunk64Is (summed f w src xs i) c s → Sum64 s src (getD xs i 0 * w + c) r
+      → Chunk64Is (summed f w src xs (i + 1)) c r
+  chunk64-more i {c} {s} {r} h g = record {
+    first = chunk16-more i (h .first) (g .first);
+    second = chunk16-more i (h .second) (moved (s .b) (r .b) 16 (g .second));
+    third = chunk16-more i (h .third) (moved (s .c) (r .c) 32 (g .third));
+    fourth = chunk16-more i (h .fourth) (moved (s .d) (r .d) 48 (g .fourth));
   }
     where
       moved : (l l′ : List ℕ) (k : ℕ) → Sum l 0 src (getD xs i 0 * w + c + k) 16 l′ → Sum l 0 src (getD xs i 0 * w + (c + k)) 16 l′
       moved l l′ k g = subst (λ (m : ℕ). Sum l 0 src m 16 l′) (add-assoc (getD xs i 0 * w) c k) g
 
-  pub bytes64-all : {i n c : ℕ} {t u v z : List ℕ} → Bytes64 (summed f w src xs i) c t u v z → i ≡ n → Bytes64 (summed f w src xs n) c t u v z
-  bytes64-all {c = c} {t} {u} {v} {z} h e = subst (λ (k : ℕ). Bytes64 (summed f w src xs k) c t u v z) e h
+  pub chunk64-all : {i n c : ℕ} {s : Chunk64} → Chunk64Is (summed f w src xs i) c s → i ≡ n → Chunk64Is (summed f w src xs n) c s
+  chunk64-all {c = c} {s} h e = subst (λ (k : ℕ). Chunk64Is (summed f w src xs k) c s) e h
+
+-- it has four arrays of 16 bytes
+pub chunk64-sized : {f : ℕ → ℕ} {c : ℕ} {s : Chunk64} → Chunk64Is f c s → Sized64 s
+chunk64-sized h = record { first = h .first .size; second = h .second .size; third = h .third .size; fourth = h .fourth .size }
 
 -- ---- the symbol before
 
@@ -120,15 +125,15 @@ before-some w p (suc j) b h = let e : suc j - 1 ≡ j = omega arith in ap (λ (i
 pub before-none : (w : ℕ) (p : List ℕ) (prev b : ℕ) → prev ≡ 0 → byteBefore w p prev b ≡ 0
 before-none w p prev b e = ap (before (byteAt w p b)) e
 
-pub bytes-before : (w : ℕ) (p : List ℕ) (prev : ℕ) {c : ℕ} {t : List ℕ} → 0 < prev → Part p ((prev - 1) * w + c) 16 t → Bytes (byteBefore w p prev) c t
-bytes-before w p prev {c} h s = record {
+pub chunk16-before : (w : ℕ) (p : List ℕ) (prev : ℕ) {c : ℕ} {t : List ℕ} → 0 < prev → Part p ((prev - 1) * w + c) 16 t → Chunk16Is (byteBefore w p prev) c t
+chunk16-before w p prev {c} h s = record {
   size = s .size;
   each = λ b g. s .each b g ∙ ap (λ (k : ℕ). getD p k 0) (add-assoc ((prev - 1) * w) c b) ∙ before-some w p prev (c + b) h;
 }
 
 -- ---- part after part
 
-pub put-written : {f : ℕ → ℕ} {at c : ℕ} {p p′ t : List ℕ} → Bytes f c t → at + c + 16 ≤ length p → p′ ≡ put p (at + c) t 0 16 → Written f at c 16 p p′
+pub put-written : {f : ℕ → ℕ} {at c : ℕ} {p p′ t : List ℕ} → Chunk16Is f c t → at + c + 16 ≤ length p → p′ ≡ put p (at + c) t 0 16 → Written f at c 16 p p′
 put-written {f} {at} {c} {p} {p′} {t} h l e = record {
   size = ap length e ∙ put-length p (at + c) t 0 16;
   outside = λ i o. ap (λ (x : List ℕ). getD x i 0) e ∙ put-out p (at + c) t 0 16 i (λ b k q. apart i b k q o);
@@ -174,21 +179,21 @@ written-join {f} {g} {at} {c} {n} {i} {k} {p} {p′} {p″} h r same l₁ l₂ l
         subst (λ (j : ℕ). getD p″ (at + j) 0 ≡ f j) z (r .each (c + b - i) (omega arith) ∙ same (i + (c + b - i)) (omega arith))
 
 -- the next 16 bytes
-written-next : {f : ℕ → ℕ} {at c n : ℕ} {p p′ t : List ℕ} → Written f at c n p p′ → Bytes f (c + n) t → at + c + n + 16 ≤ length p
+written-next : {f : ℕ → ℕ} {at c n : ℕ} {p p′ t : List ℕ} → Written f at c n p p′ → Chunk16Is f (c + n) t → at + c + n + 16 ≤ length p
     → Written f at c (n + 16) p (put p′ (at + c + n) t 0 16)
 written-next {f} {at} {c} {n} {p} {p′} {t} h b l =
     written-join h (put-written b (omega (arith, h .size)) (ap (λ (k : ℕ). put p′ k t 0 16) (add-assoc at c n))) (λ b q. refl) (omega arith) (omega arith) (omega arith) (n + 16) (omega arith)
 
--- four chunks, one after the other
-pub put-four : (d : List ℕ) (at : ℕ) (t u v z : List ℕ) {d₁ d₂ d₃ d₄ : List ℕ} → d₁ ≡ put d at t 0 16 → d₂ ≡ put d₁ (at + 16) u 0 16 → d₃ ≡ put d₂ (at + 32) v 0 16
-    → d₄ ≡ put d₃ (at + 48) z 0 16 → d₄ ≡ putFour d at t u v z
-put-four d at t u v z e₁ e₂ e₃ e₄ =
-    e₄ ∙ ap (λ (x : List ℕ). put x (at + 48) z 0 16)
-    (e₃ ∙ ap (λ (x : List ℕ). put x (at + 32) v 0 16) (e₂ ∙ ap (λ (x : List ℕ). put x (at + 16) u 0 16) e₁))
+-- 64 bytes, one part after the other
+pub put-parts : (d : List ℕ) (at : ℕ) (s : Chunk64) {d₁ d₂ d₃ d₄ : List ℕ} → d₁ ≡ put d at (s .a) 0 16 → d₂ ≡ put d₁ (at + 16) (s .b) 0 16
+    → d₃ ≡ put d₂ (at + 32) (s .c) 0 16 → d₄ ≡ put d₃ (at + 48) (s .d) 0 16 → d₄ ≡ put64 d at s
+put-parts d at s e₁ e₂ e₃ e₄ =
+    e₄ ∙ ap (λ (x : List ℕ). put x (at + 48) (s .d) 0 16)
+    (e₃ ∙ ap (λ (x : List ℕ). put x (at + 32) (s .c) 0 16) (e₂ ∙ ap (λ (x : List ℕ). put x (at + 16) (s .b) 0 16) e₁))
 
-pub four-written : {f : ℕ → ℕ} {at c : ℕ} {p p′ t u v z : List ℕ} → Bytes64 f c t u v z → at + c + 64 ≤ length p → p′ ≡ putFour p (at + c) t u v z
+pub put64-written : {f : ℕ → ℕ} {at c : ℕ} {p p′ : List ℕ} {s : Chunk64} → Chunk64Is f c s → at + c + 64 ≤ length p → p′ ≡ put64 p (at + c) s
     → Written f at c 64 p p′
-four-written {f} {at} {c} {p} {p′} {t} {u} {v} {z} h l e =
+put64-written {f} {at} {c} {p} {p′} {s} h l e =
     subst (λ (x : List ℕ). Written f at c 64 p x) (sym e)
     (written-next
     (written-next (written-next (put-written (h .first) (omega arith) refl) (h .second) (omega arith)) (h .third) (omega arith))
@@ -234,29 +239,30 @@ before-kept : {f : ℕ → ℕ} {w j c : ℕ} {p p′ : List ℕ} → Written f 
 before-kept h l zero b le q = refl
 before-kept h l (suc i) b le q = other h l i b q (λ e. omega arith)
 
--- put_sum's symbol: c bytes were written, and then k from byte i on
-module _ (w j prev : ℕ) (src xs : List ℕ) (n : ℕ) where
-  pub sum-join : {c i k : ℕ} {p p′ p″ : List ℕ} → prev ≤ j → Written (summed (byteBefore w p prev) w src xs n) (j * w) 0 c p p′
-      → Written (summed (byteBefore w p′ prev) w src xs n) (j * w) i k p′ p″ → i ≤ c → c ≤ i + k → i + k ≤ w
-      → Written (summed (byteBefore w p prev) w src xs n) (j * w) 0 (i + k) p p″
-  unfolding summed
-  sum-join {c} {i} {k} le h g l₁ l₂ l₃ =
-      written-join h g
-      (λ b q. ap (λ (v : ℕ). v ⊕ gathered (byteAt w src b) xs n) (before-kept h (omega arith) prev b le (omega arith)))
-      (omega arith) (omega arith) (omega arith) (i + k) (omega arith)
+-- c bytes of symbol j were written, and then k from byte i on, and the symbols that are added hold what they held
+symbol-join : (w j prev : ℕ) (src src′ xs : List ℕ) (n : ℕ) {p p′ p″ : List ℕ} {c i k : ℕ} → prev ≤ j
+    → ((x b : ℕ) → x < n → b < w → byteAt w src′ b (getD xs x 0) ≡ byteAt w src b (getD xs x 0))
+    → SumWritten w j prev src xs n 0 c p p′ → SumWritten w j prev src′ xs n i k p′ p″ → i ≤ c → c ≤ i + k → i + k ≤ w
+    → SumWritten w j prev src xs n 0 (i + k) p p″
+unfolding summed
+symbol-join w j prev src src′ xs n {i = i} {k} le same h g l₁ l₂ l₃ =
+    written-join h g
+    (λ b q.
+    ap₂ _⊕_ (before-kept h (omega arith) prev b le (omega arith))
+    (sums.sum-ext (λ x. true) (λ x. byteAt w src′ b (getD xs x 0)) (λ x. byteAt w src b (getD xs x 0)) n (λ x r. same x b r (omega arith))))
+    (omega arith) (omega arith) (omega arith) (i + k) (omega arith)
+
+-- they are another buffer's
+pub sum-join : (w j prev : ℕ) (src xs : List ℕ) (n : ℕ) {p p′ p″ : List ℕ} {c i k : ℕ} → prev ≤ j → SumWritten w j prev src xs n 0 c p p′
+    → SumWritten w j prev src xs n i k p′ p″ → i ≤ c → c ≤ i + k → i + k ≤ w → SumWritten w j prev src xs n 0 (i + k) p p″
+sum-join w j prev src xs n le = symbol-join w j prev src src xs n le (λ x b r q. refl)
+
+-- they are the same buffer's, and symbol j is none of them
+pub restore-join : (w j : ℕ) (xs : List ℕ) (n : ℕ) {p p′ p″ : List ℕ} {c i k : ℕ} → ((x : ℕ) → x < n → getD xs x 0 ≢ j)
+    → SumWritten w j 0 p xs n 0 c p p′ → SumWritten w j 0 p′ xs n i k p′ p″ → i ≤ c → c ≤ i + k → i + k ≤ w → SumWritten w j 0 p xs n 0 (i + k) p p″
+restore-join w j xs n {p} {p′} ne h g l₁ l₂ l₃ =
+    symbol-join w j 0 p p′ xs n (omega arith) (λ x b r q. other h (omega arith) (getD xs x 0) b q (ne x r)) h g l₁ l₂ l₃
 
 -- positions within a buffer are within each of its length
 pub inside-kept : {xs : List ℕ} {n w m m′ : ℕ} → Inside xs n w m → m′ ≡ m → Inside xs n w m′
 inside-kept {xs} {n} {w} h e = subst (λ (k : ℕ). Inside xs n w k) (sym e) h
-
--- restore's symbol
-module _ (w j : ℕ) (xs : List ℕ) (n : ℕ) where
-  pub restore-join : {c i k : ℕ} {p p′ p″ : List ℕ} → ((x : ℕ) → x < n → getD xs x 0 ≢ j) → Written (summed (λ b. 0) w p xs n) (j * w) 0 c p p′
-      → Written (summed (λ b. 0) w p′ xs n) (j * w) i k p′ p″ → i ≤ c → c ≤ i + k → i + k ≤ w
-      → Written (summed (λ b. 0) w p xs n) (j * w) 0 (i + k) p p″
-  unfolding summed
-  restore-join {c} {i} {k} {p} {p′} ne h g l₁ l₂ l₃ =
-      written-join h g
-      (λ b q. ap (λ (v : ℕ). 0 ⊕ v) (sums.sum-ext (λ x. true) (λ x. byteAt w p′ b (getD xs x 0)) (λ x. byteAt w p b (getD xs x 0)) n
-      (λ x r. other h (omega arith) (getD xs x 0) b (omega arith) (ne x r))))
-      (omega arith) (omega arith) (omega arith) (i + k) (omega arith)

@@ -12,7 +12,8 @@ use lib.ListN.{length, getD}
 use Rattle.algebra.specs.Codeword.{byteAt}
 use Rattle.algebra.proofs.Sums as sums
 use Rattle.buffers.specs.AllZero.{AllZeroIs}
-use Rattle.symbol_sums.specs.Gather.{gathered, summed, Bytes, Bytes64, CancelIs, Joined, ZeroIs}
+use Rattle.symbol_sums.specs.declared.Chunk64.{Chunk64}
+use Rattle.symbol_sums.specs.Gather.{gathered, summed, Chunk16Is, Chunk64Is, CancelIs, Joined, ZeroIs}
 use Rattle.buffers.proofs.AllZeroLaws.{or-none}
 use Rattle.buffers.proofs.Put.{from-zero}
 
@@ -21,8 +22,8 @@ record Shows (f : ℕ → ℕ) (from to : ℕ) (t : List ℕ) : Type 0 where
   none : ((i : ℕ) → i < 16 → getD t i 0 ≡ 0) → (b : ℕ) → from ≤ b → b < to → f b ≡ 0
   some : (i : ℕ) → i < 16 → getD t i 0 ≢ 0 → (b : ℕ) × ((from ≤ b) × ((b < to) × (f b ≢ 0)))
 
-shows-bytes : {f : ℕ → ℕ} {c : ℕ} {t : List ℕ} → Bytes f c t → Shows f c (c + 16) t
-shows-bytes {f} {c} {t} h = record {
+shows-chunk : {f : ℕ → ℕ} {c : ℕ} {t : List ℕ} → Chunk16Is f c t → Shows f c (c + 16) t
+shows-chunk {f} {c} {t} h = record {
   none = λ z b l₁ l₂.
       let e : c + (b - c) ≡ b = omega arith in
       let g : b - c < 16 = omega arith in
@@ -59,17 +60,17 @@ shows-is : {f : ℕ → ℕ} {from to : ℕ} {t : List ℕ} → Shows f from to 
 shows-is {t = t} h true z = h .none (λ i l. sym (from-zero t i) ∙ z i l)
 shows-is {t = t} h false z = h .some (z .0) (z .1 .0) (λ e. z .1 .1 (from-zero t (z .0) ∙ e))
 
-pub zero-16 : {f : ℕ → ℕ} {c : ℕ} {t : List ℕ} → Bytes f c t → (r : Bool) → AllZeroIs t 0 16 r → ZeroIs f c (c + 16) r
-zero-16 h r z = shows-is (shows-bytes h) r z
+pub zero-16 : {f : ℕ → ℕ} {c : ℕ} {t : List ℕ} → Chunk16Is f c t → (r : Bool) → AllZeroIs t 0 16 r → ZeroIs f c (c + 16) r
+zero-16 h r z = shows-is (shows-chunk h) r z
 
-pub zero-64 : {f : ℕ → ℕ} {c : ℕ} {t u v z x y a : List ℕ} → Bytes64 f c t u v z → Joined t u x → Joined v z y → Joined x y a
+pub zero-64 : {f : ℕ → ℕ} {c : ℕ} {s : Chunk64} {x y a : List ℕ} → Chunk64Is f c s → Joined (s .a) (s .b) x → Joined (s .c) (s .d) y → Joined x y a
     → (r : Bool) → AllZeroIs a 0 16 r → ZeroIs f c (c + 64) r
-zero-64 {f} {c} {t} {u} {v} {z} {x} {y} {a} h j₁ j₂ j₃ r q =
+zero-64 {f} {c} {s} h j₁ j₂ j₃ r q =
     shows-is
     (shows-joined f c (c + 32) (c + 64) (omega arith) (omega arith)
-    (shows-joined f c (c + 16) (c + 32) (omega arith) (omega arith) (shows-bytes (h .first)) (at u (c + 16) (c + 32) (omega arith) (shows-bytes (h .second))) j₁)
-    (shows-joined f (c + 32) (c + 48) (c + 64) (omega arith) (omega arith) (at v (c + 32) (c + 48) (omega arith) (shows-bytes (h .third)))
-    (at z (c + 48) (c + 64) (omega arith) (shows-bytes (h .fourth))) j₂) j₃) r q
+    (shows-joined f c (c + 16) (c + 32) (omega arith) (omega arith) (shows-chunk (h .first)) (at (s .b) (c + 16) (c + 32) (omega arith) (shows-chunk (h .second))) j₁)
+    (shows-joined f (c + 32) (c + 48) (c + 64) (omega arith) (omega arith) (at (s .c) (c + 32) (c + 48) (omega arith) (shows-chunk (h .third)))
+    (at (s .d) (c + 48) (c + 64) (omega arith) (shows-chunk (h .fourth))) j₂) j₃) r q
   where
     at : (l : List ℕ) (from to : ℕ) → from + 16 ≡ to → Shows f from (from + 16) l → Shows f from to l
     at l from to e s = subst (λ (k : ℕ). Shows f from k l) e s

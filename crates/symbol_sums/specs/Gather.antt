@@ -10,7 +10,8 @@ use lib.ListN.{length, getD}
 use Rattle.algebra.specs.Sums.{_⊕_, sum}
 use Rattle.algebra.specs.Codeword.{byteAt}
 use Rattle.algebra.specs.Staircase.{before}
-use Rattle.buffers.specs.Parts.{put}
+use Rattle.buffers.specs.Parts.{put, Sum}
+use Rattle.symbol_sums.specs.declared.Chunk64.{Chunk64}
 
 -- the sum of u at the first n positions of xs
 abbrev pub gathered : (ℕ → ℕ) → List ℕ → ℕ → ℕ
@@ -44,38 +45,49 @@ abbrev pub byteBefore : ℕ → List ℕ → ℕ → ℕ → ℕ
 byteBefore w p prev b = before (byteAt w p b) prev
 
 -- t is f c, .., f (c + 15)
-pub record Bytes (f : ℕ → ℕ) (c : ℕ) (t : List ℕ) : Type 0 where
+pub record Chunk16Is (f : ℕ → ℕ) (c : ℕ) (t : List ℕ) : Type 0 where
   pub size : length t ≡ 16
   pub each : (b : ℕ) → b < 16 → getD t b 0 ≡ f (c + b)
 
--- the same for f c, .., f (c + 63)
-pub record Bytes64 (f : ℕ → ℕ) (c : ℕ) (t u v z : List ℕ) : Type 0 where
-  pub first : Bytes f c t
-  pub second : Bytes f (c + 16) u
-  pub third : Bytes f (c + 32) v
-  pub fourth : Bytes f (c + 48) z
+-- s is f c, .., f (c + 63)
+pub record Chunk64Is (f : ℕ → ℕ) (c : ℕ) (s : Chunk64) : Type 0 where
+  pub first : Chunk16Is f c (s .a)
+  pub second : Chunk16Is f (c + 16) (s .b)
+  pub third : Chunk16Is f (c + 32) (s .c)
+  pub fourth : Chunk16Is f (c + 48) (s .d)
 
--- four chunks of 16 bytes
-pub record Full (t u v z : List ℕ) : Type 0 where
-  pub first : length t ≡ 16
-  pub second : length u ≡ 16
-  pub third : length v ≡ 16
-  pub fourth : length z ≡ 16
+-- four arrays of 16 bytes
+pub record Sized64 (s : Chunk64) : Type 0 where
+  pub first : length (s .a) ≡ 16
+  pub second : length (s .b) ≡ 16
+  pub third : length (s .c) ≡ 16
+  pub fourth : length (s .d) ≡ 16
+
+-- r is s plus the 64 bytes of src from index `from` on
+pub record Sum64 (s : Chunk64) (src : List ℕ) (from : ℕ) (r : Chunk64) : Type 0 where
+  pub first : Sum (s .a) 0 src from 16 (r .a)
+  pub second : Sum (s .b) 0 src (from + 16) 16 (r .b)
+  pub third : Sum (s .c) 0 src (from + 32) 16 (r .c)
+  pub fourth : Sum (s .d) 0 src (from + 48) 16 (r .d)
 
 -- t is s plus bytes c, .., c + 15 of each of the first n symbols xs of src
-pub record Plus (w c : ℕ) (src xs : List ℕ) (n : ℕ) (s t : List ℕ) : Type 0 where
+pub record PlusSymbols (w c : ℕ) (src xs : List ℕ) (n : ℕ) (s t : List ℕ) : Type 0 where
   pub size : length t ≡ 16
   pub each : (b : ℕ) → b < 16 → getD t b 0 ≡ getD s b 0 ⊕ gathered (byteAt w src (c + b)) xs n
 
--- d, where four chunks stand from index `at` on
-abbrev pub putFour : List ℕ → ℕ → List ℕ → List ℕ → List ℕ → List ℕ → List ℕ
-putFour d at t u v z = put (put (put (put d at t 0 16) (at + 16) u 0 16) (at + 32) v 0 16) (at + 48) z 0 16
+-- d, where s stands from index `at` on
+abbrev pub put64 : List ℕ → ℕ → Chunk64 → List ℕ
+put64 d at s = put (put (put (put d at (s .a) 0 16) (at + 16) (s .b) 0 16) (at + 32) (s .c) 0 16) (at + 48) (s .d) 0 16
 
 -- f c, .., f (c + n - 1) were written from index at + c on, and nothing else changed
 pub record Written (f : ℕ → ℕ) (at c n : ℕ) (p p′ : List ℕ) : Type 0 where
   pub size : length p′ ≡ length p
   pub outside : (t : ℕ) → (t < at + c) ⊎ (at + (c + n) ≤ t) → getD p′ t 0 ≡ getD p t 0
   pub each : (b : ℕ) → b < n → getD p′ (at + (c + b)) 0 ≡ f (c + b)
+
+-- bytes c, .., c + k - 1 of symbol j of p became those of symbol prev - 1 plus those of the first n symbols xs of src, and nothing else changed
+abbrev pub SumWritten : ℕ → ℕ → ℕ → List ℕ → List ℕ → ℕ → ℕ → ℕ → List ℕ → List ℕ → Type 0
+SumWritten w j prev src xs n c k p p′ = Written (summed (byteBefore w p prev) w src xs n) (j * w) c k p p′
 
 -- t is the bitwise or of s and u
 pub record Joined (s u t : List ℕ) : Type 0 where

@@ -6,14 +6,14 @@ ghost use lib.ListN.{length, getD};
 ghost use Rattle.algebra.specs.Sums.{_⊕_};
 ghost use Rattle.algebra.specs.Codeword.{byteAt};
 ghost use Rattle.algebra.specs.Staircase.{before};
-ghost use Rattle.symbol_sums.specs.Gather.{gathered, Inside, Replaced, summed, byteBefore, Bytes, Bytes64, Full, Plus, putFour, Written, CancelIs, Joined, ZeroIs};
+ghost use Rattle.symbol_sums.specs.Gather.{gathered, Inside, Replaced, summed, byteBefore, Chunk16Is, Chunk64Is, Sized64, Sum64, PlusSymbols, put64, SumWritten, CancelIs, Joined, ZeroIs};
 use buffers::all_zero;
 use buffers::part_16;
 use buffers::put_16;
 use buffers::sum_16;
 
-// Four chunks of 16 bytes.
-struct Chunks {
+// 64 bytes, in four arrays.
+struct Chunk64 {
     a: [u8; 16],
     b: [u8; 16],
     c: [u8; 16],
@@ -31,7 +31,7 @@ fn gather_16(
 ) -> [u8; 16]
     requires { ⌜ (length (now start) ≡ 16) × (c + 16 ≤ w) ⌝ }
     requires { ⌜ Inside (now xs) n w (length (now src)) ⌝ }
-    ensures { λ r. ⌜ Plus w c (now (src .entry)) (now (xs .entry)) n (now (start .entry)) r ⌝ }
+    ensures { λ r. ⌜ PlusSymbols w c (now (src .entry)) (now (xs .entry)) n (now (start .entry)) r ⌝ }
 {
     let mut t = *start;
     let mut i = 0;
@@ -42,31 +42,41 @@ fn gather_16(
     t
 }
 
-// The sum of bytes c to c + 63 of the n symbols xs of src. Each position is read once for all of them.
-fn gather_64(w: usize, c: usize, xs: &[usize; 64], n: usize, src: &[u8]) -> Chunks
-    requires { ⌜ c + 64 ≤ w ⌝ }
-    requires { ⌜ Inside (now xs) n w (length (now src)) ⌝ }
-    ensures { λ r. ⌜ Bytes64 (summed (λ b. 0) w (now (src .entry)) (now (xs .entry)) n) c (r .a) (r .b) (r .c) (r .d) ⌝ }
+// s plus the 64 bytes of src from index `from` on.
+fn sum_64(s: Chunk64, src: &[u8], from: usize) -> Chunk64
+    requires { ⌜ Sized64 s × (from + 64 ≤ length (now src)) ⌝ }
+    ensures { λ r. ⌜ Sum64 s (now (src .entry)) from r ⌝ }
 {
-    let mut t = [0u8; 16];
-    let mut u = [0u8; 16];
-    let mut v = [0u8; 16];
-    let mut z = [0u8; 16];
-    let mut i = 0;
-    while i < n {
-        let from = xs[i] * w + c;
-        t = sum_16(&t, 0, src, from);
-        u = sum_16(&u, 0, src, from + 16);
-        v = sum_16(&v, 0, src, from + 32);
-        z = sum_16(&z, 0, src, from + 48);
-        i += 1;
-    }
-    Chunks {
+    let t = sum_16(&s.a, 0, src, from);
+    let u = sum_16(&s.b, 0, src, from + 16);
+    let v = sum_16(&s.c, 0, src, from + 32);
+    let z = sum_16(&s.d, 0, src, from + 48);
+    Chunk64 {
         a: t,
         b: u,
         c: v,
         d: z,
     }
+}
+
+// The sum of bytes c to c + 63 of the n symbols xs of src. Each position is read once for all of them.
+fn gather_64(w: usize, c: usize, xs: &[usize; 64], n: usize, src: &[u8]) -> Chunk64
+    requires { ⌜ c + 64 ≤ w ⌝ }
+    requires { ⌜ Inside (now xs) n w (length (now src)) ⌝ }
+    ensures { λ r. ⌜ Chunk64Is (summed (λ b. 0) w (now (src .entry)) (now (xs .entry)) n) c r ⌝ }
+{
+    let mut s = Chunk64 {
+        a: [0u8; 16],
+        b: [0u8; 16],
+        c: [0u8; 16],
+        d: [0u8; 16],
+    };
+    let mut i = 0;
+    while i < n {
+        s = sum_64(s, src, xs[i] * w + c);
+        i += 1;
+    }
+    s
 }
 
 // start plus byte c of the n symbols xs of src.
@@ -87,7 +97,7 @@ fn gather_byte(start: u8, w: usize, c: usize, xs: &[usize; 64], n: usize, src: &
 // Bytes c to c + 15 of symbol prev - 1; zeros where prev is 0.
 fn before_16(dst: &[u8], w: usize, prev: usize, c: usize) -> [u8; 16]
     requires { ⌜ (c + 16 ≤ w) × (prev * w ≤ length (now dst)) ⌝ }
-    ensures { λ r. ⌜ Bytes (byteBefore w (now (dst .entry)) prev) c r ⌝ }
+    ensures { λ r. ⌜ Chunk16Is (byteBefore w (now (dst .entry)) prev) c r ⌝ }
 {
     if prev == 0 {
         return [0u8; 16];
@@ -95,7 +105,24 @@ fn before_16(dst: &[u8], w: usize, prev: usize, c: usize) -> [u8; 16]
     part_16(dst, (prev - 1) * w + c)
 }
 
-// The same for byte c.
+// Bytes c to c + 63.
+fn before_64(dst: &[u8], w: usize, prev: usize, c: usize) -> Chunk64
+    requires { ⌜ (c + 64 ≤ w) × (prev * w ≤ length (now dst)) ⌝ }
+    ensures { λ r. ⌜ Chunk64Is (byteBefore w (now (dst .entry)) prev) c r ⌝ }
+{
+    let s = before_16(dst, w, prev, c);
+    let t = before_16(dst, w, prev, c + 16);
+    let u = before_16(dst, w, prev, c + 32);
+    let v = before_16(dst, w, prev, c + 48);
+    Chunk64 {
+        a: s,
+        b: t,
+        c: u,
+        d: v,
+    }
+}
+
+// Byte c.
 fn before_byte(dst: &[u8], w: usize, prev: usize, c: usize) -> u8
     requires { ⌜ (c < w) × (prev * w ≤ length (now dst)) ⌝ }
     ensures { λ r. ⌜ r ≡ byteBefore w (now (dst .entry)) prev c ⌝ }
@@ -107,7 +134,7 @@ fn before_byte(dst: &[u8], w: usize, prev: usize, c: usize) -> u8
 }
 
 // Bytes c to c + 63 of symbol prev - 1 of dst, where prev is not 0, plus those of the n symbols xs of src.
-fn carried_64(
+fn running_sum_64(
     w: usize,
     prev: usize,
     c: usize,
@@ -115,36 +142,24 @@ fn carried_64(
     n: usize,
     src: &[u8],
     dst: &[u8],
-) -> Chunks
+) -> Chunk64
     requires { ⌜ (c + 64 ≤ w) × (prev * w ≤ length (now dst)) ⌝ }
     requires { ⌜ Inside (now xs) n w (length (now src)) ⌝ }
-    ensures { λ r. ⌜ Bytes64 (summed (byteBefore w (now (dst .entry)) prev) w (now (src .entry)) (now (xs .entry)) n) c (r .a) (r .b) (r .c) (r .d) ⌝ }
+    ensures { λ r. ⌜ Chunk64Is (summed (byteBefore w (now (dst .entry)) prev) w (now (src .entry)) (now (xs .entry)) n) c r ⌝ }
 {
-    let mut t = before_16(dst, w, prev, c);
-    let mut u = before_16(dst, w, prev, c + 16);
-    let mut v = before_16(dst, w, prev, c + 32);
-    let mut z = before_16(dst, w, prev, c + 48);
+    let mut s = before_64(dst, w, prev, c);
     let mut i = 0;
     while i < n {
-        let from = xs[i] * w + c;
-        t = sum_16(&t, 0, src, from);
-        u = sum_16(&u, 0, src, from + 16);
-        v = sum_16(&v, 0, src, from + 32);
-        z = sum_16(&z, 0, src, from + 48);
+        s = sum_64(s, src, xs[i] * w + c);
         i += 1;
     }
-    Chunks {
-        a: t,
-        b: u,
-        c: v,
-        d: z,
-    }
+    s
 }
 
-// Puts the four chunks over the 64 bytes of dst from index `at` on.
-fn put_64(dst: &mut [u8], at: usize, s: Chunks)
-    requires { ⌜ (at + 64 ≤ length (now dst)) × Full (s .a) (s .b) (s .c) (s .d) ⌝ }
-    ensures { λ _. ⌜ now (dst .exit) ≡ putFour (now (dst .entry)) at (s .a) (s .b) (s .c) (s .d) ⌝ }
+// Puts s over the 64 bytes of dst from index `at` on.
+fn put_64(dst: &mut [u8], at: usize, s: Chunk64)
+    requires { ⌜ (at + 64 ≤ length (now dst)) × Sized64 s ⌝ }
+    ensures { λ _. ⌜ now (dst .exit) ≡ put64 (now (dst .entry)) at s ⌝ }
 {
     put_16(dst, at, &s.a);
     put_16(dst, at + 16, &s.b);
@@ -165,9 +180,9 @@ fn put_sum_64(
 )
     requires { ⌜ (prev ≤ j) × (c + 64 ≤ w) × (j * w + w ≤ length (now dst)) ⌝ }
     requires { ⌜ Inside (now xs) n w (length (now src)) ⌝ }
-    ensures { λ _. ⌜ Written (summed (byteBefore w (now (dst .entry)) prev) w (now (src .entry)) (now (xs .entry)) n) (j * w) c 64 (now (dst .entry)) (now (dst .exit)) ⌝ }
+    ensures { λ _. ⌜ SumWritten w j prev (now (src .entry)) (now (xs .entry)) n c 64 (now (dst .entry)) (now (dst .exit)) ⌝ }
 {
-    let s = carried_64(w, prev, c, xs, n, src, dst);
+    let s = running_sum_64(w, prev, c, xs, n, src, dst);
     put_64(dst, j * w + c, s);
 }
 
@@ -184,7 +199,7 @@ fn put_sum_16(
 )
     requires { ⌜ (prev ≤ j) × (c + 16 ≤ w) × (j * w + w ≤ length (now dst)) ⌝ }
     requires { ⌜ Inside (now xs) n w (length (now src)) ⌝ }
-    ensures { λ _. ⌜ Written (summed (byteBefore w (now (dst .entry)) prev) w (now (src .entry)) (now (xs .entry)) n) (j * w) c 16 (now (dst .entry)) (now (dst .exit)) ⌝ }
+    ensures { λ _. ⌜ SumWritten w j prev (now (src .entry)) (now (xs .entry)) n c 16 (now (dst .entry)) (now (dst .exit)) ⌝ }
 {
     let start = before_16(dst, w, prev, c);
     let s = gather_16(&start, w, c, xs, n, src);
@@ -204,7 +219,7 @@ fn put_sum_byte(
 )
     requires { ⌜ (prev ≤ j) × (c < w) × (j * w + w ≤ length (now dst)) ⌝ }
     requires { ⌜ Inside (now xs) n w (length (now src)) ⌝ }
-    ensures { λ _. ⌜ Written (summed (byteBefore w (now (dst .entry)) prev) w (now (src .entry)) (now (xs .entry)) n) (j * w) c 1 (now (dst .entry)) (now (dst .exit)) ⌝ }
+    ensures { λ _. ⌜ SumWritten w j prev (now (src .entry)) (now (xs .entry)) n c 1 (now (dst .entry)) (now (dst .exit)) ⌝ }
 {
     let start = before_byte(dst, w, prev, c);
     dst[j * w + c] = gather_byte(start, w, c, xs, n, src);
@@ -222,7 +237,7 @@ fn put_sum_wide(
 ) -> usize
     requires { ⌜ (prev ≤ j) × (j * w + w ≤ length (now dst)) ⌝ }
     requires { ⌜ Inside (now xs) n w (length (now src)) ⌝ }
-    ensures { λ r. ⌜ (r ≤ w) × Written (summed (byteBefore w (now (dst .entry)) prev) w (now (src .entry)) (now (xs .entry)) n) (j * w) 0 r (now (dst .entry)) (now (dst .exit)) ⌝ }
+    ensures { λ r. ⌜ (r ≤ w) × SumWritten w j prev (now (src .entry)) (now (xs .entry)) n 0 r (now (dst .entry)) (now (dst .exit)) ⌝ }
 {
     let mut c = 0;
     while w - c >= 64 {
@@ -244,7 +259,7 @@ fn put_sum_chunks(
 )
     requires { ⌜ (16 ≤ w) × (prev ≤ j) × (j * w + w ≤ length (now dst)) ⌝ }
     requires { ⌜ Inside (now xs) n w (length (now src)) ⌝ }
-    ensures { λ _. ⌜ Written (summed (byteBefore w (now (dst .entry)) prev) w (now (src .entry)) (now (xs .entry)) n) (j * w) 0 w (now (dst .entry)) (now (dst .exit)) ⌝ }
+    ensures { λ _. ⌜ SumWritten w j prev (now (src .entry)) (now (xs .entry)) n 0 w (now (dst .entry)) (now (dst .exit)) ⌝ }
 {
     let mut c = put_sum_wide(w, j, prev, xs, n, src, dst);
     while w - c > 16 {
@@ -269,7 +284,7 @@ fn put_sum_bytes(
 )
     requires { ⌜ (prev ≤ j) × (j * w + w ≤ length (now dst)) ⌝ }
     requires { ⌜ Inside (now xs) n w (length (now src)) ⌝ }
-    ensures { λ _. ⌜ Written (summed (byteBefore w (now (dst .entry)) prev) w (now (src .entry)) (now (xs .entry)) n) (j * w) 0 w (now (dst .entry)) (now (dst .exit)) ⌝ }
+    ensures { λ _. ⌜ SumWritten w j prev (now (src .entry)) (now (xs .entry)) n 0 w (now (dst .entry)) (now (dst .exit)) ⌝ }
 {
     let mut c = 0;
     while c < w {
@@ -303,7 +318,7 @@ pub fn put_sum(
 fn restore_64(w: usize, p: usize, c: usize, xs: &[usize; 64], n: usize, buf: &mut [u8])
     requires { ⌜ (c + 64 ≤ w) × (p * w + w ≤ length (now buf)) ⌝ }
     requires { ⌜ Inside (now xs) n w (length (now buf)) ⌝ }
-    ensures { λ _. ⌜ Written (summed (λ b. 0) w (now (buf .entry)) (now (xs .entry)) n) (p * w) c 64 (now (buf .entry)) (now (buf .exit)) ⌝ }
+    ensures { λ _. ⌜ SumWritten w p 0 (now (buf .entry)) (now (xs .entry)) n c 64 (now (buf .entry)) (now (buf .exit)) ⌝ }
 {
     let s = gather_64(w, c, xs, n, buf);
     put_64(buf, p * w + c, s);
@@ -313,7 +328,7 @@ fn restore_64(w: usize, p: usize, c: usize, xs: &[usize; 64], n: usize, buf: &mu
 fn restore_16(w: usize, p: usize, c: usize, xs: &[usize; 64], n: usize, buf: &mut [u8])
     requires { ⌜ (c + 16 ≤ w) × (p * w + w ≤ length (now buf)) ⌝ }
     requires { ⌜ Inside (now xs) n w (length (now buf)) ⌝ }
-    ensures { λ _. ⌜ Written (summed (λ b. 0) w (now (buf .entry)) (now (xs .entry)) n) (p * w) c 16 (now (buf .entry)) (now (buf .exit)) ⌝ }
+    ensures { λ _. ⌜ SumWritten w p 0 (now (buf .entry)) (now (xs .entry)) n c 16 (now (buf .entry)) (now (buf .exit)) ⌝ }
 {
     let s = gather_16(&[0u8; 16], w, c, xs, n, buf);
     put_16(buf, p * w + c, &s);
@@ -323,7 +338,7 @@ fn restore_16(w: usize, p: usize, c: usize, xs: &[usize; 64], n: usize, buf: &mu
 fn restore_byte(w: usize, p: usize, c: usize, xs: &[usize; 64], n: usize, buf: &mut [u8])
     requires { ⌜ (c < w) × (p * w + w ≤ length (now buf)) ⌝ }
     requires { ⌜ Inside (now xs) n w (length (now buf)) ⌝ }
-    ensures { λ _. ⌜ Written (summed (λ b. 0) w (now (buf .entry)) (now (xs .entry)) n) (p * w) c 1 (now (buf .entry)) (now (buf .exit)) ⌝ }
+    ensures { λ _. ⌜ SumWritten w p 0 (now (buf .entry)) (now (xs .entry)) n c 1 (now (buf .entry)) (now (buf .exit)) ⌝ }
 {
     buf[p * w + c] = gather_byte(0, w, c, xs, n, buf);
 }
@@ -333,7 +348,7 @@ fn restore_wide(w: usize, p: usize, xs: &[usize; 64], n: usize, buf: &mut [u8]) 
     requires { ⌜ p * w + w ≤ length (now buf) ⌝ }
     requires { ⌜ Inside (now xs) n w (length (now buf)) ⌝ }
     requires { ⌜ ((i : ℕ) → i < n → getD (now xs) i 0 ≢ p) ⌝ }
-    ensures { λ r. ⌜ (r ≤ w) × Written (summed (λ b. 0) w (now (buf .entry)) (now (xs .entry)) n) (p * w) 0 r (now (buf .entry)) (now (buf .exit)) ⌝ }
+    ensures { λ r. ⌜ (r ≤ w) × SumWritten w p 0 (now (buf .entry)) (now (xs .entry)) n 0 r (now (buf .entry)) (now (buf .exit)) ⌝ }
 {
     let mut c = 0;
     while w - c >= 64 {
@@ -348,7 +363,7 @@ fn restore_chunks(w: usize, p: usize, xs: &[usize; 64], n: usize, buf: &mut [u8]
     requires { ⌜ (16 ≤ w) × (p * w + w ≤ length (now buf)) ⌝ }
     requires { ⌜ Inside (now xs) n w (length (now buf)) ⌝ }
     requires { ⌜ ((i : ℕ) → i < n → getD (now xs) i 0 ≢ p) ⌝ }
-    ensures { λ _. ⌜ Written (summed (λ b. 0) w (now (buf .entry)) (now (xs .entry)) n) (p * w) 0 w (now (buf .entry)) (now (buf .exit)) ⌝ }
+    ensures { λ _. ⌜ SumWritten w p 0 (now (buf .entry)) (now (xs .entry)) n 0 w (now (buf .entry)) (now (buf .exit)) ⌝ }
 {
     let mut c = restore_wide(w, p, xs, n, buf);
     while w - c > 16 {
@@ -366,7 +381,7 @@ fn restore_bytes(w: usize, p: usize, xs: &[usize; 64], n: usize, buf: &mut [u8])
     requires { ⌜ p * w + w ≤ length (now buf) ⌝ }
     requires { ⌜ Inside (now xs) n w (length (now buf)) ⌝ }
     requires { ⌜ ((i : ℕ) → i < n → getD (now xs) i 0 ≢ p) ⌝ }
-    ensures { λ _. ⌜ Written (summed (λ b. 0) w (now (buf .entry)) (now (xs .entry)) n) (p * w) 0 w (now (buf .entry)) (now (buf .exit)) ⌝ }
+    ensures { λ _. ⌜ SumWritten w p 0 (now (buf .entry)) (now (xs .entry)) n 0 w (now (buf .entry)) (now (buf .exit)) ⌝ }
 {
     let mut c = 0;
     while c < w {

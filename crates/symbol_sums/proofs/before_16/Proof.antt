@@ -4,7 +4,7 @@ use mathlib.Core.Path.{refl, sym, _∙_}
 use Prim.Native.Nat.{_+_}
 use native.Mathlib.Omega.{arith}
 use Rattle.buffers.proofs.Zeros.{zeros}
-use Rattle.symbol_sums.proofs.Symbols.{earlier, before-none, bytes-before}
+use Rattle.symbol_sums.proofs.Symbols.{earlier, before-none, chunk16-before}
 use borrow.Author.Needs.{needs}
 use Rattle.symbol_sums.proofs.before_16.Statement.{statement}
 use Rattle.symbol_sums.proofs.before_16.Tie as tie
@@ -27,7 +27,7 @@ part-16-requires : tie.Need-part-16-requires
 part-16-requires c κs = omega (arith, earlier (c .before .before .args .w) (c .before .before .args .prev) (omega arith))
 
 returns-2 : tie.Need-returns-2
-returns-2 c = bytes-before _ _ _ (omega arith) (c .part-16 .ensures)
+returns-2 c = chunk16-before _ _ _ (omega arith) (c .part-16 .ensures)
 
 pub before-16-spec : {M : Type 1} → statement M
 before-16-spec =

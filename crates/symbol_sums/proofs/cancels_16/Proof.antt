@@ -1,6 +1,6 @@
 -- `symbol_sums::cancels_16` meets its contract.
 -- Assumes nothing.
-use Rattle.symbol_sums.proofs.Symbols.{bytes-plus, zero-bytes}
+use Rattle.symbol_sums.proofs.Symbols.{chunk16-plus, chunk16-zero}
 use Rattle.symbol_sums.proofs.ZeroTests.{zero-16}
 use borrow.Author.Needs.{needs}
 use Rattle.symbol_sums.proofs.cancels_16.Statement.{statement}
@@ -16,7 +16,7 @@ all-zero-requires : tie.Need-all-zero-requires
 all-zero-requires c κs = search needs
 
 returns : tie.Need-returns
-returns c = zero-16 (bytes-plus {f = λ b. 0} zero-bytes (c .before .before .gather-16 .ensures)) (c .all-zero .result) (c .all-zero .ensures)
+returns c = zero-16 (chunk16-plus {f = λ b. 0} chunk16-zero (c .before .before .gather-16 .ensures)) (c .all-zero .result) (c .all-zero .ensures)
 
 pub cancels-16-spec : {M : Type 1} → statement M
 cancels-16-spec =

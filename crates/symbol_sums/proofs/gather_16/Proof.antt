@@ -3,13 +3,13 @@
 use mathlib.Core.Path.{_≡_}
 use Prim.Native.Nat.{_≤_, _-_}
 use native.Mathlib.Omega.{arith}
-use Rattle.symbol_sums.specs.Gather.{Plus}
+use Rattle.symbol_sums.specs.Gather.{PlusSymbols}
 use Rattle.symbol_sums.proofs.Symbols.{plus-none, plus-more, plus-all}
 use Rattle.symbol_sums.proofs.gather_16.Statement.{statement}
 use Rattle.symbol_sums.proofs.gather_16.Tie as tie
 
 abbrev Inv-loop : tie.InvT-loop
-Inv-loop start w c xs n src t₀ i₀ t i = (i ≤ n) × Plus w c src xs i start t
+Inv-loop start w c xs n src t₀ i₀ t i = (i ≤ n) × PlusSymbols w c src xs i start t
 
 abbrev μ-loop : tie.MeasureT-loop
 μ-loop start w c xs n src t₀ i₀ t i = n - i

@@ -1,6 +1,6 @@
 -- `symbol_sums::put_64` meets its contract.
 -- Assumes nothing.
-use Rattle.symbol_sums.proofs.Symbols.{put-four}
+use Rattle.symbol_sums.proofs.Symbols.{put-parts}
 use borrow.Author.Needs.{needs}
 use Rattle.symbol_sums.proofs.put_64.Statement.{statement}
 use Rattle.symbol_sums.proofs.put_64.Tie as tie
@@ -30,7 +30,7 @@ same-length : tie.Need-same-length
 same-length c = search needs
 
 returns : tie.Need-returns
-returns c = put-four _ _ _ _ _ _ (c .before .before .before .before .before .before .before .before .before .before .before .before .before .before .before .before .before .before .before .before .put-16 .ensures) (c .before .before .before .before .before .before .before .before .before .before .before .before .before .before .put-162 .ensures) (c .before .before .before .before .before .before .before .before .put-163 .ensures) (c .before .before .put-164 .ensures)
+returns c = put-parts _ _ _ (c .before .before .before .before .before .before .before .before .before .before .before .before .before .before .before .before .before .before .before .before .put-16 .ensures) (c .before .before .before .before .before .before .before .before .before .before .before .before .before .before .put-162 .ensures) (c .before .before .before .before .before .before .before .before .put-163 .ensures) (c .before .before .put-164 .ensures)
 
 pub put-64-spec : {M : Type 1} → statement M
 put-64-spec =

@@ -2,7 +2,7 @@
 -- Assumes nothing.
 use native.Mathlib.Nat.{mul-le-mul-right}
 use native.Mathlib.Omega.{arith}
-use Rattle.symbol_sums.proofs.Symbols.{put-written, bytes-plus}
+use Rattle.symbol_sums.proofs.Symbols.{put-written, chunk16-plus}
 use borrow.Author.Needs.{needs}
 use Rattle.symbol_sums.proofs.put_sum_16.Statement.{statement}
 use Rattle.symbol_sums.proofs.put_sum_16.Tie as tie
@@ -28,7 +28,7 @@ same-length : tie.Need-same-length
 same-length c = search needs
 
 returns : tie.Need-returns
-returns c = put-written (bytes-plus (c .before .before .before .before .before .before .before .before-16 .ensures) (c .before .before .before .before .before .gather-16 .ensures)) (omega arith) (c .before .before .put-16 .ensures)
+returns c = put-written (chunk16-plus (c .before .before .before .before .before .before .before .before-16 .ensures) (c .before .before .before .before .before .gather-16 .ensures)) (omega arith) (c .before .before .put-16 .ensures)
 
 pub put-sum-16-spec : {M : Type 1} → statement M
 put-sum-16-spec =

@@ -5,13 +5,13 @@ use mathlib.Core.List.{List}
 use Prim.Native.Nat.{ℕ, _≤_, _-_, _*_, _+_}
 use native.Mathlib.Omega.{arith}
 use lib.ListN.{length}
-use Rattle.symbol_sums.specs.Gather.{summed, byteBefore, Written}
+use Rattle.symbol_sums.specs.Gather.{SumWritten}
 use Rattle.symbol_sums.proofs.Symbols.{sum-join, written-all}
 use Rattle.symbol_sums.proofs.put_sum_chunks.Statement.{statement}
 use Rattle.symbol_sums.proofs.put_sum_chunks.Tie as tie
 
 abbrev Inv-loop : tie.InvT-loop
-Inv-loop w j prev xs n src dst₀ c₀ dst c = (c ≤ w) × (length dst ≡ length dst₀) × ((q : List ℕ) → Written (summed (byteBefore w q prev) w src xs n) (j * w) 0 c₀ q dst₀ → Written (summed (byteBefore w q prev) w src xs n) (j * w) 0 c q dst)
+Inv-loop w j prev xs n src dst₀ c₀ dst c = (c ≤ w) × (length dst ≡ length dst₀) × ((q : List ℕ) → SumWritten w j prev src xs n 0 c₀ q dst₀ → SumWritten w j prev src xs n 0 c q dst)
 
 abbrev μ-loop : tie.MeasureT-loop
 μ-loop w j prev xs n src dst₀ c₀ dst c = w - c

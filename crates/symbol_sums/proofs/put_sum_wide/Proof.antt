@@ -1,14 +1,14 @@
 -- `symbol_sums::put_sum_wide` meets its contract: c bytes are written.
 -- Assumes nothing.
-use Prim.Native.Nat.{_≤_, _-_, _*_}
+use Prim.Native.Nat.{_≤_, _-_}
 use native.Mathlib.Omega.{arith}
-use Rattle.symbol_sums.specs.Gather.{summed, byteBefore, Written}
+use Rattle.symbol_sums.specs.Gather.{SumWritten}
 use Rattle.symbol_sums.proofs.Symbols.{written-none, sum-join}
 use Rattle.symbol_sums.proofs.put_sum_wide.Statement.{statement}
 use Rattle.symbol_sums.proofs.put_sum_wide.Tie as tie
 
 abbrev Inv-loop : tie.InvT-loop
-Inv-loop w j prev xs n src dst₀ c₀ dst c = (c ≤ w) × Written (summed (byteBefore w dst₀ prev) w src xs n) (j * w) 0 c dst₀ dst
+Inv-loop w j prev xs n src dst₀ c₀ dst c = (c ≤ w) × SumWritten w j prev src xs n 0 c dst₀ dst
 
 abbrev μ-loop : tie.MeasureT-loop
 μ-loop w j prev xs n src dst₀ c₀ dst c = w - c

@@ -1,7 +1,7 @@
 -- `symbol_sums::restore_16` meets its contract.
 -- Assumes nothing.
 use native.Mathlib.Omega.{arith}
-use Rattle.symbol_sums.proofs.Symbols.{put-written, bytes-plus, zero-bytes}
+use Rattle.symbol_sums.proofs.Symbols.{put-written, chunk16-plus, chunk16-zero}
 use borrow.Author.Needs.{needs}
 use Rattle.symbol_sums.proofs.restore_16.Statement.{statement}
 use Rattle.symbol_sums.proofs.restore_16.Tie as tie
@@ -22,7 +22,7 @@ same-length : tie.Need-same-length
 same-length c = search needs
 
 returns : tie.Need-returns
-returns c = put-written (bytes-plus zero-bytes (c .before .before .before .before .before .gather-16 .ensures)) (omega arith) (c .before .before .put-16 .ensures)
+returns c = put-written (chunk16-plus chunk16-zero (c .before .before .before .before .before .gather-16 .ensures)) (omega arith) (c .before .before .put-16 .ensures)
 
 pub restore-16-spec : {M : Type 1} → statement M
 restore-16-spec =

@@ -1,7 +1,7 @@
 -- `symbol_sums::restore_64` meets its contract.
 -- Assumes nothing.
 use native.Mathlib.Omega.{arith}
-use Rattle.symbol_sums.proofs.Symbols.{four-written}
+use Rattle.symbol_sums.proofs.Symbols.{put64-written}
 use borrow.Author.Needs.{needs}
 use Rattle.symbol_sums.proofs.restore_64.Statement.{statement}
 use Rattle.symbol_sums.proofs.restore_64.Tie as tie
@@ -22,7 +22,7 @@ same-length : tie.Need-same-length
 same-length c = search needs
 
 returns : tie.Need-returns
-returns c = four-written (c .before .before .before .before .gather-64 .ensures) (omega arith) (c .before .before .put-64 .ensures)
+returns c = put64-written (c .before .before .before .before .gather-64 .ensures) (omega arith) (c .before .before .put-64 .ensures)
 
 pub restore-64-spec : {M : Type 1} → statement M
 restore-64-spec =

@@ -1,14 +1,14 @@
 -- `symbol_sums::restore_bytes` meets its contract: after c turns, c bytes are written.
 -- Assumes nothing.
-use Prim.Native.Nat.{_≤_, _-_, _*_}
+use Prim.Native.Nat.{_≤_, _-_}
 use native.Mathlib.Omega.{arith}
-use Rattle.symbol_sums.specs.Gather.{summed, Written}
+use Rattle.symbol_sums.specs.Gather.{SumWritten}
 use Rattle.symbol_sums.proofs.Symbols.{written-none, restore-join, inside-kept, written-all}
 use Rattle.symbol_sums.proofs.restore_bytes.Statement.{statement}
 use Rattle.symbol_sums.proofs.restore_bytes.Tie as tie
 
 abbrev Inv-loop : tie.InvT-loop
-Inv-loop w p xs n buf₀ c₀ buf c = (c ≤ w) × Written (summed (λ b. 0) w buf₀ xs n) (p * w) 0 c buf₀ buf
+Inv-loop w p xs n buf₀ c₀ buf c = (c ≤ w) × SumWritten w p 0 buf₀ xs n 0 c buf₀ buf
 
 abbrev μ-loop : tie.MeasureT-loop
 μ-loop w p xs n buf₀ c₀ buf c = w - c

@@ -5,13 +5,13 @@ use mathlib.Core.List.{List}
 use Prim.Native.Nat.{ℕ, _≤_, _-_, _*_, _+_}
 use native.Mathlib.Omega.{arith}
 use lib.ListN.{length}
-use Rattle.symbol_sums.specs.Gather.{summed, Written}
+use Rattle.symbol_sums.specs.Gather.{SumWritten}
 use Rattle.symbol_sums.proofs.Symbols.{restore-join, inside-kept, written-all}
 use Rattle.symbol_sums.proofs.restore_chunks.Statement.{statement}
 use Rattle.symbol_sums.proofs.restore_chunks.Tie as tie
 
 abbrev Inv-loop : tie.InvT-loop
-Inv-loop w p xs n buf₀ c₀ buf c = (c ≤ w) × (length buf ≡ length buf₀) × ((q : List ℕ) → Written (summed (λ b. 0) w q xs n) (p * w) 0 c₀ q buf₀ → Written (summed (λ b. 0) w q xs n) (p * w) 0 c q buf)
+Inv-loop w p xs n buf₀ c₀ buf c = (c ≤ w) × (length buf ≡ length buf₀) × ((q : List ℕ) → SumWritten w p 0 q xs n 0 c₀ q buf₀ → SumWritten w p 0 q xs n 0 c q buf)
 
 abbrev μ-loop : tie.MeasureT-loop
 μ-loop w p xs n buf₀ c₀ buf c = w - c

@@ -1,0 +1,69 @@
+-- `symbol_sums::running_sum_64` meets its contract: after i turns, i positions are added.
+-- Assumes nothing.
+use mathlib.Core.Path.{_≡_}
+use Prim.Native.Nat.{_≤_, _-_}
+use native.Mathlib.Omega.{arith}
+use borrow.Author.Needs.{needs}
+use Rattle.symbol_sums.specs.Gather.{summed, byteBefore, Chunk64Is}
+use Rattle.symbol_sums.proofs.Symbols.{chunk64-none, chunk64-more, chunk64-all, chunk64-sized}
+use Rattle.symbol_sums.proofs.running_sum_64.Statement.{statement}
+use Rattle.symbol_sums.proofs.running_sum_64.Tie as tie
+
+abbrev Inv-loop : tie.InvT-loop
+Inv-loop w prev c xs n src dst s₀ i₀ s i = (i ≤ n) × Chunk64Is (summed (byteBefore w dst prev) w src xs i) c s
+
+abbrev μ-loop : tie.MeasureT-loop
+μ-loop w prev c xs n src dst s₀ i₀ s i = n - i
+
+before-64-requires : tie.Need-before-64-requires Inv-loop μ-loop
+before-64-requires c κs = search needs
+
+loop-holds : tie.Need-loop-holds Inv-loop μ-loop
+loop-holds c = (omega arith, chunk64-none _ _ _ _ (c .before-64 .ensures))
+
+mul-sum-64 : tie.Need-mul-sum-64 Inv-loop μ-loop
+mul-sum-64 c = omega (arith, c .before .before .before .before .before .pre .1 .size, c .before .before .before .before .before .pre .1 .few)
+
+element-copy-out-sum-64 : tie.Need-element-copy-out-sum-64 Inv-loop μ-loop
+element-copy-out-sum-64 c = omega (arith, c .before .before .before .before .before .pre .1 .size, c .before .before .before .before .before .pre .1 .few)
+
+mul-sum-64-2 : tie.Need-mul-sum-64-2 Inv-loop μ-loop
+mul-sum-64-2 c = omega (arith, c .before .before .before .before .before .before .pre .1 .each (c .before .before .loop .i) (omega arith))
+
+add-sum-64 : tie.Need-add-sum-64 Inv-loop μ-loop
+add-sum-64 c = omega (arith, c .before .before .before .before .before .before .pre .1 .each (c .before .before .loop .i) (omega arith))
+
+sum-64-requires : tie.Need-sum-64-requires Inv-loop μ-loop
+sum-64-requires c κs = (chunk64-sized (c .before .before .loop .inv .1), omega (arith, c .before .before .before .before .before .before .pre .1 .each (c .before .before .loop .i) (omega arith)))
+
+add-i : tie.Need-add-i Inv-loop μ-loop
+add-i c = omega (arith, c .before .before .before .before .before .before .before .pre .1 .few)
+
+loop-less : tie.Need-loop-less Inv-loop μ-loop
+loop-less c = omega arith
+
+loop-again : tie.Need-loop-again Inv-loop μ-loop
+loop-again c = (omega arith, chunk64-more _ _ _ _ _ (c .before .before .before .loop .inv .1) (c .sum-64 .ensures))
+
+returns : tie.Need-returns Inv-loop μ-loop
+returns c =
+    let e : c .before .loop .i ≡ c .before .before .before .before .before .args .n = omega arith in
+    chunk64-all _ _ _ _ (c .before .loop .inv .1) e
+
+pub running-sum-64-spec : {M : Type 1} → statement M
+running-sum-64-spec =
+    tie.close
+    (tie.spec
+    Inv-loop
+    μ-loop
+    before-64-requires
+    loop-holds
+    mul-sum-64
+    element-copy-out-sum-64
+    mul-sum-64-2
+    add-sum-64
+    sum-64-requires
+    add-i
+    loop-less
+    loop-again
+    returns)
