@@ -1,7 +1,7 @@
 // Sums of symbols that stand anywhere in a buffer, in chunks that are held in arrays of their own.
 ghost use mathlib.Core.Path.{_≡_};
 ghost use mathlib.Core.Logic.{_≢_};
-ghost use Prim.Native.Nat.{ℕ, _+_, _*_, _<_, _≤_};
+ghost use Prim.Native.Nat.{ℕ, _+_, _-_, _*_, _%_, _<_, _≤_};
 ghost use lib.ListN.{length, getD};
 ghost use Rattle.algebra.specs.Sums.{_⊕_};
 ghost use Rattle.algebra.specs.Codeword.{byteAt};
@@ -439,11 +439,10 @@ fn cancels_16(w: usize, c: usize, xs: &[usize; 64], n: usize, src: &[u8]) -> boo
     all_zero(&gather_16(&[0u8; 16], w, c, xs, n, src), 0, 16)
 }
 
-// cancels for symbols of at least 16 bytes. Where the width is no multiple of 16, some bytes are added twice.
-fn cancels_chunks(w: usize, xs: &[usize; 64], n: usize, src: &[u8]) -> bool
-    requires { ⌜ 16 ≤ w ⌝ }
+// The whole chunks of 64 bytes, as many as there are, add up to zero.
+fn cancels_wide(w: usize, xs: &[usize; 64], n: usize, src: &[u8]) -> bool
     requires { ⌜ Inside (now xs) n w (length (now src)) ⌝ }
-    ensures { λ r. ⌜ ZeroIs (summed (λ b. 0) w (now (src .entry)) (now (xs .entry)) n) 0 w r ⌝ }
+    ensures { λ r. ⌜ ZeroIs (summed (λ b. 0) w (now (src .entry)) (now (xs .entry)) n) 0 (w - w % 64) r ⌝ }
 {
     let mut c = 0;
     while w - c >= 64 {
@@ -452,6 +451,19 @@ fn cancels_chunks(w: usize, xs: &[usize; 64], n: usize, src: &[u8]) -> bool
         }
         c += 64;
     }
+    true
+}
+
+// cancels for symbols of at least 16 bytes. Where the width is no multiple of 16, some bytes are added twice.
+fn cancels_chunks(w: usize, xs: &[usize; 64], n: usize, src: &[u8]) -> bool
+    requires { ⌜ 16 ≤ w ⌝ }
+    requires { ⌜ Inside (now xs) n w (length (now src)) ⌝ }
+    ensures { λ r. ⌜ ZeroIs (summed (λ b. 0) w (now (src .entry)) (now (xs .entry)) n) 0 w r ⌝ }
+{
+    if !cancels_wide(w, xs, n, src) {
+        return false;
+    }
+    let mut c = w - w % 64;
     while w - c > 16 {
         if !cancels_16(w, c, xs, n, src) {
             return false;
