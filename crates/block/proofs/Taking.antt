@@ -6,15 +6,17 @@ use mathlib.Core.List.{List}
 use Prim.Native.Nat.{ℕ, zero, suc, _-_, _*_, _≤_, _<_}
 use native.Mathlib.Omega.{arith}
 use lib.Dec.{eqb, ltb}
-use lib.ListN.{length, getD, take, drop, set, length-drop}
+use lib.ListN.{length, getD, drop, set, length-drop}
 use borrow.Author.Tests.{lt-ltb, le-ltb, ltb-false, eq-eqb, ne-eqb, eqb-false, eqb-true, not-false}
 use Rattle.ccsds.specs.Codes.{nOf}
 use Rattle.ccsds.specs.Tables.{codeOf}
+use Rattle.ccsds.specs.RefusalTable as refusal
 use Rattle.ccsds.specs.Refusals.{wrongPosition, wrongSymbol, Outcome, refused, answered, outcome, _⟫_}
 use Rattle.ccsds.specs.Reader.{Parts, readUnit}
-use Rattle.ccsds.proofs.Refusals.{or-false, first-is, first-on, first-end, first-none, refused-by, answered-by}
+use Rattle.ccsds.proofs.RefusalOrder.{in-order, first-is, first-on, first-end, first-none}
+use Rattle.ccsds.proofs.Refusals.{or-false, refused-by, answered-by}
 use Rattle.block.specs.Block.{checks, blockRefusal}
-use Rattle.block.specs.Status.{heardMark, filledMark, wrongMark, Status, heard, missing, statusOf, statusBy}
+use Rattle.block.specs.Status.{wrongMark, Status, heard, missing, statusOf}
 use Rattle.algebra.specs.Codeword.{symbolAt}
 use Rattle.block.specs.Take.{wrongParameters, foreign, unitRefusal, Placed, admission, Arrival, kept, repeated, Take, sameBytes, stored, unchanged, takeAt, arrival, takeAdmitted, takeBy, takeOf}
 use Rattle.block.specs.declared.Block.{Block}
@@ -25,18 +27,18 @@ use Rattle.block.proofs.BlockRefusal.{checks-n}
 module _ (b : Block) (p : Parts) (len : ℕ) where
   pub parameters-refused : wrongParameters b (p .coding) ≡ true → 7 ≡ unitRefusal b p len
   unfolding unitRefusal
-  parameters-refused h = sym (first-is _ _ _ h)
+  parameters-refused h = sym (in-order _ refl ∙ first-is _ _ _ h)
 
   module _ (parameters : wrongParameters b (p .coding) ≡ false) where
     pub foreign-refused : foreign b p ≡ true → 8 ≡ unitRefusal b p len
     unfolding unitRefusal
-    foreign-refused h = sym (first-on _ _ _ parameters ∙ first-is _ _ _ h)
+    foreign-refused h = sym (in-order _ refl ∙ first-on _ _ _ parameters ∙ first-is _ _ _ h)
 
     module _ (own : foreign b p ≡ false) where
       pub position-refused : wrongPosition (nOf (codeOf (b .code))) (p .lwc) ≡ true → 9 ≡ unitRefusal b p len
       unfolding unitRefusal
       position-refused h =
-          sym (first-on _ _ _ parameters ∙ first-on _ _ _ own ∙ first-is _ _ _ (ap (λ (n : ℕ). wrongPosition n (p .lwc)) (checks-n b) ∙ h))
+          sym (in-order _ refl ∙ first-on _ _ _ parameters ∙ first-on _ _ _ own ∙ first-is _ _ _ (ap (λ (n : ℕ). wrongPosition n (p .lwc)) (checks-n b) ∙ h))
 
       module _ (position : wrongPosition (nOf (codeOf (b .code))) (p .lwc) ≡ false) where
         inside : wrongPosition (checks b .n) (p .lwc) ≡ false
@@ -45,12 +47,12 @@ module _ (b : Block) (p : Parts) (len : ℕ) where
         pub symbol-refused : (len - p .symbol ≡ b .w → ⊥) → 10 ≡ unitRefusal b p len
         unfolding unitRefusal wrongSymbol
         symbol-refused h =
-            sym (first-on _ _ _ parameters ∙ first-on _ _ _ own ∙ first-on _ _ _ inside ∙ first-is _ _ _ (ap not (ne-eqb (len - p .symbol) (b .w) h)))
+            sym (in-order _ refl ∙ first-on _ _ _ parameters ∙ first-on _ _ _ own ∙ first-on _ _ _ inside ∙ first-is _ _ _ (ap not (ne-eqb (len - p .symbol) (b .w) h)))
 
         pub unit-admitted : len - p .symbol ≡ b .w → 0 ≡ unitRefusal b p len
         unfolding unitRefusal wrongSymbol
         unit-admitted h =
-            sym (first-on _ _ _ parameters ∙ first-on _ _ _ own ∙ first-on _ _ _ inside
+            sym (in-order _ refl ∙ first-on _ _ _ parameters ∙ first-on _ _ _ own ∙ first-on _ _ _ inside
             ∙ first-on _ _ _ (ap not (eq-eqb (len - p .symbol) (b .w) h)) ∙ first-end)
 
 -- ---- an admitted unit
@@ -68,10 +70,10 @@ pub record Fitting (b : Block) (p : Parts) (len : ℕ) : Type 0 where
 pub fitting : (b : Block) (p : Parts) (len : ℕ) → unitRefusal b p len ≡ 0 → Fitting b p len
 unfolding unitRefusal wrongPosition wrongSymbol
 fitting b p len z =
-    let a1 = first-none (wrongParameters b (p .coding)) 6 _ z in
-    let a2 = first-none (foreign b p) 7 _ (a1 .1) in
-    let a3 = first-none (wrongPosition (checks b .n) (p .lwc)) 8 _ (a2 .1) in
-    let a4 = first-none (wrongSymbol (len - p .symbol) (b .w)) 9 _ (a3 .1) in
+    let a1 = first-none refusal.parameters (wrongParameters b (p .coding)) _ (sym (in-order _ refl) ∙ z) in
+    let a2 = first-none refusal.foreign (foreign b p) _ (a1 .1) in
+    let a3 = first-none refusal.position (wrongPosition (checks b .n) (p .lwc)) _ (a2 .1) in
+    let a4 = first-none refusal.symbol (wrongSymbol (len - p .symbol) (b .w)) _ (a3 .1) in
     let l = or-false (eqb (p .lwc) 0) (ltb (checks b .n) (p .lwc)) (a3 .0) in
     let nz : p .lwc ≡ 0 → ⊥ = eqb-false (p .lwc) 0 (l .0) in
     record { above = omega arith; most = ltb-false (checks b .n) (p .lwc) (l .1); symbol = eqb-true _ _ (not-false _ (a4 .0)) }

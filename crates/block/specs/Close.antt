@@ -1,13 +1,14 @@
 -- Document 01, "Open, take, close": close, by the codewords that agree with the heard symbols (`agreeing` of algebra).
 -- Assumes nothing.
 use mathlib.Core.Bool.{Bool, false, _||_}
-use mathlib.Core.List.{List, [], _∷_}
+use mathlib.Core.List.{List, [], _∷_, _++_}
 use Prim.Native.Nat.{ℕ, _+_, _*_, _/_}
 use lib.ListN.{length, replicate}
 use Rattle.algebra.specs.Lists.{tab, count}
 use Rattle.algebra.specs.Agreeing.{Verdict, whole, ambiguous, inconsistent, agreeing, verdictOf, determined, filledSymbols}
-use Rattle.ccsds.specs.Refusals.{firstOf, wrongCode, wrongWidth, wrongLabel, wrongLength, Outcome, refused, answered, outcome, afterwards}
-use Rattle.block.specs.Block.{checks, wrongBuffers}
+use Rattle.ccsds.specs.RefusalTable as refusal
+use Rattle.ccsds.specs.Refusals.{firstOf, wrongLength, Outcome, refused, answered, outcome, afterwards}
+use Rattle.block.specs.Block.{checks, blockConditions}
 use Rattle.block.specs.Status.{missingMark, heardMark, filledMark, wrongMark, statusOf, known, markAfter}
 use Rattle.block.specs.declared.Block.{Block}
 use Rattle.block.specs.declared.close.Verdict as coded-verdict
@@ -18,7 +19,8 @@ use Rattle.block.specs.declared.close.Closed.the-variants.{Told, Refused
 
 -- 4, length, of the work buffers: m × (n / 64 + 1) words and m × W bytes
 unfoldable pub wrongWork : Block → ℕ → ℕ → Bool
-wrongWork b words bytes = wrongLength words (checks b .m * (checks b .n / 64 + 1)) || wrongLength bytes (checks b .m * b .w)
+wrongWork b wordsLength bytesLength =
+    wrongLength wordsLength (checks b .m * (checks b .n / 64 + 1)) || wrongLength bytesLength (checks b .m * b .w)
 
 -- 11, mark: one above 2 anywhere
 unfoldable pub wrongMarks : List ℕ → Bool
@@ -64,11 +66,9 @@ module _ (b : Block) (symbols marks words bytes : List ℕ) where
   unfoldable pub closeRefusal : ℕ
   closeRefusal =
       firstOf (
-      (wrongCode (b .code), 1)
-      ∷ (wrongWidth (b .w), 2)
-      ∷ (wrongLabel (b .lsc) (b .protocol), 3)
-      ∷ (wrongBuffers b (length symbols) (length marks) || wrongWork b (length words) (length bytes), 4)
-      ∷ (wrongMarks marks, 11)
+      blockConditions b (length symbols) (length marks)
+      ++ (refusal.length, wrongWork b (length words) (length bytes))
+      ∷ (refusal.mark, wrongMarks marks)
       ∷ []
       )
 

@@ -7,7 +7,8 @@ use Prim.Native.Nat.{ℕ, zero, suc, _+_, _-_, _*_}
 use lib.Dec.{eqb}
 use lib.ListN.{length, getD, take, drop, set}
 use Rattle.ccsds.specs.Tables.{codeOf}
-use Rattle.ccsds.specs.Refusals.{firstOf, wrongPosition, wrongSymbol, Outcome, refused, answered, outcome, _⟫_}
+use Rattle.ccsds.specs.RefusalTable as refusal
+use Rattle.ccsds.specs.Refusals.{firstOf, wrongPosition, wrongSymbol, Outcome, refused, answered, outcome, _⟫_, refusedFor}
 use Rattle.ccsds.specs.Reader.{Coding, Parts, readUnit}
 use Rattle.block.specs.Block.{checks, blockRefusal}
 use Rattle.block.specs.Status.{heardMark, wrongMark, Status, heard, missing, statusOf}
@@ -31,10 +32,10 @@ foreign b p = not (eqb (p .lsc) (b .lsc)) || not (eqb (p .protocol) (b .protocol
 unfoldable pub unitRefusal : Block → Parts → ℕ → ℕ
 unitRefusal b p len =
     firstOf (
-    (wrongParameters b (p .coding), 7)
-    ∷ (foreign b p, 8)
-    ∷ (wrongPosition (checks b .n) (p .lwc), 9)
-    ∷ (wrongSymbol (len - p .symbol) (b .w), 10)
+    (refusal.parameters, wrongParameters b (p .coding))
+    ∷ (refusal.foreign, foreign b p)
+    ∷ (refusal.position, wrongPosition (checks b .n) (p .lwc))
+    ∷ (refusal.symbol, wrongSymbol (len - p .symbol) (b .w))
     ∷ []
     )
 
@@ -78,12 +79,12 @@ module _ (b : Block) (symbols marks : List ℕ) where
 
   -- an admitted unit, by the status of its position: at a heard one repeated or 12, at a missing one kept
   abbrev pub takeAt : Placed → Status → Take
-  takeAt x heard = unchanged (cond (sameBytes (symbolAt (b .w) symbols (x .position)) (x .symbol)) (answered repeated) (refused 12))
+  takeAt x heard = unchanged (cond (sameBytes (symbolAt (b .w) symbols (x .position)) (x .symbol)) (answered repeated) (refusedFor refusal.conflict))
   takeAt x missing = record { answer = answered kept; symbols = stored symbols (x .position * b .w) (x .symbol); marks = set marks (x .position) heardMark }
 
   -- 11 by the mark there
   unfoldable pub arrival : Placed → Take
-  arrival x = cond (wrongMark (getD marks (x .position) 0)) (unchanged (refused 11)) (takeAt x (statusOf b marks (x .position)))
+  arrival x = cond (wrongMark (getD marks (x .position) 0)) (unchanged (refusedFor refusal.mark)) (takeAt x (statusOf b marks (x .position)))
 
   -- by admission
   abbrev pub takeAdmitted : Outcome Placed → Take

@@ -3,6 +3,7 @@ use crate::Block;
 use crate::checks;
 use crate::status;
 use ccsds::code::Code;
+use ccsds::refusal;
 ghost use mathlib.Core.Path.{_≡_};
 ghost use Prim.Native.Nat.{ℕ, _<_, _≤_};
 ghost use lib.ListN.{length, getD};
@@ -54,18 +55,18 @@ fn check_close(b: Block, symbols: &[u8], marks: &[u8], words: &[u64], bytes: &[u
     ensures { λ r. ⌜ r ≡ closeRefusal b (now (symbols .entry)) (now (marks .entry)) (now (words .entry)) (now (bytes .entry)) ⌝ }
 {
     let code = Code { number: b.code };
-    let refusal = checks::check_block(b, symbols.len(), marks.len());
-    if refusal != 0 {
-        return refusal;
+    let earlier = checks::check_block(b, symbols.len(), marks.len());
+    if earlier != 0 {
+        return earlier;
     }
     if words.len() != code.work_words() {
-        return 4;
+        return refusal::LENGTH;
     }
     if bytes.len() != code.parity_bytes(b.w) {
-        return 4;
+        return refusal::LENGTH;
     }
     if wrong_marks(marks) {
-        return 11;
+        return refusal::MARK;
     }
     0
 }

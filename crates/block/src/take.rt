@@ -4,10 +4,11 @@ use crate::checks;
 use crate::status;
 use crate::status::Status;
 use ccsds::code::Code;
-use unit_claims::expected::Expected;
 use ccsds::reader::Extension;
 use ccsds::reader::UnitParts;
 use ccsds::reader::UnitRead;
+use ccsds::refusal;
+use unit_claims::expected::Expected;
 ghost use mathlib.Core.Path.{_≡_};
 ghost use Prim.Native.Nat.{_<_, _≤_, _+_, _*_};
 ghost use lib.ListN.{length};
@@ -61,16 +62,16 @@ fn check_unit(b: Block, p: UnitParts, len: usize) -> u8
     let x = p.coding;
     let code = Code { number: b.code };
     if wrong_parameters(b, x) {
-        return 7;
+        return refusal::PARAMETERS;
     }
     if wrong_label(b, p) {
-        return 8;
+        return refusal::FOREIGN;
     }
     if ccsds::checks::wrong_position(code.n(), p.lwc) {
-        return 9;
+        return refusal::POSITION;
     }
     if len - p.symbol != b.w {
-        return 10;
+        return refusal::SYMBOL;
     }
     0
 }
@@ -118,7 +119,7 @@ fn arrive(b: Block, symbols: &mut [u8], marks: &mut [u8], position: usize, symbo
     let w = b.w;
     let mark = marks[position];
     if status::wrong(mark) {
-        return Taken::Refused(11);
+        return Taken::Refused(refusal::MARK);
     }
     let at = position * w;
     match status::of(mark) {
@@ -126,7 +127,7 @@ fn arrive(b: Block, symbols: &mut [u8], marks: &mut [u8], position: usize, symbo
             if check::same(&symbols[at..at + w], symbol) {
                 return Taken::Repeated;
             }
-            Taken::Refused(12)
+            Taken::Refused(refusal::CONFLICT)
         }
         Status::Missing => {
             marks[position] = status::HEARD;

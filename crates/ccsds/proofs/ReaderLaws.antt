@@ -9,6 +9,8 @@ use native.Mathlib.Omega.{arith}
 use lib.Dec.{eqb, ltb, leb}
 use lib.ListN.{length, getD}
 use borrow.Author.Tests.{ltb-false, leb-false, lt-leb, eqb-true, not-false}
+use Rattle.ccsds.specs.RefusalTable.{Refusal}
+use Rattle.ccsds.specs.RefusalTable as refusal
 use Rattle.ccsds.specs.Refusals.{Outcome, refused, answered, _⟫_}
 use Rattle.wire.specs.Sdnv.{Number, Reading, finished, unfinished, wrong, numberAt}
 use Rattle.ccsds.specs.Reader.{numberOr, Coding, Said, Parts, lengthAt, codingOf, valueOf, wrongType, extensionAt, isSome, oneMore, extensionsOf, wrongHeader, readUnit}
@@ -24,7 +26,7 @@ from-value s came at h w l = rw (lt-leb _ _ h, w, l)
 
 -- ---- numbers
 
-pub of-number : (early : ℕ) (r : Reading) {x : Number} → numberOr early r ≡ answered x → r ≡ finished x
+pub of-number : (early : Refusal) (r : Reading) {x : Number} → numberOr early r ≡ answered x → r ≡ finished x
 of-number early (finished x) e = ap finished (the-answer e)
 of-number early unfinished e = absurd (never e)
 of-number early wrong e = absurd (never e)
@@ -38,10 +40,10 @@ pub record Length (s : List ℕ) (at : ℕ) (x : Number) : Type 0 where
 pub of-length : (s : List ℕ) (at : ℕ) {x : Number} → lengthAt s at ≡ answered x → Length s at x
 unfolding lengthAt
 of-length s at {x} e =
-    let a = of-steps (numberOr 6 (numberAt s at)) _ e in
-    let b = of-test (ltb (length s) (a .0 .end + a .0 .value)) 6 _ (a .2) in
+    let a = of-steps (numberOr refusal.extension (numberAt s at)) _ e in
+    let b = of-test refusal.extension (ltb (length s) (a .0 .end + a .0 .value)) _ (a .2) in
     let q : a .0 ≡ x = the-answer (b .1) in
-    let n : numberAt s at ≡ finished x = of-number 6 (numberAt s at) (a .1) ∙ ap finished q in
+    let n : numberAt s at ≡ finished x = of-number refusal.extension (numberAt s at) (a .1) ∙ ap finished q in
     let i : a .0 .end + a .0 .value ≤ length s = ltb-false (length s) (a .0 .end + a .0 .value) (b .0) in
     record { number = n; fine = is-fine s at n; inside = rw q at i }
 
@@ -78,8 +80,8 @@ pub record Read (s : List ℕ) (came : Bool) (at : ℕ) (x : Said) : Type 0 wher
 pub of-extension : (s : List ℕ) (came : Bool) (at : ℕ) {x : Said} → extensionAt s came at ≡ answered x → Read s came at x
 unfolding extensionAt valueOf
 of-extension s came at {x} e =
-    let a = of-test (leb (length s) at) 6 _ e in
-    let b = of-test (wrongType came (getD s at 0)) 20 _ (a .1) in
+    let a = of-test refusal.extension (leb (length s) at) _ e in
+    let b = of-test refusal.kind (wrongType came (getD s at 0)) _ (a .1) in
     let c = of-steps (lengthAt s (at + 1)) _ (b .1) in
     let v = c .0 .end + c .0 .value in
     record {
@@ -146,7 +148,7 @@ pub record UnitRead (s : List ℕ) (p : Parts) : Type 0 where
 pub of-unit : (s : List ℕ) {p : Parts} → readUnit s ≡ answered p → UnitRead s p
 unfolding readUnit
 of-unit s e =
-    let a = of-test (wrongHeader s) 5 _ e in
+    let a = of-test refusal.header (wrongHeader s) _ e in
     let b = of-steps (extensionsOf s (getD s 1 0)) _ (a .1) in
     record { said = b .0; header = of-header s (a .0); extensions = b .1; parts-are = sym (the-answer (b .2)) }
 

@@ -8,8 +8,11 @@ use native.Mathlib.Decide.{decLt}
 use native.Mathlib.Omega.{arith}
 use lib.Dec.{eqb, ltb}
 use borrow.Author.Tests.{not-false, eq-eqb, ne-eqb, eqb-true, eqb-false, ltb-false, lt-ltb, le-ltb}
-use Rattle.ccsds.specs.Tables.{isCode, Known}
-use Rattle.ccsds.specs.Refusals.{firstOf, wrongCode, wrongWidth, wrongLabel, wrongLength, wrongPosition, wrongSymbol, Outcome, refused, answered, _⟫_, refuseIf, outcome, afterwards, bytesOf}
+use Rattle.ccsds.specs.Tables.{codeOf, isCode, Known}
+use Rattle.ccsds.specs.RefusalTable.{Refusal}
+use Rattle.ccsds.specs.RefusalTable as refusal
+use Rattle.ccsds.specs.Refusals.{wrongCode, wrongWidth, wrongLabel, wrongLength, wrongPosition, wrongSymbol, codeConditions, labelConditions, encoderConditions, Outcome, refused, answered, _⟫_, refuseIf, outcome, afterwards, bytesOf}
+use Rattle.ccsds.proofs.RefusalOrder.{chain, parts-none, first-none}
 
 -- ---- the conditions
 
@@ -42,9 +45,9 @@ width-right w e =
     small (yes l) = absurd (false≢true (sym (or-false (eqb w 0) (ltb 1024 w) e .1) ∙ lt-ltb 1024 w l))
     small (no l) = omega arith
 
-pub label-right : (lsc protocol : ℕ) → wrongLabel lsc protocol ≡ false → (lsc ≤ 65534) × (protocol ≤ 7)
+pub label-right : (protocol lsc : ℕ) → wrongLabel protocol lsc ≡ false → (lsc ≤ 65534) × (protocol ≤ 7)
 unfolding wrongLabel
-label-right lsc protocol e =
+label-right protocol lsc e =
     let p = or-false (eqb lsc 0 || ltb 65534 lsc) (ltb 7 protocol) e in
     (ltb-false 65534 lsc (or-false (eqb lsc 0) (ltb 65534 lsc) (p .0) .1), ltb-false 7 protocol (p .1))
 
@@ -58,6 +61,10 @@ position-right n lwc e =
 pub position-is-right : (n lwc : ℕ) → 0 < lwc → lwc ≤ n → wrongPosition n lwc ≡ false
 unfolding wrongPosition
 position-is-right n lwc h l = rw (ne-eqb lwc 0 (λ e. omega arith), le-ltb n lwc l)
+
+-- as a test of it finds it, by the number of symbols that was computed
+pub position-found : (lwc : ℕ) {m n : ℕ} {t : Bool} → n ≡ m → t ≡ wrongPosition n lwc → wrongPosition m lwc ≡ t
+position-found lwc e f = ap (λ (k : ℕ). wrongPosition k lwc) (sym e) ∙ sym f
 
 pub symbol-right : (have w : ℕ) → wrongSymbol have w ≡ false → have ≡ w
 unfolding wrongSymbol
@@ -91,28 +98,28 @@ pub bytes-wrong : (symbols w : ℕ) → wrongWidth w ≡ true → bytesOf symbol
 unfolding bytesOf
 bytes-wrong symbols w e = ap (λ (b : Bool). cond b 0 (symbols * w)) e
 
--- ---- the first condition that applies
+-- ---- where no condition of a part of the table applies
 
--- it is this one
-pub first-is : (b : Bool) (n : ℕ) (ps : List (Bool × ℕ)) → b ≡ true → firstOf ((b, n) ∷ ps) ≡ n
-unfolding firstOf
-first-is b n ps e = ap (λ (t : Bool). cond t n (firstOf ps)) e
+pub code-none : (number w : ℕ) → chain (codeConditions number w) ≡ 0 → (wrongCode number ≡ false) × (wrongWidth w ≡ false)
+code-none number w z =
+    let a = first-none refusal.code (wrongCode number) _ z in
+    (a .0, first-none refusal.width (wrongWidth w) _ (a .1) .0)
 
--- it is not this one
-pub first-on : (b : Bool) (n : ℕ) (ps : List (Bool × ℕ)) → b ≡ false → firstOf ((b, n) ∷ ps) ≡ firstOf ps
-unfolding firstOf
-first-on b n ps e = ap (λ (t : Bool). cond t n (firstOf ps)) e
+pub label-none : (number w protocol lsc : ℕ) → chain (labelConditions number w protocol lsc) ≡ 0
+    → (wrongCode number ≡ false) × (wrongWidth w ≡ false) × (wrongLabel protocol lsc ≡ false)
+label-none number w protocol lsc z =
+    let a = parts-none (codeConditions number w) ((refusal.label, wrongLabel protocol lsc) ∷ []) z in
+    let c = code-none number w (a .0) in
+    (c .0, c .1, first-none refusal.label (wrongLabel protocol lsc) _ (a .1) .0)
 
--- there is none
-pub first-end : firstOf [] ≡ 0
-unfolding firstOf
-first-end = refl
-
--- none applies: not this one, and none after it
-pub first-none : (b : Bool) (n : ℕ) (ps : List (Bool × ℕ)) → firstOf ((b, suc n) ∷ ps) ≡ 0 → (b ≡ false) × (firstOf ps ≡ 0)
-unfolding firstOf
-first-none true n ps e = absurd (omega arith)
-first-none false n ps e = (refl, e)
+pub encoder-none : (number w i p : ℕ) → chain (encoderConditions number w i p) ≡ 0
+    → (wrongCode number ≡ false) × (wrongWidth w ≡ false) × (i ≡ codeOf number .k * w) × (p ≡ codeOf number .m * w)
+encoder-none number w i p z =
+    let a = parts-none (codeConditions number w) _ z in
+    let c = code-none number w (a .0) in
+    let l = first-none refusal.length (wrongLength i (codeOf number .k * w)) _ (a .1) in
+    let m = first-none refusal.length (wrongLength p (codeOf number .m * w)) _ (l .1) in
+    (c .0, c .1, length-right i _ (l .0), length-right p _ (m .0))
 
 -- ---- by the number r that a check found for the refusal n
 
@@ -156,6 +163,6 @@ pub of-steps : {A B : Type 0} (r : Outcome A) (f : A → Outcome B) {b : B} → 
 of-steps (refused n) f e = absurd (never e)
 of-steps (answered a) f e = (a, refl, e)
 
-pub of-test : {A : Type 0} (t : Bool) (n : ℕ) (r : Outcome A) {a : A} → refuseIf t n r ≡ answered a → (t ≡ false) × (r ≡ answered a)
-of-test true n r e = absurd (never e)
-of-test false n r e = (refl, e)
+pub of-test : {A : Type 0} (r : Refusal) (t : Bool) (o : Outcome A) {a : A} → refuseIf r t o ≡ answered a → (t ≡ false) × (o ≡ answered a)
+of-test r true o e = absurd (never e)
+of-test r false o e = (refl, e)

@@ -1,8 +1,7 @@
 -- What is known where a symbol is shown, and the two parts that it can be.
 -- Assumes nothing.
-use mathlib.Core.Path.{_≡_}
-use mathlib.Core.Bool.{_||_}
-use mathlib.Core.List.{List}
+use mathlib.Core.Path.{_≡_, refl, sym, _∙_}
+use mathlib.Core.List.{List, [], _∷_}
 use Prim.Native.Nat.{ℕ, _+_, _-_, _*_, _≤_, _<_}
 use native.Mathlib.Nat.{add-sub-cancel-left, add-comm}
 use native.Mathlib.Omega.{arith}
@@ -11,40 +10,40 @@ use denote.Ref.{RefT}
 use borrow.Author.Tests.{eq-eqb, ne-eqb, lt-ltb, le-ltb}
 use Rattle.ccsds.specs.Codes.{nOf}
 use Rattle.ccsds.specs.Tables.{codeOf, Known}
-use Rattle.ccsds.specs.Refusals.{wrongCode, wrongWidth, wrongLength, wrongPosition}
+use Rattle.ccsds.specs.RefusalTable as refusal
+use Rattle.ccsds.specs.Refusals.{encoderConditions, wrongPosition}
 use Rattle.ccsds.specs.Show.{partOf, showRefusal, showOf}
-use Rattle.ccsds.proofs.Refusals.{or-false, first-none, code-known, width-right, length-right, position-right}
+use Rattle.ccsds.proofs.RefusalOrder.{in-order, parts-none, first-none}
+use Rattle.ccsds.proofs.Refusals.{code-known, width-right, position-right, encoder-none}
 use Rattle.algebra.proofs.Codeword.{slot}
 
-pub record Showable (number w infos parities lwc : ℕ) : Type 0 where
+pub record Showable (number w infoLength parityLength lwc : ℕ) : Type 0 where
   pub known : Known number
   pub width : (0 < w) × (w ≤ 1024)
-  pub information : infos ≡ codeOf number .k * w
-  pub parity : parities ≡ codeOf number .m * w
+  pub information : infoLength ≡ codeOf number .k * w
+  pub parity : parityLength ≡ codeOf number .m * w
   pub position : (0 < lwc) × (lwc ≤ nOf (codeOf number))
 
-pub showable : (number w infos parities lwc : ℕ) → showRefusal number w infos parities lwc ≡ 0 → Showable number w infos parities lwc
+pub showable : (number w infoLength parityLength lwc : ℕ) → showRefusal number w infoLength parityLength lwc ≡ 0
+    → Showable number w infoLength parityLength lwc
 unfolding showRefusal
-showable number w infos parities lwc e =
-    let a = first-none (wrongCode number) 0 _ e in
-    let b = first-none (wrongWidth w) 1 _ (a .1) in
-    let c = first-none (wrongLength infos (codeOf number .k * w) || wrongLength parities (codeOf number .m * w)) 3 _ (b .1) in
-    let d = or-false (wrongLength infos (codeOf number .k * w)) (wrongLength parities (codeOf number .m * w)) (c .0) in
-    let f = first-none (wrongPosition (nOf (codeOf number)) lwc) 8 _ (c .1) in
+showable number w infoLength parityLength lwc e =
+    let a = parts-none (encoderConditions number w infoLength parityLength) ((refusal.position, wrongPosition (nOf (codeOf number)) lwc) ∷ []) (sym (in-order _ refl) ∙ e) in
+    let b = encoder-none number w infoLength parityLength (a .0) in
     record {
-      known = code-known number (a .0);
-      width = width-right w (b .0);
-      information = length-right infos _ (d .0);
-      parity = length-right parities _ (d .1);
-      position = position-right (nOf (codeOf number)) lwc (f .0);
+      known = code-known number (b .0);
+      width = width-right w (b .1);
+      information = b .2;
+      parity = b .3;
+      position = position-right (nOf (codeOf number)) lwc (first-none refusal.position _ _ (a .1) .0);
     }
 
 -- the symbol lies within its buffer
-module _ {number w infos parities lwc : ℕ} (s : Showable number w infos parities lwc) where
-  pub in-information : lwc - 1 < codeOf number .k → (lwc - 1) * w + w ≤ infos
+module _ {number w infoLength parityLength lwc : ℕ} (s : Showable number w infoLength parityLength lwc) where
+  pub in-information : lwc - 1 < codeOf number .k → (lwc - 1) * w + w ≤ infoLength
   in-information h = omega (arith, slot (lwc - 1) (codeOf number .k) w h, s .information)
 
-  pub in-parity : codeOf number .k ≤ lwc - 1 → (lwc - 1 - codeOf number .k) * w + w ≤ parities
+  pub in-parity : codeOf number .k ≤ lwc - 1 → (lwc - 1 - codeOf number .k) * w + w ≤ parityLength
   in-parity h =
       let l : lwc - 1 - codeOf number .k < codeOf number .m = omega (arith, s .position) in
       omega (arith, slot (lwc - 1 - codeOf number .k) (codeOf number .m) w l, s .parity)

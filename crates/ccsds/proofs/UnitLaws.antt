@@ -1,6 +1,6 @@
 -- The lengths of a unit and its parts, and what is known where a unit can be written.
 -- Assumes nothing.
-use mathlib.Core.Path.{_≡_, ap, refl}
+use mathlib.Core.Path.{_≡_, ap, refl, sym, _∙_}
 use mathlib.Core.Bool.{false}
 use mathlib.Core.List.{List}
 use Prim.Native.Nat.{ℕ, _+_, _≤_, _<_}
@@ -8,11 +8,13 @@ use native.Mathlib.Omega.{arith}
 use lib.ListN.{length, length-append}
 use Rattle.ccsds.specs.Codes.{Params, nOf}
 use Rattle.ccsds.specs.Tables.{codeOf, Known}
-use Rattle.ccsds.specs.Refusals.{wrongCode, wrongWidth, wrongLabel, wrongLength, wrongPosition, wrongSymbol}
+use Rattle.ccsds.specs.RefusalTable as refusal
+use Rattle.ccsds.specs.Refusals.{labelConditions, wrongCode, wrongWidth, wrongLength, wrongPosition, wrongSymbol}
 use Rattle.wire.specs.Sdnv.{sdnvBytes}
 use Rattle.ccsds.specs.inner.Compact.{Compact}
 use Rattle.ccsds.specs.Writer.{headerOf, valueBytes, extensionOf, unitOf, symbolStart, unitLength, unitBytes, writeRefusal}
-use Rattle.ccsds.proofs.Refusals.{first-none, code-known, width-right, label-right, length-right, position-right, symbol-right}
+use Rattle.ccsds.proofs.RefusalOrder.{in-order, parts-none, first-none}
+use Rattle.ccsds.proofs.Refusals.{code-known, width-right, label-right, length-right, position-right, symbol-right, label-none}
 use Rattle.wire.proofs.SdnvRound.{most-five, in-one, two-long}
 use Rattle.ccsds.proofs.Valid.{valid-of}
 
@@ -51,29 +53,28 @@ pub unit-right : (number w : ℕ) → wrongCode number ≡ false → wrongWidth 
 unfolding unitBytes
 unit-right number w c e = rw (c, e)
 
-pub record Writable (number w protocol lsc lwc symbols outs : ℕ) : Type 0 where
+pub record Writable (number w protocol lsc lwc symbolLength outLength : ℕ) : Type 0 where
   pub known : Known number
   pub width : (0 < w) × (w ≤ 1024)
   pub label : (lsc ≤ 65534) × (protocol ≤ 7)
   pub position : (0 < lwc) × (lwc ≤ nOf (codeOf number))
-  pub output : outs ≡ unitLength (codeOf number) w
-  pub symbol : symbols ≡ w
+  pub output : outLength ≡ unitLength (codeOf number) w
+  pub symbol : symbolLength ≡ w
 
-pub writable : (number w protocol lsc lwc symbols outs : ℕ) → writeRefusal number w protocol lsc lwc symbols outs ≡ 0
-    → Writable number w protocol lsc lwc symbols outs
+pub writable : (number w protocol lsc lwc symbolLength outLength : ℕ) → writeRefusal number w protocol lsc lwc symbolLength outLength ≡ 0
+    → Writable number w protocol lsc lwc symbolLength outLength
 unfolding writeRefusal
-writable number w protocol lsc lwc symbols outs e =
-    let a = first-none (wrongCode number) 0 _ e in
-    let b = first-none (wrongWidth w) 1 _ (a .1) in
-    let c = first-none (wrongLabel lsc protocol) 2 _ (b .1) in
-    let d = first-none (wrongLength outs (unitLength (codeOf number) w)) 3 _ (c .1) in
-    let f = first-none (wrongPosition (nOf (codeOf number)) lwc) 8 _ (d .1) in
-    let g = first-none (wrongSymbol symbols w) 9 _ (f .1) in
+writable number w protocol lsc lwc symbolLength outLength e =
+    let a = parts-none (labelConditions number w protocol lsc) _ (sym (in-order _ refl) ∙ e) in
+    let b = label-none number w protocol lsc (a .0) in
+    let c = first-none refusal.length (wrongLength outLength (unitLength (codeOf number) w)) _ (a .1) in
+    let d = first-none refusal.position (wrongPosition (nOf (codeOf number)) lwc) _ (c .1) in
+    let f = first-none refusal.symbol (wrongSymbol symbolLength w) _ (d .1) in
     record {
-      known = code-known number (a .0);
-      width = width-right w (b .0);
-      label = label-right lsc protocol (c .0);
-      position = position-right (nOf (codeOf number)) lwc (f .0);
-      output = length-right outs (unitLength (codeOf number) w) (d .0);
-      symbol = symbol-right symbols w (g .0);
+      known = code-known number (b .0);
+      width = width-right w (b .1);
+      label = label-right protocol lsc (b .2);
+      position = position-right (nOf (codeOf number)) lwc (d .0);
+      output = length-right outLength (unitLength (codeOf number) w) (c .0);
+      symbol = symbol-right symbolLength w (f .0);
     }

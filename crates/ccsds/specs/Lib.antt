@@ -1,5 +1,6 @@
 pub mod Codes
 pub mod Tables
+pub mod RefusalTable
 pub mod Refusals
 pub mod Reader
 pub mod Writer

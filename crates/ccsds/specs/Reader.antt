@@ -5,10 +5,12 @@
 use mathlib.Core.Bool.{Bool, true, false, cond, not, _&&_, _||_}
 use mathlib.Core.List.{List}
 use mathlib.Core.Option.{Option, none, some}
-use Prim.Native.Nat.{ℕ, zero, suc, _+_, _-_, _*_, _/_, _%_}
+use Prim.Native.Nat.{ℕ, zero, suc, _+_, _/_, _%_}
 use lib.Dec.{eqb, ltb, leb}
-use lib.ListN.{length, getD, take, drop}
-use Rattle.ccsds.specs.Refusals.{Outcome, refused, answered, _⟫_, refuseIf}
+use lib.ListN.{length, getD}
+use Rattle.ccsds.specs.RefusalTable.{Refusal}
+use Rattle.ccsds.specs.RefusalTable as refusal
+use Rattle.ccsds.specs.Refusals.{Outcome, refused, answered, _⟫_, refusedFor, refuseIf}
 use Rattle.wire.specs.Bytes.{part, pairAt}
 use Rattle.wire.specs.Sdnv.{Number, Reading, finished, unfinished, wrong, numberAt}
 use Rattle.ccsds.specs.declared.reader.NumberRead.{NumberRead}
@@ -44,19 +46,21 @@ pub record Parts : Type 0 where
   pub coding : Option Coding
   pub symbol : ℕ
 
--- a reading as an answer: 19 for a byte that can't be accepted, and its own number, `early`, where the bytes end early
-abbrev pub numberOr : ℕ → Reading → Outcome Number
+-- a reading as an answer: 19 for a byte that can't be accepted, and its own refusal, `early`, where the bytes end early
+abbrev pub numberOr : Refusal → Reading → Outcome Number
 numberOr early (finished x) = answered x
-numberOr early unfinished = refused early
-numberOr early wrong = refused 19
+numberOr early unfinished = refusedFor early
+numberOr early wrong = refusedFor refusal.number
 
 -- a length at a position: bytes that end early are 6, and so is a value that reaches past them
 unfoldable pub lengthAt : List ℕ → ℕ → Outcome Number
-lengthAt s at = numberOr 6 (numberAt s at) ⟫ λ len. refuseIf (ltb (length s) (len .end + len .value)) 6 (answered len)
+lengthAt s at =
+    numberOr refusal.extension (numberAt s at) ⟫ λ len.
+    refuseIf refusal.extension (ltb (length s) (len .end + len .value)) (answered len)
 
 -- a number of a type 1's value: one that the value's end cuts off is 20
 abbrev pub parameterAt : List ℕ → ℕ → Outcome Number
-parameterAt v at = numberOr 20 (numberAt v at)
+parameterAt v at = numberOr refusal.kind (numberAt v at)
 
 -- a type 1's value: exactly four numbers
 unfoldable pub codingOf : List ℕ → Outcome Coding
@@ -65,7 +69,7 @@ codingOf v =
     parameterAt v (w .end) ⟫ λ k.
     parameterAt v (k .end) ⟫ λ n.
     parameterAt v (n .end) ⟫ λ seed.
-    refuseIf (not (eqb (seed .end) (length v))) 20
+    refuseIf refusal.kind (not (eqb (seed .end) (length v)))
     (answered (record { w = w .value; k = k .value; n = n .value; seed = seed .value }))
 
 -- the value of an extension of a type, from position a up to position e
@@ -82,8 +86,8 @@ wrongType came type = eqb type 0 || eqb type 255 || came && eqb type 1
 -- one extension at a position: a type, a length, and that many value bytes
 unfoldable pub extensionAt : List ℕ → Bool → ℕ → Outcome Said
 extensionAt s came at =
-    refuseIf (leb (length s) at) 6
-    (refuseIf (wrongType came (getD s at 0)) 20
+    refuseIf refusal.extension (leb (length s) at)
+    (refuseIf refusal.kind (wrongType came (getD s at 0))
     (lengthAt s (at + 1) ⟫ λ len.
     valueOf s (getD s at 0) (len .end) (len .end + len .value)))
 
@@ -115,7 +119,7 @@ wrongHeader s = ltb (length s) 6 || not (eqb (getD s 0 0 / 16) 1) || not (eqb (g
 -- the unit in a list of bytes
 unfoldable pub readUnit : List ℕ → Outcome Parts
 readUnit s =
-    refuseIf (wrongHeader s) 5
+    refuseIf refusal.header (wrongHeader s)
     (extensionsOf s (getD s 1 0) ⟫ λ x.
     answered (record {
       protocol = getD s 0 0 / 2 % 8;
@@ -130,14 +134,14 @@ readUnit s =
 
 abbrev pub numberAs : NumberRead → Outcome Number
 numberAs (number.Read x) = answered (record { value = x .value; end = x .end })
-numberAs (number.Refused refusal) = refused refusal
+numberAs (number.Refused n) = refused n
 
 abbrev pub fourAs : Parameters → Coding
 fourAs p = record { w = p .w; k = p .k; n = p .n; seed = p .seed }
 
 abbrev pub codingAs : ParametersRead → Outcome Coding
 codingAs (parameters.Four p) = answered (fourAs p)
-codingAs (parameters.Refused number) = refused number
+codingAs (parameters.Refused n) = refused n
 
 abbrev pub extensionAs : Extension → Option Coding
 extensionAs (extension.Coding p) = some (fourAs p)
@@ -145,7 +149,7 @@ extensionAs extension.PassedOver = none
 
 abbrev pub walkAs : Walk → Outcome Said
 walkAs (walk.To x end) = answered (record { coding = extensionAs x; end = end })
-walkAs (walk.Refused number) = refused number
+walkAs (walk.Refused n) = refused n
 
 abbrev pub readAs : UnitRead → Outcome Parts
 readAs (unit.Read p) =
@@ -157,4 +161,4 @@ readAs (unit.Read p) =
       coding = extensionAs (p .coding);
       symbol = p .symbol;
     })
-readAs (unit.Refused number) = refused number
+readAs (unit.Refused n) = refused n

@@ -1,15 +1,32 @@
--- Document 01, "Why a call is turned down": the conditions and their numbers, what a call answers, and what it leaves in a lent buffer.
+-- Document 01, "Why a call is turned down": the conditions, which of them decides, what a call answers, and what it leaves in a lent buffer.
 -- Assumes nothing.
 use mathlib.Core.Bool.{Bool, true, false, cond, not, _||_}
-use mathlib.Core.List.{List, [], _∷_}
+use mathlib.Core.List.{List, [], _∷_, _++_}
 use Prim.Native.Nat.{ℕ, zero, suc, _*_}
 use lib.Dec.{eqb, ltb}
-use Rattle.ccsds.specs.Tables.{isCode}
+use Rattle.ccsds.specs.Tables.{codeOf, isCode}
+use Rattle.ccsds.specs.RefusalTable.{Refusal, numberOf, order}
+use Rattle.ccsds.specs.RefusalTable as refusal
 
--- the number of the first condition that applies, from the top down; 0 where none does
-unfoldable pub firstOf : List (Bool × ℕ) → ℕ
-firstOf [] = 0
-firstOf (p ∷ ps) = cond (p .0) (p .1) (firstOf ps)
+-- ---- the first that applies
+
+-- a call's conditions, each with the refusal that it leads to; in which sequence they are listed doesn't matter
+abbrev pub Conditions : Type 0
+Conditions = List (Refusal × Bool)
+
+-- some condition that leads to this refusal holds
+unfoldable pub applies : Conditions → Refusal → Bool
+applies [] r = false
+applies (c ∷ cs) r = cond (eqb (numberOf (c .0)) (numberOf r)) (c .1 || applies cs r) (applies cs r)
+
+-- the number of the first refusal of a list that applies; 0 where none does
+unfoldable pub firstIn : List Refusal → Conditions → ℕ
+firstIn [] cs = 0
+firstIn (r ∷ rs) cs = cond (applies cs r) (numberOf r) (firstIn rs cs)
+
+-- from the top of the table down
+unfoldable pub firstOf : Conditions → ℕ
+firstOf cs = firstIn order cs
 
 -- ---- the conditions that more than one call uses, by the table's word
 
@@ -23,7 +40,7 @@ wrongWidth w = eqb w 0 || ltb 1024 w
 
 -- 3, label
 unfoldable pub wrongLabel : ℕ → ℕ → Bool
-wrongLabel lsc protocol = eqb lsc 0 || ltb 65534 lsc || ltb 7 protocol
+wrongLabel protocol lsc = eqb lsc 0 || ltb 65534 lsc || ltb 7 protocol
 
 -- 4, length: a buffer of `have` elements where `size` are asked for
 unfoldable pub wrongLength : ℕ → ℕ → Bool
@@ -36,6 +53,24 @@ wrongPosition n lwc = eqb lwc 0 || ltb n lwc
 -- 10, symbol: of `have` bytes
 unfoldable pub wrongSymbol : ℕ → ℕ → Bool
 wrongSymbol have w = not (eqb have w)
+
+-- ---- the parts of the table that more than one call uses
+
+-- 1 and 2: of a code's number and a width
+abbrev pub codeConditions : ℕ → ℕ → Conditions
+codeConditions number w = (refusal.code, wrongCode number) ∷ (refusal.width, wrongWidth w) ∷ []
+
+-- 1 to 3: with a protocol ID and an LSC
+abbrev pub labelConditions : ℕ → ℕ → ℕ → ℕ → Conditions
+labelConditions number w protocol lsc = codeConditions number w ++ (refusal.label, wrongLabel protocol lsc) ∷ []
+
+-- 1, 2 and 4: with the lengths of the encoder's two buffers
+abbrev pub encoderConditions : ℕ → ℕ → ℕ → ℕ → Conditions
+encoderConditions number w infoLength parityLength =
+    codeConditions number w
+    ++ (refusal.length, wrongLength infoLength (codeOf number .k * w))
+    ∷ (refusal.length, wrongLength parityLength (codeOf number .m * w))
+    ∷ []
 
 -- ---- answers and buffers
 
@@ -55,10 +90,14 @@ abbrev pub _⟫_ : {A B : Type 0} → Outcome A → (A → Outcome B) → Outcom
 refused n ⟫ f = refused n
 answered a ⟫ f = f a
 
--- refused by its number where a condition applies, else as it is
-abbrev pub refuseIf : {A : Type 0} → Bool → ℕ → Outcome A → Outcome A
-refuseIf true n r = refused n
-refuseIf false n r = r
+-- refused, by the table's word
+abbrev pub refusedFor : {A : Type 0} → Refusal → Outcome A
+refusedFor r = refused (numberOf r)
+
+-- refused where a condition applies, else as it is
+abbrev pub refuseIf : {A : Type 0} → Refusal → Bool → Outcome A → Outcome A
+refuseIf r true o = refusedFor r
+refuseIf r false o = o
 
 -- a lent buffer after a call, by the number of the refusal: a refused call leaves it as it was
 abbrev pub afterwards : ℕ → List ℕ → List ℕ → List ℕ

@@ -1,14 +1,15 @@
 -- Document 01, "Sending": show.
 -- Assumes nothing.
-use mathlib.Core.Bool.{cond, _||_}
-use mathlib.Core.List.{List, [], _∷_}
+use mathlib.Core.Bool.{cond}
+use mathlib.Core.List.{List, [], _∷_, _++_}
 use Prim.Native.Nat.{ℕ, _+_, _-_, _*_}
 use lib.Dec.{eqb, ltb}
 use lib.ListN.{length, take, drop}
 use denote.Ref.{RefT, now, ptr}
 use Rattle.ccsds.specs.Codes.{nOf}
 use Rattle.ccsds.specs.Tables.{codeOf}
-use Rattle.ccsds.specs.Refusals.{firstOf, wrongCode, wrongWidth, wrongLength, wrongPosition}
+use Rattle.ccsds.specs.RefusalTable as refusal
+use Rattle.ccsds.specs.Refusals.{firstOf, encoderConditions, wrongPosition}
 
 -- a shared slice: where in memory its first byte stands (a block, and the place in it), and its bytes
 pub record Slice : Type 0 where
@@ -24,14 +25,8 @@ partOf s from len = record { start = (ptr s .0, ptr s .1 + from); bytes = take l
 
 -- where the empty part is shown: of a code's number, a width, the lengths of the two buffers, and an LWC
 unfoldable pub showRefusal : ℕ → ℕ → ℕ → ℕ → ℕ → ℕ
-showRefusal number w infos parities lwc =
-    firstOf (
-    (wrongCode number, 1)
-    ∷ (wrongWidth w, 2)
-    ∷ (wrongLength infos (codeOf number .k * w) || wrongLength parities (codeOf number .m * w), 4)
-    ∷ (wrongPosition (nOf (codeOf number)) lwc, 9)
-    ∷ []
-    )
+showRefusal number w infoLength parityLength lwc =
+    firstOf (encoderConditions number w infoLength parityLength ++ (refusal.position, wrongPosition (nOf (codeOf number)) lwc) ∷ [])
 
 -- the symbol at a position: information symbol i below k, else parity symbol i - k
 abbrev pub symbolPart : ℕ → ℕ → RefT (List ℕ) → RefT (List ℕ) → ℕ → Slice

@@ -2,11 +2,12 @@
 -- Assumes nothing.
 use mathlib.Core.Bool.{cond, _||_}
 use mathlib.Core.List.{List, [], _∷_, _++_}
-use Prim.Native.Nat.{ℕ, _+_, _*_, _/_, _%_}
+use Prim.Native.Nat.{ℕ, _+_, _*_}
 use lib.ListN.{length}
 use Rattle.ccsds.specs.Codes.{Params, nOf}
 use Rattle.ccsds.specs.Tables.{codeOf}
-use Rattle.ccsds.specs.Refusals.{firstOf, wrongCode, wrongWidth, wrongLabel, wrongLength, wrongPosition, wrongSymbol, Outcome, refused, answered}
+use Rattle.ccsds.specs.RefusalTable as refusal
+use Rattle.ccsds.specs.Refusals.{firstOf, labelConditions, wrongCode, wrongWidth, wrongLength, wrongPosition, wrongSymbol, Outcome, refused, answered}
 use Rattle.wire.specs.Bytes.{twoBytes}
 use Rattle.wire.specs.Sdnv.{sdnvBytes}
 use Rattle.ccsds.specs.declared.writer.Written.{Written}
@@ -42,14 +43,12 @@ unitBytes number w = cond (wrongCode number || wrongWidth w) 0 (unitLength (code
 -- the number of the refusal, or 0: of a code's number, a width, a protocol ID, an LSC, an LWC, and the lengths of the symbol and of
 -- the output
 unfoldable pub writeRefusal : ℕ → ℕ → ℕ → ℕ → ℕ → ℕ → ℕ → ℕ
-writeRefusal number w protocol lsc lwc symbols outs =
+writeRefusal number w protocol lsc lwc symbolLength outLength =
     firstOf (
-    (wrongCode number, 1)
-    ∷ (wrongWidth w, 2)
-    ∷ (wrongLabel lsc protocol, 3)
-    ∷ (wrongLength outs (unitLength (codeOf number) w), 4)
-    ∷ (wrongPosition (nOf (codeOf number)) lwc, 9)
-    ∷ (wrongSymbol symbols w, 10)
+    labelConditions number w protocol lsc
+    ++ (refusal.length, wrongLength outLength (unitLength (codeOf number) w))
+    ∷ (refusal.position, wrongPosition (nOf (codeOf number)) lwc)
+    ∷ (refusal.symbol, wrongSymbol symbolLength w)
     ∷ []
     )
 

@@ -1,9 +1,11 @@
-// Conditions of refusals that more than one call tests.
+// Conditions of refusals, and parts of the table of refusals, that more than one call tests.
+use crate::code::Code;
+use crate::refusal;
 ghost use mathlib.Core.Path.{_≡_};
-ghost use Rattle.ccsds.specs.Refusals.{wrongLabel, wrongPosition};
+ghost use Rattle.ccsds.specs.Refusals.{firstOf, codeConditions, labelConditions, encoderConditions, wrongLabel, wrongPosition};
 
-pub fn wrong_label(lsc: usize, protocol: usize) -> bool
-    ensures { λ r. ⌜ r ≡ wrongLabel lsc protocol ⌝ }
+pub fn wrong_label(protocol: usize, lsc: usize) -> bool
+    ensures { λ r. ⌜ r ≡ wrongLabel protocol lsc ⌝ }
 {
     if lsc == 0 {
         return true;
@@ -22,4 +24,50 @@ pub fn wrong_position(n: usize, lwc: usize) -> bool
         return true;
     }
     lwc > n
+}
+
+// 1 or 2, or 0.
+pub fn check_code(number: usize, w: usize) -> u8
+    ensures { λ r. ⌜ r ≡ firstOf (codeConditions number w) ⌝ }
+{
+    let code = Code { number };
+    if !code.known() {
+        return refusal::CODE;
+    }
+    if Code::wrong_width(w) {
+        return refusal::WIDTH;
+    }
+    0
+}
+
+// 1 to 3, or 0.
+pub fn check_label(number: usize, w: usize, protocol: usize, lsc: usize) -> u8
+    ensures { λ r. ⌜ r ≡ firstOf (labelConditions number w protocol lsc) ⌝ }
+{
+    let earlier = check_code(number, w);
+    if earlier != 0 {
+        return earlier;
+    }
+    if wrong_label(protocol, lsc) {
+        return refusal::LABEL;
+    }
+    0
+}
+
+// 1, 2 or 4, or 0: of the lengths of the encoder's two buffers.
+pub fn check_encoder(number: usize, w: usize, infoLength: usize, parityLength: usize) -> u8
+    ensures { λ r. ⌜ r ≡ firstOf (encoderConditions number w infoLength parityLength) ⌝ }
+{
+    let earlier = check_code(number, w);
+    if earlier != 0 {
+        return earlier;
+    }
+    let code = Code { number };
+    if infoLength != code.information_bytes(w) {
+        return refusal::LENGTH;
+    }
+    if parityLength != code.parity_bytes(w) {
+        return refusal::LENGTH;
+    }
+    0
 }

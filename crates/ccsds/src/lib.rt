@@ -2,6 +2,7 @@
 pub mod checks;
 pub mod code;
 pub mod reader;
+pub mod refusal;
 pub mod show;
 pub mod tables;
 pub mod writer;

@@ -1,4 +1,5 @@
 // The unit reader: what a unit's bytes say, by themselves.
+use crate::refusal;
 use wire::big_endian;
 use wire::sdnv;
 use wire::sdnv::Number;
@@ -18,13 +19,13 @@ fn read_length(s: &[u8], at: usize) -> NumberRead
 {
     let answer = sdnv::number_at(s, at);
     if let Sdnv::Wrong = answer {
-        return NumberRead::Refused(19);
+        return NumberRead::Refused(refusal::NUMBER);
     }
     let Sdnv::Whole(x) = answer else {
-        return NumberRead::Refused(6);
+        return NumberRead::Refused(refusal::EXTENSION);
     };
     if x.end + x.value > s.len() {
-        return NumberRead::Refused(6);
+        return NumberRead::Refused(refusal::EXTENSION);
     }
     NumberRead::Read(x)
 }
@@ -35,8 +36,8 @@ fn read_parameter(v: &[u8], at: usize) -> NumberRead
 {
     match sdnv::number_at(v, at) {
         Sdnv::Whole(x) => NumberRead::Read(x),
-        Sdnv::Unfinished => NumberRead::Refused(20),
-        Sdnv::Wrong => NumberRead::Refused(19),
+        Sdnv::Unfinished => NumberRead::Refused(refusal::KIND),
+        Sdnv::Wrong => NumberRead::Refused(refusal::NUMBER),
     }
 }
 
@@ -82,7 +83,7 @@ fn read_parameters(v: &[u8]) -> ParametersRead
         }
     };
     if seed.end != v.len() {
-        return ParametersRead::Refused(20);
+        return ParametersRead::Refused(refusal::KIND);
     }
     ParametersRead::Four(Parameters {
         w: w.value,
@@ -125,11 +126,11 @@ fn read_extension(s: &[u8], came: bool, at: usize) -> Walk
     ensures { λ r. ⌜ walkAs r ≡ extensionAt (now (s .entry)) came at ⌝ }
 {
     if at >= s.len() {
-        return Walk::Refused(6);
+        return Walk::Refused(refusal::EXTENSION);
     }
     let kind = s[at];
     if wrong_type(came, kind) {
-        return Walk::Refused(20);
+        return Walk::Refused(refusal::KIND);
     }
     let len = match read_length(s, at + 1) {
         NumberRead::Read(x) => x,
@@ -223,7 +224,7 @@ pub fn read_unit(s: &[u8]) -> UnitRead
     ensures { λ r. ⌜ readAs r ≡ readUnit (now (s .entry)) ⌝ }
 {
     if wrong_header(s) {
-        return UnitRead::Refused(5);
+        return UnitRead::Refused(refusal::HEADER);
     }
     let first = big_endian::byte(s[0]);
     let count = big_endian::byte(s[1]);

@@ -1,28 +1,21 @@
 // Show: the symbol of an LWC in the encoder's two buffers.
 use crate::checks;
 use crate::code::Code;
+use crate::refusal;
 ghost use mathlib.Core.Path.{_≡_};
 ghost use Rattle.ccsds.specs.Show.{sliceAs, showRefusal, showOf};
 
 // The number of the refusal for which the empty part is shown, or 0.
-fn check_show(number: usize, w: usize, infos: usize, parities: usize, lwc: usize) -> u8
-    ensures { λ r. ⌜ r ≡ showRefusal number w infos parities lwc ⌝ }
+fn check_show(number: usize, w: usize, infoLength: usize, parityLength: usize, lwc: usize) -> u8
+    ensures { λ r. ⌜ r ≡ showRefusal number w infoLength parityLength lwc ⌝ }
 {
+    let earlier = checks::check_encoder(number, w, infoLength, parityLength);
+    if earlier != 0 {
+        return earlier;
+    }
     let code = Code { number };
-    if !code.known() {
-        return 1;
-    }
-    if Code::wrong_width(w) {
-        return 2;
-    }
-    if infos != code.information_bytes(w) {
-        return 4;
-    }
-    if parities != code.parity_bytes(w) {
-        return 4;
-    }
     if checks::wrong_position(code.n(), lwc) {
-        return 9;
+        return refusal::POSITION;
     }
     0
 }

@@ -1,6 +1,7 @@
 // The unit writer.
 use crate::checks;
 use crate::code::Code;
+use crate::refusal;
 use wire::copy;
 use wire::put;
 ghost use mathlib.Core.Path.{_≡_};
@@ -49,29 +50,24 @@ fn check_write(
     protocol: usize,
     lsc: usize,
     lwc: usize,
-    symbols: usize,
-    outs: usize,
+    symbolLength: usize,
+    outLength: usize,
 ) -> u8
-    ensures { λ r. ⌜ r ≡ writeRefusal number w protocol lsc lwc symbols outs ⌝ }
+    ensures { λ r. ⌜ r ≡ writeRefusal number w protocol lsc lwc symbolLength outLength ⌝ }
 {
+    let earlier = checks::check_label(number, w, protocol, lsc);
+    if earlier != 0 {
+        return earlier;
+    }
     let code = Code { number };
-    if !code.known() {
-        return 1;
-    }
-    if Code::wrong_width(w) {
-        return 2;
-    }
-    if checks::wrong_label(lsc, protocol) {
-        return 3;
-    }
-    if outs != code.unit_bytes(w) {
-        return 4;
+    if outLength != code.unit_bytes(w) {
+        return refusal::LENGTH;
     }
     if checks::wrong_position(code.n(), lwc) {
-        return 9;
+        return refusal::POSITION;
     }
-    if symbols != w {
-        return 10;
+    if symbolLength != w {
+        return refusal::SYMBOL;
     }
     0
 }

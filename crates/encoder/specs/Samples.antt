@@ -11,7 +11,8 @@ use Rattle.algebra.specs.Sums.{pick, sum}
 use Rattle.algebra.specs.Codeword.{byteAt, codeword}
 use Rattle.ccsds.specs.Codes.{checksOf}
 use Rattle.ccsds.specs.Tables.{codeOf}
-use Rattle.ccsds.specs.Refusals.{Outcome, refused, answered, _⟫_}
+use Rattle.ccsds.specs.RefusalTable as refusal
+use Rattle.ccsds.specs.Refusals.{Outcome, refused, answered, _⟫_, refusedFor}
 use Rattle.wire.specs.Sdnv.{numberAt, sdnvBytes}
 use Rattle.ccsds.specs.Reader.{numberOr}
 
@@ -49,7 +50,7 @@ WrittenAs (answered v) bytes = sdnvBytes v ≡ bytes
 
 abbrev pub SdnvHolds : SdnvSample → Type 0
 SdnvHolds s =
-    (numberOr 6 (numberAt (s .bytes) 0) ≡ (s .answer ⟫ λ v. answered (record { value = v; end = length (s .bytes) }))) × WrittenAs (s .answer) (s .shortest)
+    (numberOr refusal.extension (numberAt (s .bytes) 0) ≡ (s .answer ⟫ λ v. answered (record { value = v; end = length (s .bytes) }))) × WrittenAs (s .answer) (s .shortest)
 
 pub data Sample : Type 0 where
   ofCode : CodeSample → Sample
@@ -81,8 +82,8 @@ samples =
       answer = answered 4294967295;
       shortest = 0x8F ∷ 0xFF ∷ 0xFF ∷ 0xFF ∷ 0x7F ∷ [];
     })
-    ∷ ofSdnv (record { bytes = 0x90 ∷ 0x80 ∷ 0x80 ∷ 0x80 ∷ 0x00 ∷ []; answer = refused 19; shortest = [] })
-    ∷ ofSdnv (record { bytes = 0x80 ∷ 0x01 ∷ []; answer = refused 19; shortest = [] })
+    ∷ ofSdnv (record { bytes = 0x90 ∷ 0x80 ∷ 0x80 ∷ 0x80 ∷ 0x00 ∷ []; answer = refusedFor refusal.number; shortest = [] })
+    ∷ ofSdnv (record { bytes = 0x80 ∷ 0x01 ∷ []; answer = refusedFor refusal.number; shortest = [] })
     ∷ []
 
 -- every row holds

@@ -1,6 +1,6 @@
 // The encoder: parity bytes from information bytes.
-use ccsds::code::Code;
 use crate::positions;
+use ccsds::checks;
 use ccsds::tables;
 use ccsds::tables::Layout;
 ghost use mathlib.Core.Path.{_≡_};
@@ -102,32 +102,12 @@ fn encode_sized(number: usize, w: usize, info: &[u8], parity: &mut [u8])
     }
 }
 
-// The number of encode's refusal, or 0.
-fn check_encode(number: usize, w: usize, infos: usize, parities: usize) -> u8
-    ensures { λ r. ⌜ r ≡ encodeRefusal number w infos parities ⌝ }
-{
-    let code = Code { number };
-    if !code.known() {
-        return 1;
-    }
-    if Code::wrong_width(w) {
-        return 2;
-    }
-    if infos != code.information_bytes(w) {
-        return 4;
-    }
-    if parities != code.parity_bytes(w) {
-        return 4;
-    }
-    0
-}
-
 // The parity bytes of the information bytes, into a buffer of m * w bytes; or a refusal, which changes nothing.
 pub fn encode(code: usize, w: usize, info: &[u8], parity: &mut [u8]) -> Encoded
     ensures answer { λ r. ⌜ encodedAs r ≡ outcome (encodeRefusal code w (length (now (info .entry))) (length (now (parity .entry)))) tt ⌝ }
     ensures parity { λ _. ⌜ now (parity .exit) ≡ afterwards (encodeRefusal code w (length (now (info .entry))) (length (now (parity .entry)))) (encodeOf (codeOf code) w (now (info .entry))) (now (parity .entry)) ⌝ }
 {
-    let refusal = check_encode(code, w, info.len(), parity.len());
+    let refusal = checks::check_encoder(code, w, info.len(), parity.len());
     if refusal != 0 {
         return Encoded::Refused(refusal);
     }

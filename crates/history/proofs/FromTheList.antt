@@ -17,7 +17,7 @@ use Rattle.algebra.proofs.Lists.{eqb-iff, length-tab, getD-tab}
 use Rattle.algebra.proofs.Codeword.{ext-byteAt}
 use Rattle.algebra.proofs.Agreeing.{byte-at, length-symbols}
 use Rattle.algebra.proofs.SameKnown.{SameKnown, same-agreeing, same-filled}
-use Rattle.ccsds.specs.Refusals.{firstOf, Outcome, refused, answered, outcome, afterwards}
+use Rattle.ccsds.specs.Refusals.{Outcome, refused, answered, outcome, afterwards}
 use Rattle.ccsds.proofs.Refusals.{width-right}
 use Rattle.block.specs.Block.{checks, blockRefusal}
 use Rattle.block.specs.Status.{wrongMark, Status, heard, missing, statusBy, statusOf, isHeard, known, markAfter}
@@ -27,7 +27,8 @@ use Rattle.block.specs.Close.{reportOf, wrongWork, candidates, symbolsAfter, ma
 use Rattle.history.specs.Calls.{Call, takeUnit, closeWith, History, State, taken, closed, opened, next, answer, run, isAt, symbolOf, heardAt, keptAt, keptSymbols, agreeingWith, latest, markOf, byteOf, stateOf, takeAnswer, answerOf, Told, FromTheList}
 use Rattle.block.specs.declared.Block.{Block}
 use Rattle.block.proofs.Symbols.{symbol-is, length-stored, stored-same, stored-other}
-use Rattle.block.proofs.BlockRefusal.{Right, block-right, buffers-right, not-refused, marks-right}
+use Rattle.block.proofs.BlockRefusal.{Right, block-right, not-refused, marks-right}
+use Rattle.block.proofs.CloseRefusal.{work-decides}
 use Rattle.block.proofs.Taking.{Inside, admitted-inside, at-right, take-by}
 use Rattle.block.proofs.Closing.{mark-by}
 
@@ -275,15 +276,10 @@ module _ (b : Block) (r : Right b) where
 
   module _ (h : History) (words bytes : List ℕ) where
     refusal-is : closeRefusal b (stateOf b h .symbols) (stateOf b h .marks) words bytes ≡ cond (wrongWork b (length words) (length bytes)) 4 0
-    unfolding closeRefusal firstOf
     refusal-is =
-        rw (
-          r .code,
-          r .width,
-          r .label,
-          buffers-right b (length (stateOf b h .symbols)) (length (stateOf b h .marks)) (symbols-size h) (marks-size h),
-          marks-right (stateOf b h .marks) (λ i. small h i),
-        )
+        work-decides b (stateOf b h .symbols) (stateOf b h .marks) words bytes
+        (not-refused b (length (stateOf b h .symbols)) (length (stateOf b h .marks)) r (symbols-size h) (marks-size h))
+        (marks-right (stateOf b h .marks) (λ i. small h i))
 
     -- it is refused: nothing changes
     refused-state : wrongWork b (length words) (length bytes) ≡ true → stateOf b h ≡ stateOf b (closeWith words bytes ∷ h)

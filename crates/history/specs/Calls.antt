@@ -10,7 +10,8 @@ use lib.ListN.{length, getD}
 use Rattle.algebra.specs.Lists.{tab}
 use Rattle.algebra.specs.Codeword.{byteAt}
 use Rattle.algebra.specs.Agreeing.{agreeing, verdictOf, determined, first}
-use Rattle.ccsds.specs.Refusals.{Outcome, refused, answered}
+use Rattle.ccsds.specs.RefusalTable as refusal
+use Rattle.ccsds.specs.Refusals.{Outcome, refused, answered, refusedFor}
 use Rattle.block.specs.Block.{checks}
 use Rattle.block.specs.Status.{missingMark, heardMark, filledMark, wrongMark}
 use Rattle.block.specs.Open.{Open, openOf}
@@ -119,14 +120,14 @@ module _ (b : Block) where
   takeAnswer h (refused number) = refused number
   takeAnswer h (answered x) =
       cond (heardAt h (x .position))
-      (cond (sameBytes (keptAt h (x .position)) (x .symbol)) (answered repeated) (refused 12))
+      (cond (sameBytes (keptAt h (x .position)) (x .symbol)) (answered repeated) (refusedFor refusal.conflict))
       (answered kept)
 
   -- 4, or the verdict of the agreeing codewords and the counts of the marks after it
   unfoldable pub answerOf : History → Call → Answer
   answerOf h (takeUnit unit) = taken (takeAnswer h (admission b unit))
   answerOf h (closeWith words bytes) =
-      closed (cond (wrongWork b (length words) (length bytes)) (refused 4)
+      closed (cond (wrongWork b (length words) (length bytes)) (refusedFor refusal.length)
       (answered (reportOf (verdictOf (agreeingWith h)) (stateOf (closeWith words bytes ∷ h) .marks))))
 
 -- ---- the claim

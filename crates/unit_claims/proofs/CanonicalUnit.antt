@@ -11,6 +11,7 @@ use lib.ListN.{length, getD, drop}
 use lib.Seq.{drop-cons}
 use borrow.Author.Tests.{eqb-true, not-false}
 use Rattle.ccsds.specs.Codes.{nOf}
+use Rattle.ccsds.specs.RefusalTable as refusal
 use Rattle.ccsds.specs.Refusals.{answered}
 use Rattle.wire.specs.Sdnv.{Number, numberAt, sdnvBytes}
 use Rattle.ccsds.specs.Reader.{Coding, Said, Parts, parameterAt, codingOf, extensionAt, after, extensionsOf}
@@ -27,7 +28,7 @@ use Rattle.ccsds.proofs.ReaderLaws.{of-number, of-extension, Header, of-unit}
 
 parameter : (v : List ℕ) → OfBytes v → (at : ℕ) {x : Number} → parameterAt v at ≡ answered x → Fine v at x × (part v at (x .end) ≡ sdnvBytes (x .value))
 parameter v bytes at {x} e =
-    let n = of-number 20 (numberAt v at) e in
+    let n = of-number refusal.kind (numberAt v at) e in
     (is-fine v at n, one-form v bytes at (x .value) (x .end) n)
 
 four : {a b c d a' b' c' d' : List ℕ} → a ≡ a' → b ≡ b' → c ≡ c' → d ≡ d' → a ++ b ++ c ++ d ≡ a' ++ b' ++ c' ++ d'
@@ -40,7 +41,7 @@ value-is v bytes {p} e z =
     let b = of-steps (parameterAt v (a .0 .end)) _ (a .2) in
     let c = of-steps (parameterAt v (b .0 .end)) _ (b .2) in
     let d = of-steps (parameterAt v (c .0 .end)) _ (c .2) in
-    let t = of-test (not (eqb (d .0 .end) (length v))) 20 _ (d .2) in
+    let t = of-test refusal.kind (not (eqb (d .0 .end) (length v))) _ (d .2) in
     let q = the-answer (t .1) in
     let end : d .0 .end ≡ length v = eqb-true (d .0 .end) (length v) (not-false (eqb (d .0 .end) (length v)) (t .0)) in
     let w = parameter v bytes 0 (a .1) in

@@ -11,6 +11,8 @@ use lib.Dec.{eqb, ltb}
 use lib.ListN.{length, getD, replicate, length-append, length-replicate, getD-replicate}
 use lib.Seq.{getD-append-seam, getD-append-add}
 use borrow.Author.Tests.{lt-leb, le-ltb}
+use Rattle.ccsds.specs.RefusalTable.{Refusal, numberOf}
+use Rattle.ccsds.specs.RefusalTable as refusal
 use Rattle.ccsds.specs.Refusals.{Outcome, refused, answered, _⟫_, refuseIf}
 use Rattle.wire.specs.Sdnv.{Number, Reading, finished, unfinished, wrong, longer, sdnvFrom, numberAt}
 use Rattle.ccsds.specs.Reader.{numberOr, Coding, Said, Parts, lengthAt, parameterAt, codingOf, valueOf, wrongType, extensionAt, isSome, after, oneMore, extensionsOf, wrongHeader, readUnit}
@@ -31,11 +33,11 @@ steps-not-6 : {A B : Type 0} (r : Outcome A) (f : A → Outcome B) → Not6 r �
 steps-not-6 (refused number) f h g = h
 steps-not-6 (answered a) f h g = g a
 
-test-not-6 : {A : Type 0} (b : Bool) (number : ℕ) (r : Outcome A) → (number ≡ 6 → ⊥) → Not6 r → Not6 (refuseIf b number r)
-test-not-6 true number r h g = h
-test-not-6 false number r h g = g
+test-not-6 : {A : Type 0} (r : Refusal) (b : Bool) (o : Outcome A) → (numberOf r ≡ 6 → ⊥) → Not6 o → Not6 (refuseIf r b o)
+test-not-6 r true o h g = h
+test-not-6 r false o h g = g
 
-parameter-not-6 : (r : Reading) → Not6 (numberOr 20 r)
+parameter-not-6 : (r : Reading) → Not6 (numberOr refusal.kind r)
 parameter-not-6 (finished x) = tt
 parameter-not-6 unfinished = λ e. omega arith
 parameter-not-6 wrong = λ e. omega arith
@@ -47,7 +49,7 @@ coding-not-6 v =
     steps-not-6 (parameterAt v (w .end)) _ (parameter-not-6 (numberAt v (w .end))) (λ k.
     steps-not-6 (parameterAt v (k .end)) _ (parameter-not-6 (numberAt v (k .end))) (λ n.
     steps-not-6 (parameterAt v (n .end)) _ (parameter-not-6 (numberAt v (n .end))) (λ seed.
-    test-not-6 (not (eqb (seed .end) (length v))) 20 (answered (record { w = w .value; k = k .value; n = n .value; seed = seed .value })) (λ e. omega arith) tt))))
+    test-not-6 refusal.kind (not (eqb (seed .end) (length v))) (answered (record { w = w .value; k = k .value; n = n .value; seed = seed .value })) (λ e. omega arith) tt))))
 
 value-not-6 : (s : List ℕ) (type a e : ℕ) → Not6 (valueOf s type a e)
 unfolding valueOf

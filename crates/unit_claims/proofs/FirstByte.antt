@@ -10,6 +10,7 @@ use lib.Dec.{eqb, ltb}
 use lib.ListN.{length, getD, drop, length-append, length-drop, List·getD-append}
 use lib.Seq.{take-append-le, drop-append-le}
 use borrow.Author.Tests.{lt-leb, le-leb, le-ltb, ltb-false}
+use Rattle.ccsds.specs.RefusalTable as refusal
 use Rattle.ccsds.specs.Refusals.{Outcome, refused, answered, _⟫_, refuseIf}
 use Rattle.wire.specs.Sdnv.{Number, Reading, finished, unfinished, wrong, longer, sdnvFrom, numberAt}
 use Rattle.ccsds.specs.Reader.{numberOr, Said, Parts, lengthAt, valueOf, wrongType, extensionAt, isSome, oneMore, extensionsOf, wrongHeader, readUnit}
@@ -62,10 +63,10 @@ module _ (s after : List ℕ) where
   -- ---- lengths
 
   abbrev lengthBy : List ℕ → Reading → Outcome Number
-  lengthBy u r = numberOr 6 r ⟫ λ x. refuseIf (ltb (length u) (x .end + x .value)) 6 (answered x)
+  lengthBy u r = numberOr refusal.extension r ⟫ λ x. refuseIf refusal.extension (ltb (length u) (x .end + x .value)) (answered x)
 
-  test-stays : (x : Number) (b : Bool) → ltb (length s) (x .end + x .value) ≡ b → (refuseIf b 6 (answered x) ≡ refused 6 → ⊥)
-      → refuseIf (ltb (length (s ++ after)) (x .end + x .value)) 6 (answered x) ≡ refuseIf b 6 (answered x)
+  test-stays : (x : Number) (b : Bool) → ltb (length s) (x .end + x .value) ≡ b → (refuseIf refusal.extension b (answered x) ≡ refused 6 → ⊥)
+      → refuseIf refusal.extension (ltb (length (s ++ after)) (x .end + x .value)) (answered x) ≡ refuseIf refusal.extension b (answered x)
   test-stays x true e n = absurd (n refl)
   test-stays x false e n =
       rw (le-ltb (length (s ++ after)) (x .end + x .value) (omega (arith, ltb-false (length s) (x .end + x .value) e, longer-than)))
@@ -95,8 +96,8 @@ module _ (s after : List ℕ) where
   by-length type at (refused number) e = refl
   by-length type at (answered x) e = value-stays type (x .end) (x .end + x .value) (omega arith) (of-length s at e .inside)
 
-  by-type : (type at : ℕ) (b : Bool) → (refuseIf b 20 (onward s type (lengthAt s at)) ≡ refused 6 → ⊥)
-      → refuseIf b 20 (onward (s ++ after) type (lengthAt (s ++ after) at)) ≡ refuseIf b 20 (onward s type (lengthAt s at))
+  by-type : (type at : ℕ) (b : Bool) → (refuseIf refusal.kind b (onward s type (lengthAt s at)) ≡ refused 6 → ⊥)
+      → refuseIf refusal.kind b (onward (s ++ after) type (lengthAt (s ++ after) at)) ≡ refuseIf refusal.kind b (onward s type (lengthAt s at))
   by-type type at true n = refl
   by-type type at false n =
       let e = length-stays at (λ u. n (rw u)) in
@@ -132,8 +133,8 @@ module _ (s after : List ℕ) where
   header-stays h =
       rw (byte-stays 0 (omega arith), byte-stays 1 (omega arith), le-ltb (length s) 6 h, le-ltb (length (s ++ after)) 6 (omega (arith, longer-than)))
 
-  by-header : (count : ℕ) (f : Said → Parts) (b : Bool) → (refuseIf b 5 (extensionsOf s count ⟫ λ x. answered (f x)) ≡ refused 6 → ⊥)
-      → refuseIf b 5 (extensionsOf (s ++ after) count ⟫ λ x. answered (f x)) ≡ refuseIf b 5 (extensionsOf s count ⟫ λ x. answered (f x))
+  by-header : (count : ℕ) (f : Said → Parts) (b : Bool) → (refuseIf refusal.header b (extensionsOf s count ⟫ λ x. answered (f x)) ≡ refused 6 → ⊥)
+      → refuseIf refusal.header b (extensionsOf (s ++ after) count ⟫ λ x. answered (f x)) ≡ refuseIf refusal.header b (extensionsOf s count ⟫ λ x. answered (f x))
   by-header count f true n = refl
   by-header count f false n =
       let e = extensions-stay count (λ u. n (rw u)) in

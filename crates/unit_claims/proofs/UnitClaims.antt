@@ -18,7 +18,7 @@ use Rattle.algebra.proofs.Lists.{length-tab}
 use Rattle.algebra.proofs.Codeword.{slot}
 use Rattle.ccsds.specs.Codes.{Params, nOf, encodeOf}
 use Rattle.ccsds.specs.Tables.{codeOf}
-use Rattle.ccsds.specs.Refusals.{firstOf, wrongCode, wrongWidth, wrongLabel, wrongPosition, answered}
+use Rattle.ccsds.specs.Refusals.{firstOf, firstIn, applies, wrongCode, wrongWidth, wrongLabel, wrongPosition, answered}
 use Rattle.wire.specs.Sdnv.{finished, numberAt, sdnvBytes}
 use Rattle.wire.specs.Bytes.{part}
 use Rattle.ccsds.specs.Reader.{lengthAt, codingOf, valueOf, wrongType, extensionAt, extensionsOf, wrongHeader, readUnit}
@@ -141,16 +141,16 @@ module _ (number w position : ℕ) (code : wrongCode number ≡ false) (width : 
   right : wrongPosition (nOf (codeOf number)) (lwcOf position) ≡ false
   right = position-is-right (nOf (codeOf number)) (lwcOf position) (omega arith) (omega arith)
 
-  show-admits : (infos parities : ℕ) → infos ≡ codeOf number .k * w → parities ≡ codeOf number .m * w
-      → showRefusal number w infos parities (lwcOf position) ≡ 0
-  unfolding showRefusal firstOf
-  show-admits infos parities hi hp = rw (code, width, length-same infos _ hi, length-same parities _ hp, right)
+  show-admits : (infoLength parityLength : ℕ) → infoLength ≡ codeOf number .k * w → parityLength ≡ codeOf number .m * w
+      → showRefusal number w infoLength parityLength (lwcOf position) ≡ 0
+  unfolding showRefusal firstOf firstIn applies
+  show-admits infoLength parityLength hi hp = rw (code, width, length-same infoLength _ hi, length-same parityLength _ hp, right)
 
-  write-admits : (protocol lsc symbols : ℕ) → wrongLabel lsc protocol ≡ false → symbols ≡ w
-      → writeRefusal number w protocol lsc (lwcOf position) symbols (unitBytes number w) ≡ 0
-  unfolding writeRefusal firstOf
-  write-admits protocol lsc symbols label h =
-      rw (code, width, label, length-same _ _ (unit-right number w code width), right, symbol-same symbols w h)
+  write-admits : (protocol lsc symbolLength : ℕ) → wrongLabel protocol lsc ≡ false → symbolLength ≡ w
+      → writeRefusal number w protocol lsc (lwcOf position) symbolLength (unitBytes number w) ≡ 0
+  unfolding writeRefusal firstOf firstIn applies
+  write-admits protocol lsc symbolLength label h =
+      rw (code, width, label, length-same _ _ (unit-right number w code width), right, symbol-same symbolLength w h)
 
   shown-is : (info parity : RefT (List ℕ)) → length (info .now) ≡ codeOf number .k * w → length (parity .now) ≡ codeOf number .m * w
       → showOf number w info parity (lwcOf position) .bytes ≡ symbolAt w (info .now ++ parity .now) position

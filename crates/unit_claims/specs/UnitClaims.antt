@@ -6,11 +6,12 @@ use mathlib.Core.Bool.{false}
 use mathlib.Core.List.{List, _++_}
 use mathlib.Core.Option.{some}
 use Prim.Native.Nat.{ℕ, _+_, _*_, _≤_, _<_}
-use lib.ListN.{length, getD, take, drop}
+use lib.ListN.{length, drop}
 use denote.Ref.{RefT, now}
 use Rattle.ccsds.specs.Codes.{Params, nOf, encodeOf}
 use Rattle.ccsds.specs.Tables.{codeOf}
-use Rattle.ccsds.specs.Refusals.{wrongCode, wrongWidth, wrongLabel, refused, answered}
+use Rattle.ccsds.specs.RefusalTable as refusal
+use Rattle.ccsds.specs.Refusals.{wrongCode, wrongWidth, wrongLabel, refusedFor, answered}
 use Rattle.ccsds.specs.Reader.{Parts, readUnit}
 use Rattle.algebra.specs.Codeword.{symbolAt}
 use Rattle.wire.specs.Bytes.{OfBytes}
@@ -20,11 +21,11 @@ use Rattle.ccsds.specs.Show.{showOf}
 -- The first byte that can't be accepted decides: what a unit's bytes say, read or refused, stays so whatever bytes come after them, unless
 -- they ended early.
 abbrev pub FirstByteDecides : Type 0
-FirstByteDecides = (s after : List ℕ) → 6 ≤ length s → (readUnit s ≡ refused 6 → ⊥) → readUnit (s ++ after) ≡ readUnit s
+FirstByteDecides = (s after : List ℕ) → 6 ≤ length s → (readUnit s ≡ refusedFor refusal.extension → ⊥) → readUnit (s ++ after) ≡ readUnit s
 
 -- 6 is kept for bytes that end early: there are bytes that, coming after them, lead to another answer.
 abbrev pub EndsEarly : Type 0
-EndsEarly = (s : List ℕ) → readUnit s ≡ refused 6 → (after : List ℕ) × (readUnit (s ++ after) ≡ refused 6 → ⊥)
+EndsEarly = (s : List ℕ) → readUnit s ≡ refusedFor refusal.extension → (after : List ℕ) × (readUnit (s ++ after) ≡ refusedFor refusal.extension → ⊥)
 
 -- the parts of a unit that write makes
 abbrev pub partsOf : Params → ℕ → ℕ → ℕ → ℕ → Parts
@@ -46,7 +47,7 @@ pub record ReadsAs (u : List ℕ) (parts : Parts) (symbol : List ℕ) : Type 0 w
 -- what write writes is read as its parts and its symbol
 abbrev pub RoundTrip : Type 0
 RoundTrip =
-    (number w protocol lsc lwc : ℕ) (symbol : List ℕ) (outs : ℕ) → writeRefusal number w protocol lsc lwc (length symbol) outs ≡ 0
+    (number w protocol lsc lwc : ℕ) (symbol : List ℕ) (outLength : ℕ) → writeRefusal number w protocol lsc lwc (length symbol) outLength ≡ 0
     → ReadsAs (unitOf (codeOf number) w protocol lsc lwc symbol) (partsOf (codeOf number) w protocol lsc lwc) symbol
 
 -- a unit of one extension that is read with a code's parameters is, byte for byte, what write makes of its numbers and its symbol
@@ -66,7 +67,7 @@ lwcOf position = position + 1
 abbrev pub SendsCodeword : Type 0
 SendsCodeword =
     (number w protocol lsc position : ℕ) (info parity : RefT (List ℕ))
-    → wrongCode number ≡ false → wrongWidth w ≡ false → wrongLabel lsc protocol ≡ false → position < nOf (codeOf number)
+    → wrongCode number ≡ false → wrongWidth w ≡ false → wrongLabel protocol lsc ≡ false → position < nOf (codeOf number)
     → length (now info) ≡ codeOf number .k * w → now parity ≡ encodeOf (codeOf number) w (now info)
     → let shown = showOf number w info parity (lwcOf position) .bytes in
     (writeRefusal number w protocol lsc (lwcOf position) (length shown) (unitBytes number w) ≡ 0)

@@ -1,10 +1,10 @@
 // A quick reader for the units that a receiver expects: those whose bytes before the symbol are as write makes them for a code, a W, a protocol ID
 // and an LSC, whatever their LWC. Internal: block's take.
-use wire::big_endian;
 use ccsds::code::Code;
 use ccsds::reader::Extension;
 use ccsds::reader::Parameters;
 use ccsds::reader::UnitParts;
+use wire::big_endian;
 ghost use mathlib.Core.Path.{_≡_};
 ghost use mathlib.Core.Bool.{true};
 ghost use mathlib.Core.List.{_++_};

@@ -1,12 +1,9 @@
 -- `block::take::check_unit` meets its contract: each test decides one row of the list.
 -- Assumes nothing.
-use mathlib.Core.Path.{_≡_, sym, ap, _∙_}
-use mathlib.Core.Bool.{Bool, false}
-use Prim.Native.Nat.{ℕ}
+use mathlib.Core.Path.{_≡_, sym, _∙_}
+use mathlib.Core.Bool.{false}
 use borrow.Author.Needs.{needs}
-use Rattle.ccsds.specs.Codes.{nOf}
-use Rattle.ccsds.specs.Tables.{codeOf}
-use Rattle.ccsds.specs.Refusals.{wrongPosition}
+use Rattle.ccsds.proofs.Refusals.{position-found}
 use Rattle.block.specs.Take.{wrongParameters, foreign}
 use Rattle.block.specs.inner.Steps.{partsAs}
 use Rattle.block.proofs.Taking.{parameters-refused, foreign-refused, position-refused, symbol-refused, unit-admitted}
@@ -19,9 +16,6 @@ parameters c = sym (c .before .wrong-parameters .ensures) ∙ c .if1 .left
 
 own : (c : tie.Else2) → foreign (c .before .before .before .before .args .b) (partsAs (c .before .before .before .before .args .p)) ≡ false
 own c = sym (c .before .wrong-label .ensures) ∙ c .if2 .left
-
-placed : (b lwc : ℕ) {n : ℕ} {t : Bool} → n ≡ nOf (codeOf b) → t ≡ wrongPosition n lwc → {u : Bool} → t ≡ u → wrongPosition (nOf (codeOf b)) lwc ≡ u
-placed b lwc e f q = ap (λ (m : ℕ). wrongPosition m lwc) (sym e) ∙ sym f ∙ q
 
 wrong-parameters-requires : tie.Need-wrong-parameters-requires
 wrong-parameters-requires c κs = search needs
@@ -44,7 +38,7 @@ wrong-position-requires c κs = search needs
 returns-3 : tie.Need-returns-3
 returns-3 c =
     let e = c .before .before .before in
-    position-refused _ _ _ (parameters (e .before .before)) (own e) (placed _ _ (c .before .before .n .ensures) (c .before .wrong-position .ensures) (c .if3 .taken))
+    position-refused _ _ _ (parameters (e .before .before)) (own e) (position-found _ (c .before .before .n .ensures) (c .before .wrong-position .ensures) ∙ c .if3 .taken)
 
 sub-if4 : tie.Need-sub-if4
 sub-if4 c = search needs
@@ -53,13 +47,13 @@ returns-4 : tie.Need-returns-4
 returns-4 c =
     let g = c .before .before .before in
     let e = g .before .before .before in
-    symbol-refused _ _ _ (parameters (e .before .before)) (own e) (placed _ _ (g .before .before .n .ensures) (g .before .wrong-position .ensures) (g .if3 .left)) (c .if4 .taken)
+    symbol-refused _ _ _ (parameters (e .before .before)) (own e) (position-found _ (g .before .before .n .ensures) (g .before .wrong-position .ensures) ∙ g .if3 .left) (c .if4 .taken)
 
 returns-5 : tie.Need-returns-5
 returns-5 c =
     let g = c .before .before .before in
     let e = g .before .before .before in
-    unit-admitted _ _ _ (parameters (e .before .before)) (own e) (placed _ _ (g .before .before .n .ensures) (g .before .wrong-position .ensures) (g .if3 .left)) (c .if4 .left)
+    unit-admitted _ _ _ (parameters (e .before .before)) (own e) (position-found _ (g .before .before .n .ensures) (g .before .wrong-position .ensures) ∙ g .if3 .left) (c .if4 .left)
 
 pub check-unit-spec : {M : Type 1} → statement M
 check-unit-spec =

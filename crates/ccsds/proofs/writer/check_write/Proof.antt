@@ -1,64 +1,60 @@
--- `ccsds::writer::check_write` meets its contract: each test decides one row of the list.
+-- `ccsds::writer::check_write` meets its contract: the label's conditions, then each test decides one.
 -- Assumes nothing.
-use mathlib.Core.Path.{_≡_, sym, ap, _∙_}
-use mathlib.Core.Bool.{false, not}
+use mathlib.Core.Path.{_≡_, refl, sym, _∙_}
+use mathlib.Core.Bool.{false}
+use mathlib.Core.List.{[], _∷_}
+use borrow.Author.Needs.{needs}
 use Rattle.ccsds.specs.Codes.{nOf}
 use Rattle.ccsds.specs.Tables.{codeOf}
-use Rattle.ccsds.specs.Refusals.{firstOf, wrongCode, wrongWidth, wrongLabel, wrongLength, wrongPosition}
+use Rattle.ccsds.specs.RefusalTable as refusal
+use Rattle.ccsds.specs.Refusals.{labelConditions, wrongLength, wrongPosition, wrongSymbol}
 use Rattle.ccsds.specs.Writer.{unitLength, writeRefusal}
-use Rattle.ccsds.proofs.Refusals.{length-same, length-wrong, symbol-same, symbol-wrong}
+use Rattle.ccsds.proofs.RefusalOrder.{chain, in-order, part-refuses, part-passed, first-is, first-on, first-end}
+use Rattle.ccsds.proofs.Refusals.{label-none, position-found, length-same, length-wrong, symbol-same, symbol-wrong}
 use Rattle.ccsds.proofs.UnitLaws.{unit-right}
-use borrow.Author.Needs.{needs}
 use Rattle.ccsds.proofs.writer.check_write.Statement.{statement}
 use Rattle.ccsds.proofs.writer.check_write.Tie as tie
 
--- each row that does not apply
-code : (c : tie.Else1) → wrongCode (c .before .before .args .number) ≡ false
-unfolding wrongCode
-code c = ap not (sym (c .before .known .ensures)) ∙ c .if1 .left
+-- the code, the width and the label are right
+passed : (c : tie.Else1) → let a = c .before .before .args in
+    writeRefusal (a .number) (a .w) (a .protocol) (a .lsc) (a .lwc) (a .symbolLength) (a .outLength)
+    ≡ chain (
+    (refusal.length, wrongLength (a .outLength) (unitLength (codeOf (a .number)) (a .w)))
+    ∷ (refusal.position, wrongPosition (nOf (codeOf (a .number))) (a .lwc))
+    ∷ (refusal.symbol, wrongSymbol (a .symbolLength) (a .w))
+    ∷ []
+    )
+unfolding writeRefusal
+passed c =
+    let a = c .before .before .args in
+    part-passed (labelConditions (a .number) (a .w) (a .protocol) (a .lsc)) _ refl refl _ (c .before .check-label .ensures) (c .if1 .left)
 
-width : (c : tie.Else2) → wrongWidth (c .before .before .before .before .args .w) ≡ false
-width c = sym (c .before .wrong-width .ensures) ∙ c .if2 .left
+output : (c : tie.After-unit-bytes) → let a = c .before .before .before .args in c .unit-bytes .result ≡ unitLength (codeOf (a .number)) (a .w)
+output c =
+    let n = label-none _ _ _ _ (sym (in-order _ refl) ∙ sym (c .before .before .check-label .ensures) ∙ c .before .if1 .left) in
+    c .unit-bytes .ensures ∙ unit-right _ _ (n .0) (n .1)
 
-label : (c : tie.Else3) → wrongLabel (c .before .before .before .before .before .before .args .lsc) (c .before .before .before .before .before .before .args .protocol) ≡ false
-label c = sym (c .before .wrong-label .ensures) ∙ c .if3 .left
+size : (c : tie.Else2) → let a = c .before .before .before .before .args in wrongLength (a .outLength) (unitLength (codeOf (a .number)) (a .w)) ≡ false
+size c = length-same _ _ (c .if2 .left ∙ output (c .before))
 
-output : (c : tie.After-unit-bytes) → c .unit-bytes .result ≡ unitLength (codeOf (c .before .before .before .before .before .before .before .args .number)) (c .before .before .before .before .before .before .before .args .w)
-output c = c .unit-bytes .ensures ∙ unit-right _ _ (code (c .before .before .before .before .before)) (width (c .before .before .before))
+position : (c : tie.After-wrong-position) → let a = c .before .before .before .before .before .before .args in
+    wrongPosition (nOf (codeOf (a .number))) (a .lwc) ≡ c .wrong-position .result
+position c = position-found _ (c .before .n .ensures) (c .wrong-position .ensures)
 
-size : (c : tie.Else4) → wrongLength (c .before .before .before .before .before .before .before .before .args .outs) (unitLength (codeOf (c .before .before .before .before .before .before .before .before .args .number)) (c .before .before .before .before .before .before .before .before .args .w)) ≡ false
-size c = length-same _ _ (c .if4 .left ∙ output (c .before))
-
-position : (c : tie.Else5) → wrongPosition (nOf (codeOf (c .before .before .before .before .before .before .before .before .before .before .before .args .number))) (c .before .before .before .before .before .before .before .before .before .before .before .args .lwc) ≡ false
-position c = rw (← c .before .before .n .ensures) (sym (c .before .wrong-position .ensures) ∙ c .if5 .left)
-
-known-requires : tie.Need-known-requires
-known-requires c κs = search needs
+check-label-requires : tie.Need-check-label-requires
+check-label-requires c κs = search needs
 
 returns : tie.Need-returns
-unfolding writeRefusal firstOf wrongCode
-returns c = rw (ap not (sym (c .before .known .ensures)) ∙ c .if1 .taken)
-
-wrong-width-requires : tie.Need-wrong-width-requires
-wrong-width-requires c κs = search needs
-
-returns-2 : tie.Need-returns-2
-unfolding writeRefusal firstOf
-returns-2 c = rw (code (c .before .before), sym (c .before .wrong-width .ensures) ∙ c .if2 .taken)
-
-wrong-label-requires : tie.Need-wrong-label-requires
-wrong-label-requires c κs = search needs
-
-returns-3 : tie.Need-returns-3
-unfolding writeRefusal firstOf
-returns-3 c = rw (code (c .before .before .before .before), width (c .before .before), sym (c .before .wrong-label .ensures) ∙ c .if3 .taken)
+unfolding writeRefusal
+returns c =
+    let a = c .before .before .args in
+    part-refuses (labelConditions (a .number) (a .w) (a .protocol) (a .lsc)) _ refl refl _ (c .before .check-label .ensures) (c .if1 .taken)
 
 unit-bytes-requires : tie.Need-unit-bytes-requires
 unit-bytes-requires c κs = search needs
 
-returns-4 : tie.Need-returns-4
-unfolding writeRefusal firstOf
-returns-4 c = rw (code (c .before .before .before .before .before .before), width (c .before .before .before .before), label (c .before .before), length-wrong _ _ (λ e. c .if4 .taken (e ∙ sym (output (c .before)))))
+returns-2 : tie.Need-returns-2
+returns-2 c = sym (passed (c .before .before) ∙ first-is _ _ _ (length-wrong _ _ (λ e. c .if2 .taken (e ∙ sym (output (c .before))))))
 
 n-requires : tie.Need-n-requires
 n-requires c κs = search needs
@@ -66,32 +62,34 @@ n-requires c κs = search needs
 wrong-position-requires : tie.Need-wrong-position-requires
 wrong-position-requires c κs = search needs
 
+returns-3 : tie.Need-returns-3
+returns-3 c =
+    let e = c .before .before .before in
+    sym (passed (e .before .before) ∙ first-on _ _ _ (size e) ∙ first-is _ _ _ (position (c .before) ∙ c .if3 .taken))
+
+returns-4 : tie.Need-returns-4
+returns-4 c =
+    let p = c .before in
+    let e = p .before .before .before in
+    sym (passed (e .before .before) ∙ first-on _ _ _ (size e) ∙ first-on _ _ _ (position (p .before) ∙ p .if3 .left) ∙ first-is _ _ _ (symbol-wrong _ _ (c .if4 .taken)))
+
 returns-5 : tie.Need-returns-5
-unfolding writeRefusal firstOf
-returns-5 c = rw (code (c .before .before .before .before .before .before .before .before .before), width (c .before .before .before .before .before .before .before), label (c .before .before .before .before .before), size (c .before .before .before), ← c .before .before .n .ensures, sym (c .before .wrong-position .ensures) ∙ c .if5 .taken)
-
-returns-6 : tie.Need-returns-6
-unfolding writeRefusal firstOf
-returns-6 c = rw (code (c .before .before .before .before .before .before .before .before .before .before), width (c .before .before .before .before .before .before .before .before), label (c .before .before .before .before .before .before), size (c .before .before .before .before), position (c .before), symbol-wrong _ _ (c .if6 .taken))
-
-returns-7 : tie.Need-returns-7
-unfolding writeRefusal firstOf
-returns-7 c = rw (code (c .before .before .before .before .before .before .before .before .before .before), width (c .before .before .before .before .before .before .before .before), label (c .before .before .before .before .before .before), size (c .before .before .before .before), position (c .before), symbol-same _ _ (c .if6 .left))
+returns-5 c =
+    let p = c .before in
+    let e = p .before .before .before in
+    sym (passed (e .before .before) ∙ first-on _ _ _ (size e) ∙ first-on _ _ _ (position (p .before) ∙ p .if3 .left)
+    ∙ first-on _ _ _ (symbol-same _ _ (c .if4 .left)) ∙ first-end)
 
 pub check-write-spec : {M : Type 1} → statement M
 check-write-spec =
     tie.close
     (tie.spec
-    known-requires
+    check-label-requires
     returns
-    wrong-width-requires
-    returns-2
-    wrong-label-requires
-    returns-3
     unit-bytes-requires
-    returns-4
+    returns-2
     n-requires
     wrong-position-requires
-    returns-5
-    returns-6
-    returns-7)
+    returns-3
+    returns-4
+    returns-5)

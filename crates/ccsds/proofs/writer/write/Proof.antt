@@ -22,9 +22,10 @@ ready c = writable _ _ _ _ _ _ _ (not-refused _ _ (c .before .check-write .ensur
 extension : (c : tie.After-n) → extensionOf (c .before .before .before .before .before .before .before .before .before .before .before .args .w) (c .before .k .result) (c .n .result) ≡ extensionOf (c .before .before .before .before .before .before .before .before .before .before .before .args .w) (codeOf (c .before .before .before .before .before .before .before .before .before .before .before .args .code) .k) (nOf (codeOf (c .before .before .before .before .before .before .before .before .before .before .before .args .code)))
 extension c = rw (← c .n .ensures, ← c .before .k .ensures)
 
-room : (number w protocol lsc lwc symbols outs : ℕ) → Writable number w protocol lsc lwc symbols outs → outs ≡ symbolStart (codeOf number) w + symbols
+room : (number w protocol lsc lwc symbolLength outLength : ℕ) → Writable number w protocol lsc lwc symbolLength outLength
+    → outLength ≡ symbolStart (codeOf number) w + symbolLength
 unfolding unitLength
-room number w protocol lsc lwc symbols outs r = omega (arith, r .output, r .symbol)
+room number w protocol lsc lwc symbolLength outLength r = omega (arith, r .output, r .symbol)
 
 check-write-requires : tie.Need-check-write-requires
 check-write-requires c κs = search needs
