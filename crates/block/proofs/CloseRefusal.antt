@@ -3,20 +3,21 @@
 use mathlib.Core.Path.{_≡_, refl, sym, ap, ap₂, _∙_}
 use mathlib.Core.Bool.{Bool, true, false, _||_, cond}
 use mathlib.Core.List.{List, [], _∷_}
-use Prim.Native.Nat.{ℕ, _+_, _*_, _/_}
+use Prim.Native.Nat.{ℕ, _+_, _*_, _/_, _≤_}
 use lib.ListN.{length}
 use Rattle.algebra.specs.Staircase.{staircase}
 use Rattle.ccsds.specs.Codes.{nOf}
 use Rattle.ccsds.specs.Tables.{codeOf}
 use Rattle.ccsds.specs.RefusalTable as refusal
 use Rattle.ccsds.specs.Refusals.{wrongLength, bytesOf}
+use Rattle.ccsds.proofs.Valid.{few-of}
 use Rattle.ccsds.proofs.RefusalOrder.{chain, in-order, part-refuses, part-passed, parts-none, first-is, first-on, first-end, first-none}
 use Rattle.ccsds.proofs.Refusals.{or-false, code-known, width-right, length-right, length-same, length-wrong, bytes-right}
 use Rattle.block.specs.Block.{checks, blockConditions, blockRefusal}
 use Rattle.block.specs.Close.{wrongWork, wrongMarks, closeRefusal}
 use Rattle.block.specs.inner.Ready.{Ready}
 use Rattle.block.specs.declared.Block.{Block}
-use Rattle.block.proofs.BlockRefusal.{block-right}
+use Rattle.block.proofs.BlockRefusal.{checks-n, block-right}
 
 module _ (b : Block) (symbols marks words bytes : List ℕ) where
   pub block-refused : (r : ℕ) → r ≡ blockRefusal b (length symbols) (length marks) → (r ≡ 0 → ⊥) → r ≡ closeRefusal b symbols marks words bytes
@@ -78,3 +79,7 @@ module _ (b : Block) (symbols marks words bytes : List ℕ) where
         words-size = length-right _ _ (r .0);
         bytes-size = length-right _ _ (r .1);
       }
+
+  -- and the marks have room in an array of 3,072
+  pub marks-few : closeRefusal b symbols marks words bytes ≡ 0 → length marks ≤ 3072
+  marks-few z = rw (ready z .marks-size ∙ checks-n b) (few-of (b .code))

@@ -18,8 +18,8 @@ use Rattle.peeling.specs.States.{isKnown}
 use Rattle.decoder.specs.Outcome.{verdictBy, statesAfter, Decoded}
 use Rattle.block.specs.Block.{checks}
 use Rattle.block.specs.Status.{missingMark, heardMark, filledMark, Status, heard, missing, statusOf, isHeard, known, markAfter}
-use Rattle.block.specs.Close.{Report, reportOf, candidates, symbolsAfter, marksAfter, closeRefusal, closeOf}
-use Rattle.block.specs.inner.States.{Told, Marked}
+use Rattle.block.specs.Close.{Report, reportOf, agreeingWords, symbolsAfter, marksAfter, closeRefusal, closeOf}
+use Rattle.block.specs.inner.States.{StatesAre, MarksAre}
 use Rattle.block.specs.declared.Block.{Block}
 
 -- ---- the report
@@ -36,7 +36,7 @@ pub mark-by : (x : Status) (d : Bool) → markAfter x d ≡ cond (isHeard x) 1 (
 mark-by heard d = refl
 mark-by missing d = refl
 
-module _ (b : Block) (s k states : List ℕ) (pos : 0 < b .w) (size : length k ≡ checks b .n) (T : Told b k states) where
+module _ (b : Block) (s k states : List ℕ) (pos : 0 < b .w) (size : length k ≡ checks b .n) (T : StatesAre b k states) where
   -- the decoder knows what the block knows
   same-known : (i : ℕ) → i < checks b .n → isKnown states i ≡ known b k i
   unfolding isKnown known
@@ -49,11 +49,11 @@ module _ (b : Block) (s k states : List ℕ) (pos : 0 < b .w) (size : length k �
   same : SameKnown (checks b) (b .w) (isKnown states) s (known b k) s
   same = record { same-known = same-known; same-byte = λ i h t j l. refl }
 
-  candidates-are : agreeing (checks b) (b .w) (isKnown states) s ≡ candidates b s k
-  unfolding candidates
-  candidates-are = same-agreeing (checks b) (b .w) (isKnown states) s (known b k) s same
+  agreeing-are : agreeing (checks b) (b .w) (isKnown states) s ≡ agreeingWords b s k
+  unfolding agreeingWords
+  agreeing-are = same-agreeing (checks b) (b .w) (isKnown states) s (known b k) s same
 
-  module _ (s′ states′ k′ : List ℕ) (ok : Bool) (D : Decoded (checks b) (b .w) s states s′ states′ ok) (M : Marked b k states′ k′) where
+  module _ (s′ states′ k′ : List ℕ) (ok : Bool) (D : Decoded (checks b) (b .w) s states s′ states′ ok) (M : MarksAre b k states′ k′) where
     pub symbols-after : s′ ≡ symbolsAfter b s k
     unfolding symbolsAfter
     symbols-after = D .symbols-are ∙ same-filled (checks b) (b .w) (isKnown states) s (known b k) s same pos
@@ -67,17 +67,17 @@ module _ (b : Block) (s k states : List ℕ) (pos : 0 < b .w) (size : length k �
     mark-of heard d = refl
     mark-of missing d = refl
 
-    state-at : (i : ℕ) → i < checks b .n → getD states′ i 0 ≡ cond (isHeard (statusOf b k i)) 1 (cond (determined (b .w) (candidates b s k) i) 2 0)
+    state-at : (i : ℕ) → i < checks b .n → getD states′ i 0 ≡ cond (isHeard (statusOf b k i)) 1 (cond (determined (b .w) (agreeingWords b s k) i) 2 0)
     unfolding statesAfter known
     state-at i h =
         ap (λ (l : List ℕ). getD l i 0) (D .states-are)
         ∙ getD-tab (checks b .n) (λ j. cond (isKnown states j) 1 (cond (determined (b .w) (agreeing (checks b) (b .w) (isKnown states) s) j) 2 0)) 0 i h
-        ∙ rw (same-known i h, candidates-are)
+        ∙ rw (same-known i h, agreeing-are)
 
-    mark-at : (i : ℕ) → i < checks b .n → getD k′ i 0 ≡ markAfter (statusOf b k i) (determined (b .w) (candidates b s k) i)
+    mark-at : (i : ℕ) → i < checks b .n → getD k′ i 0 ≡ markAfter (statusOf b k i) (determined (b .w) (agreeingWords b s k) i)
     mark-at i h =
         let x = statusOf b k i in
-        let d = determined (b .w) (candidates b s k) i in
+        let d = determined (b .w) (agreeingWords b s k) i in
         M .each i (omega (arith, size)) ∙ ap (λ (v : ℕ). markAfter x (eqb v 2)) (state-at i h) ∙ ap (markAfter x) (one x d) ∙ mark-of x d
 
     pub marks-after : k′ ≡ marksAfter b s k
@@ -85,20 +85,19 @@ module _ (b : Block) (s k states : List ℕ) (pos : 0 < b .w) (size : length k �
     marks-after =
         ext-getD 0 k′ (marksAfter b s k) (M .size ∙ size ∙ sym (length-tab (checks b .n) _)) (λ i h.
         let l : i < checks b .n = omega (arith, M .size, size) in
-        mark-at i l ∙ sym (getD-tab (checks b .n) (λ j. markAfter (statusOf b k j) (determined (b .w) (candidates b s k) j)) 0 i l))
+        mark-at i l ∙ sym (getD-tab (checks b .n) (λ j. markAfter (statusOf b k j) (determined (b .w) (agreeingWords b s k) j)) 0 i l))
+
+    states-size : length states′ ≡ checks b .n
+    unfolding statesAfter
+    states-size = ap length (D .states-are) ∙ length-tab (checks b .n) _
 
     states-marks : states′ ≡ k′
     states-marks =
         ext-getD 0 states′ k′ (states-size ∙ sym (M .size ∙ size)) (λ i h.
         let l : i < checks b .n = omega (arith, states-size) in
-        state-at i l ∙ sym (mark-at i l ∙ mark-by (statusOf b k i) (determined (b .w) (candidates b s k) i)))
-      where
-        states-size : length states′ ≡ checks b .n
-        unfolding statesAfter
-        states-size = ap length (D .states-are) ∙ length-tab (checks b .n) _
-
-    pub verdict-after : verdictBy ok (count missingMark k′) ≡ verdictOf (candidates b s k)
-    verdict-after = ap (λ (l : List ℕ). verdictBy ok (count 0 l)) (sym states-marks) ∙ D .verdict-is ∙ ap verdictOf candidates-are
+        state-at i l ∙ sym (mark-at i l ∙ mark-by (statusOf b k i) (determined (b .w) (agreeingWords b s k) i)))
+    pub verdict-after : verdictBy ok (count missingMark k′) ≡ verdictOf (agreeingWords b s k)
+    verdict-after = ap (λ (l : List ℕ). verdictBy ok (count 0 l)) (sym states-marks) ∙ D .verdict-is ∙ ap verdictOf agreeing-are
 
 -- ---- the call
 
@@ -111,12 +110,12 @@ module _ (b : Block) (s k l d : List ℕ) (r : ℕ) (e : r ≡ closeRefusal b s 
       (refused-by r _ e h _, (kept-by r _ e h _ s, (kept-by r _ e h _ k, (kept-by r _ e h _ l, kept-by r _ e h _ d))))
 
   pub close-told : r ≡ 0 → (ok : Bool) (s′ k′ l′ d′ : List ℕ) → s′ ≡ symbolsAfter b s k → k′ ≡ marksAfter b s k
-      → verdictBy ok (count missingMark k′) ≡ verdictOf (candidates b s k)
+      → verdictBy ok (count missingMark k′) ≡ verdictOf (agreeingWords b s k)
       → l′ ≡ replicate (length l) 0 → d′ ≡ replicate (length d) 0 → (t : Report) → t ≡ reportOf (verdictBy ok (count missingMark k′)) k′
       → (answered t ≡ closeOf b s k l d .answer) × ((s′ ≡ closeOf b s k l d .symbols) × ((k′ ≡ closeOf b s k l d .marks) × ((l′ ≡ closeOf b s k l d .words) × (d′ ≡ closeOf b s k l d .bytes))))
   unfolding closeOf
   close-told z ok s′ k′ l′ d′ es ek ev el ed t et = (
-    ap answered (et ∙ ap (λ (v : Verdict). reportOf v k′) ev ∙ ap (reportOf (verdictOf (candidates b s k))) ek) ∙ answered-by r _ e z _,
+    ap answered (et ∙ ap (λ (v : Verdict). reportOf v k′) ev ∙ ap (reportOf (verdictOf (agreeingWords b s k))) ek) ∙ answered-by r _ e z _,
     (es ∙ changed-by r _ e z _ s, (ek ∙ changed-by r _ e z _ k, (el ∙ changed-by r _ e z _ l, ed ∙ changed-by r _ e z _ d))),
   )
 
@@ -130,7 +129,7 @@ mark-small missing false = omega arith
 pub marks-small : (b : Block) (s k k′ : List ℕ) → k′ ≡ marksAfter b s k → (i : ℕ) → i < length k′ → getD k′ i 0 ≤ 2
 unfolding marksAfter
 marks-small b s k k′ e i h =
-    let l : i < checks b .n = omega (arith, ap length e, length-tab (checks b .n) (λ j. markAfter (statusOf b k j) (determined (b .w) (candidates b s k) j))) in
+    let l : i < checks b .n = omega (arith, ap length e, length-tab (checks b .n) (λ j. markAfter (statusOf b k j) (determined (b .w) (agreeingWords b s k) j))) in
     subst (λ (v : ℕ). v ≤ 2)
-    (sym (ap (λ (m : List ℕ). getD m i 0) e ∙ getD-tab (checks b .n) (λ j. markAfter (statusOf b k j) (determined (b .w) (candidates b s k) j)) 0 i l))
-    (mark-small (statusOf b k i) (determined (b .w) (candidates b s k) i))
+    (sym (ap (λ (m : List ℕ). getD m i 0) e ∙ getD-tab (checks b .n) (λ j. markAfter (statusOf b k j) (determined (b .w) (agreeingWords b s k) j)) 0 i l))
+    (mark-small (statusOf b k i) (determined (b .w) (agreeingWords b s k) i))

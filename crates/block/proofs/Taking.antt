@@ -18,7 +18,7 @@ use Rattle.ccsds.proofs.Refusals.{or-false, refused-by, answered-by}
 use Rattle.block.specs.Block.{checks, blockRefusal}
 use Rattle.block.specs.Status.{wrongMark, Status, heard, missing, statusOf}
 use Rattle.algebra.specs.Codeword.{symbolAt}
-use Rattle.block.specs.Take.{wrongParameters, foreign, unitRefusal, Placed, admission, Arrival, kept, repeated, Take, sameBytes, stored, unchanged, takeAt, arrival, takeAdmitted, takeBy, takeOf}
+use Rattle.block.specs.Take.{wrongParameters, foreign, unitRefusal, AdmittedUnit, admission, TakeResult, kept, repeated, Take, sameBytes, stored, unchanged, takeAt, takeSymbol, takeAdmitted, takeBy, takeOf}
 use Rattle.block.specs.declared.Block.{Block}
 use Rattle.block.proofs.BlockRefusal.{checks-n}
 
@@ -57,7 +57,7 @@ module _ (b : Block) (p : Parts) (len : ℕ) where
 
 -- ---- an admitted unit
 
-pub record Inside (b : Block) (x : Placed) : Type 0 where
+pub record Inside (b : Block) (x : AdmittedUnit) : Type 0 where
   pub position : x .position < checks b .n
   pub size : length (x .symbol) ≡ b .w
 
@@ -84,7 +84,7 @@ unit-right b p unit z =
     let f : Fitting b p (length unit) = fitting b p (length unit) z in
     record { position = omega arith; size = length-drop (length unit - b .w) unit ∙ omega arith }
 
-pub admitted-inside : (b : Block) (unit : List ℕ) (x : Placed) → admission b unit ≡ answered x → Inside b x
+pub admitted-inside : (b : Block) (unit : List ℕ) (x : AdmittedUnit) → admission b unit ≡ answered x → Inside b x
 unfolding admission
 admitted-inside b unit x = from (readUnit unit)
   where
@@ -114,14 +114,14 @@ module _ (b : Block) (unit : List ℕ) where
 
 -- ---- an admitted unit, by the mark at its position
 
-module _ (b : Block) (symbols marks : List ℕ) (x : Placed) where
-  pub at-wrong : wrongMark (getD marks (x .position) 0) ≡ true → arrival b symbols marks x ≡ unchanged b symbols marks (refused 11)
-  unfolding arrival
+module _ (b : Block) (symbols marks : List ℕ) (x : AdmittedUnit) where
+  pub at-wrong : wrongMark (getD marks (x .position) 0) ≡ true → takeSymbol b symbols marks x ≡ unchanged b symbols marks (refused 11)
+  unfolding takeSymbol
   at-wrong h = rw h
 
   pub at-right : wrongMark (getD marks (x .position) 0) ≡ false → (s : Status) → statusOf b marks (x .position) ≡ s
-      → arrival b symbols marks x ≡ takeAt b symbols marks x s
-  unfolding arrival
+      → takeSymbol b symbols marks x ≡ takeAt b symbols marks x s
+  unfolding takeSymbol
   at-right h s e = rw (h, e)
 
 -- ---- a take, by the refusal of the block and by admission
@@ -135,10 +135,10 @@ module _ (b : Block) (symbols marks unit : List ℕ) where
       go zero k = absurd (k refl)
       go (suc n) k = refl
 
-  pub take-by : (a : Outcome Placed) → blockRefusal b (length symbols) (length marks) ≡ 0 → admission b unit ≡ a → takeOf b symbols marks unit ≡ takeAdmitted b symbols marks a
+  pub take-by : (a : Outcome AdmittedUnit) → blockRefusal b (length symbols) (length marks) ≡ 0 → admission b unit ≡ a → takeOf b symbols marks unit ≡ takeAdmitted b symbols marks a
   unfolding takeOf
   take-by a z e = ap (takeBy b symbols marks unit) z ∙ ap (takeAdmitted b symbols marks) e
 
 -- part by part
-pub apart : {o : Take} {a : Outcome Arrival} {s m : List ℕ} → o ≡ record { answer = a; symbols = s; marks = m } → (a ≡ o .answer) × ((s ≡ o .symbols) × (m ≡ o .marks))
+pub apart : {o : Take} {a : Outcome TakeResult} {s m : List ℕ} → o ≡ record { answer = a; symbols = s; marks = m } → (a ≡ o .answer) × ((s ≡ o .symbols) × (m ≡ o .marks))
 apart e = (sym (ap (λ (o : Take). o .answer) e), (sym (ap (λ (o : Take). o .symbols) e), sym (ap (λ (o : Take). o .marks) e)))

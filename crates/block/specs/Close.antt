@@ -15,7 +15,7 @@ use Rattle.block.specs.declared.close.Verdict as coded-verdict
 use Rattle.block.specs.declared.close.Verdict.the-variants.{Whole, Ambiguous, Inconsistent}
 use Rattle.block.specs.declared.close.Report as coded-report
 use Rattle.block.specs.declared.close.Closed.{Closed}
-use Rattle.block.specs.declared.close.Closed.the-variants.{Told, Refused}
+use Rattle.block.specs.declared.close.Closed.the-variants.{Reported, Refused}
 
 -- 4, length, of the work buffers: m × (n / 64 + 1) words and m × W bytes
 unfoldable pub wrongWork : Block → ℕ → ℕ → Bool
@@ -41,15 +41,15 @@ reportOf v marks = record { verdict = v; heard = count heardMark marks; filled =
 
 module _ (b : Block) (symbols marks : List ℕ) where
   -- all codewords that agree with the heard symbols
-  unfoldable pub candidates : List (List ℕ)
-  candidates = agreeing (checks b) (b .w) (known b marks) symbols
+  unfoldable pub agreeingWords : List (List ℕ)
+  agreeingWords = agreeing (checks b) (b .w) (known b marks) symbols
 
-  -- Heard positions stay as they are; those where all candidates have the same symbol get it and mark 2; all others get zero bytes and mark 0.
+  -- Heard positions stay as they are; those where all agreeingWords have the same symbol get it and mark 2; all others get zero bytes and mark 0.
   unfoldable pub symbolsAfter : List ℕ
   symbolsAfter = filledSymbols (checks b) (b .w) (known b marks) symbols
 
   unfoldable pub marksAfter : List ℕ
-  marksAfter = tab (checks b .n) (λ i. markAfter (statusOf b marks i) (determined (b .w) candidates i))
+  marksAfter = tab (checks b .n) (λ i. markAfter (statusOf b marks i) (determined (b .w) agreeingWords i))
 
 -- ---- close
 
@@ -75,7 +75,7 @@ module _ (b : Block) (symbols marks words bytes : List ℕ) where
   -- the work buffers are all zero after a verdict
   unfoldable pub closeOf : Close
   closeOf = record {
-    answer = outcome closeRefusal (reportOf (verdictOf (candidates b symbols marks)) (marksAfter b symbols marks));
+    answer = outcome closeRefusal (reportOf (verdictOf (agreeingWords b symbols marks)) (marksAfter b symbols marks));
     symbols = afterwards closeRefusal (symbolsAfter b symbols marks) symbols;
     marks = afterwards closeRefusal (marksAfter b symbols marks) marks;
     words = afterwards closeRefusal (replicate (length words) 0) words;
@@ -92,5 +92,5 @@ abbrev pub reportAs : coded-report.Report → Report
 reportAs r = record { verdict = verdictAs (r .verdict); heard = r .heard; filled = r .filled; left = r .left }
 
 abbrev pub closedAs : Closed → Outcome Report
-closedAs (Told r) = answered (reportAs r)
+closedAs (Reported r) = answered (reportAs r)
 closedAs (Refused number) = refused number

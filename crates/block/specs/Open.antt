@@ -7,7 +7,7 @@ use Rattle.ccsds.specs.Refusals.{Outcome, refused, answered, outcome, afterward
 use Rattle.block.specs.Block.{blockRefusal}
 use Rattle.block.specs.declared.Block.{Block}
 use Rattle.block.specs.declared.open.Opened.{Opened}
-use Rattle.block.specs.declared.open.Opened.the-variants.{Fresh, Refused}
+use Rattle.block.specs.declared.open.Opened.the-variants.{Record, Refused}
 
 -- what open answers, and the symbol bytes and marks after it
 pub record Open : Type 0 where
@@ -30,5 +30,5 @@ module _ (b : Block) (symbols marks : List ℕ) where
 
 -- the cases of open's answer in the paper's words
 abbrev pub openedAs : Opened → Outcome Block
-openedAs (Fresh b) = answered b
+openedAs (Record b) = answered b
 openedAs (Refused number) = refused number

@@ -40,24 +40,24 @@ unitRefusal b p len =
     )
 
 -- an admitted unit's position and symbol
-pub record Placed : Type 0 where
+pub record AdmittedUnit : Type 0 where
   pub position : ℕ
   pub symbol : List ℕ
 
 -- 5, 6, 19 or 20 from the unit reader, 7 to 10; else the position is LWC - 1 and the symbol the last W bytes
-unfoldable pub admission : Block → List ℕ → Outcome Placed
+unfoldable pub admission : Block → List ℕ → Outcome AdmittedUnit
 admission b unit =
     readUnit unit ⟫ λ p.
     outcome (unitRefusal b p (length unit)) (record { position = p .lwc - 1; symbol = drop (length unit - b .w) unit })
 
 -- ---- take
 
-pub data Arrival : Type 0 where
-  kept repeated : Arrival
+pub data TakeResult : Type 0 where
+  kept repeated : TakeResult
 
 -- what take answers, and the symbol bytes and marks after it
 pub record Take : Type 0 where
-  pub answer : Outcome Arrival
+  pub answer : Outcome TakeResult
   pub symbols : List ℕ
   pub marks : List ℕ
 
@@ -74,22 +74,22 @@ stored l at bytes = take at l ++ (bytes ++ drop (at + length bytes) l)
 
 module _ (b : Block) (symbols marks : List ℕ) where
   -- this answer, and nothing changed
-  abbrev pub unchanged : Outcome Arrival → Take
+  abbrev pub unchanged : Outcome TakeResult → Take
   unchanged a = record { answer = a; symbols = symbols; marks = marks }
 
   -- an admitted unit, by the status of its position: at a heard one repeated or 12, at a missing one kept
-  abbrev pub takeAt : Placed → Status → Take
+  abbrev pub takeAt : AdmittedUnit → Status → Take
   takeAt x heard = unchanged (cond (sameBytes (symbolAt (b .w) symbols (x .position)) (x .symbol)) (answered repeated) (refusedFor refusal.conflict))
   takeAt x missing = record { answer = answered kept; symbols = stored symbols (x .position * b .w) (x .symbol); marks = set marks (x .position) heardMark }
 
   -- 11 by the mark there
-  unfoldable pub arrival : Placed → Take
-  arrival x = cond (wrongMark (getD marks (x .position) 0)) (unchanged (refusedFor refusal.mark)) (takeAt x (statusOf b marks (x .position)))
+  unfoldable pub takeSymbol : AdmittedUnit → Take
+  takeSymbol x = cond (wrongMark (getD marks (x .position) 0)) (unchanged (refusedFor refusal.mark)) (takeAt x (statusOf b marks (x .position)))
 
   -- by admission
-  abbrev pub takeAdmitted : Outcome Placed → Take
+  abbrev pub takeAdmitted : Outcome AdmittedUnit → Take
   takeAdmitted (refused number) = unchanged (refused number)
-  takeAdmitted (answered x) = arrival x
+  takeAdmitted (answered x) = takeSymbol x
 
   -- by the refusal of the block, or 0
   abbrev pub takeBy : List ℕ → ℕ → Take
@@ -100,7 +100,7 @@ module _ (b : Block) (symbols marks : List ℕ) where
   takeOf unit = takeBy unit (blockRefusal b (length symbols) (length marks))
 
 -- the cases of take's answer in the paper's words
-abbrev pub takenAs : Taken → Outcome Arrival
+abbrev pub takenAs : Taken → Outcome TakeResult
 takenAs Kept = answered kept
 takenAs Repeated = answered repeated
 takenAs (Refused number) = refused number

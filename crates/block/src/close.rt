@@ -11,7 +11,7 @@ ghost use Rattle.algebra.specs.Lists.{count};
 ghost use Rattle.algebra.specs.Agreeing.{verdictOf};
 ghost use Rattle.decoder.specs.Outcome.{verdictBy};
 ghost use Rattle.block.specs.Status.{missingMark, heardMark, filledMark};
-ghost use Rattle.block.specs.Close.{wrongMarks, reportOf, candidates, symbolsAfter, marksAfter, closeRefusal, closeOf, verdictAs, reportAs, closedAs};
+ghost use Rattle.block.specs.Close.{wrongMarks, reportOf, agreeingWords, symbolsAfter, marksAfter, closeRefusal, closeOf, verdictAs, reportAs, closedAs};
 ghost use Rattle.block.specs.inner.Ready.{Ready};
 
 pub enum Verdict {
@@ -30,7 +30,7 @@ pub struct Report {
 
 // What close answers: the report, or the number of the refusal.
 pub enum Closed {
-    Told(Report),
+    Reported(Report),
     Refused(u8),
 }
 
@@ -109,7 +109,7 @@ fn verdict_by(ok: bool, left: usize) -> Verdict
 }
 
 // The report, from the marks afterwards.
-fn tell(ok: bool, marks: &[u8]) -> Report
+fn make_report(ok: bool, marks: &[u8]) -> Report
     requires { ⌜ ((i : ℕ) → i < length (now marks) → getD (now marks) i 0 ≤ 2) ⌝ }
     ensures { λ r. ⌜ reportAs r ≡ reportOf (verdictBy ok (count missingMark (now (marks .entry)))) (now (marks .entry)) ⌝ }
 {
@@ -139,9 +139,9 @@ fn decode(
     requires { ⌜ length (now states) ≡ length (now marks) ⌝ }
     ensures { λ _. ⌜ now (symbols .exit) ≡ symbolsAfter b (now (symbols .entry)) (now (marks .entry)) ⌝ }
     ensures { λ _. ⌜ now (marks .exit) ≡ marksAfter b (now (symbols .entry)) (now (marks .entry)) ⌝ }
-    ensures { λ ok. ⌜ verdictBy ok (count missingMark (now (marks .exit))) ≡ verdictOf (candidates b (now (symbols .entry)) (now (marks .entry))) ⌝ }
+    ensures { λ ok. ⌜ verdictBy ok (count missingMark (now (marks .exit))) ≡ verdictOf (agreeingWords b (now (symbols .entry)) (now (marks .entry))) ⌝ }
 {
-    status::tell(b, marks, states);
+    status::put_states(b, marks, states);
     let ok = decoder::solve::solve(b.code, b.w, symbols, states, words, bytes);
     status::set_marks(b, states, marks);
     ok
@@ -177,5 +177,5 @@ pub fn close(
     let ok = decode(b, symbols, marks, &mut states[..n], words, bytes);
     buffers::clear_words(words);
     buffers::clear(bytes);
-    Closed::Told(tell(ok, marks))
+    Closed::Reported(make_report(ok, marks))
 }

@@ -6,7 +6,7 @@ ghost use Rattle.block.specs.Open.{openOf, openedAs};
 
 // What open answers: the record, or the number of the refusal.
 pub enum Opened {
-    Fresh(Block),
+    Record(Block),
     Refused(u8),
 }
 
@@ -22,5 +22,5 @@ pub fn open(b: Block, symbols: &mut [u8], marks: &mut [u8]) -> Opened
     }
     buffers::clear(symbols);
     buffers::clear(marks);
-    Opened::Fresh(b)
+    Opened::Record(b)
 }

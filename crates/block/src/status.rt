@@ -8,7 +8,7 @@ ghost use mathlib.Core.Bool.{cond};
 ghost use lib.Dec.{eqb};
 ghost use lib.ListN.{length};
 ghost use Rattle.block.specs.Status.{wrongMark, statusBy, isHeard, markAfter, statusAs};
-ghost use Rattle.block.specs.inner.States.{Told, Marked};
+ghost use Rattle.block.specs.inner.States.{StatesAre, MarksAre};
 
 pub const MISSING: u8 = 0;
 pub const HEARD: u8 = 1;
@@ -48,9 +48,9 @@ fn state(mark: u8) -> u8
 }
 
 // What the decoder is told of each position.
-pub fn tell(b: Block, marks: &[u8], states: &mut [u8])
+pub fn put_states(b: Block, marks: &[u8], states: &mut [u8])
     requires { ⌜ length (now states) ≡ length (now marks) ⌝ }
-    ensures { λ _. ⌜ Told b (now (marks .entry)) (now (states .exit)) ⌝ }
+    ensures { λ _. ⌜ StatesAre b (now (marks .entry)) (now (states .exit)) ⌝ }
 {
     let mut i = 0;
     while i < marks.len() {
@@ -72,7 +72,7 @@ fn after(mark: u8, state: u8) -> u8
 // The marks after a verdict.
 pub fn set_marks(b: Block, states: &[u8], marks: &mut [u8])
     requires { ⌜ length (now states) ≡ length (now marks) ⌝ }
-    ensures { λ _. ⌜ Marked b (now (marks .entry)) (now (states .entry)) (now (marks .exit)) ⌝ }
+    ensures { λ _. ⌜ MarksAre b (now (marks .entry)) (now (states .entry)) (now (marks .exit)) ⌝ }
 {
     let mut i = 0;
     while i < marks.len() {

@@ -14,7 +14,7 @@ ghost use Prim.Native.Nat.{_<_, _≤_, _+_, _*_};
 ghost use lib.ListN.{length};
 ghost use Rattle.ccsds.specs.Refusals.{answered};
 ghost use Rattle.ccsds.specs.Reader.{extensionAs, readUnit};
-ghost use Rattle.block.specs.Take.{wrongParameters, foreign, unitRefusal, admission, arrival, takeOf, takenAs};
+ghost use Rattle.block.specs.Take.{wrongParameters, foreign, unitRefusal, admission, takeSymbol, takeOf, takenAs};
 ghost use Rattle.block.specs.inner.Steps.{partsAs, admittedAs};
 
 // What take answers: that the symbol is kept, that it was heard before, or the number of the refusal.
@@ -108,13 +108,13 @@ fn admit(b: Block, unit: &[u8]) -> Admitted
 }
 
 // Takes an admitted unit's symbol, by the mark at its position.
-fn arrive(b: Block, symbols: &mut [u8], marks: &mut [u8], position: usize, symbol: &[u8]) -> Taken
+fn take_symbol(b: Block, symbols: &mut [u8], marks: &mut [u8], position: usize, symbol: &[u8]) -> Taken
     requires { ⌜ position < length (now marks) ⌝ }
     requires { ⌜ position * b .w + b .w ≤ length (now symbols) ⌝ }
     requires { ⌜ length (now symbol) ≡ b .w ⌝ }
-    ensures answer { λ r. ⌜ takenAs r ≡ arrival b (now (symbols .entry)) (now (marks .entry)) (record { position = position; symbol = now (symbol .entry) }) .answer ⌝ }
-    ensures symbols { λ _. ⌜ now (symbols .exit) ≡ arrival b (now (symbols .entry)) (now (marks .entry)) (record { position = position; symbol = now (symbol .entry) }) .symbols ⌝ }
-    ensures marks { λ _. ⌜ now (marks .exit) ≡ arrival b (now (symbols .entry)) (now (marks .entry)) (record { position = position; symbol = now (symbol .entry) }) .marks ⌝ }
+    ensures answer { λ r. ⌜ takenAs r ≡ takeSymbol b (now (symbols .entry)) (now (marks .entry)) (record { position = position; symbol = now (symbol .entry) }) .answer ⌝ }
+    ensures symbols { λ _. ⌜ now (symbols .exit) ≡ takeSymbol b (now (symbols .entry)) (now (marks .entry)) (record { position = position; symbol = now (symbol .entry) }) .symbols ⌝ }
+    ensures marks { λ _. ⌜ now (marks .exit) ≡ takeSymbol b (now (symbols .entry)) (now (marks .entry)) (record { position = position; symbol = now (symbol .entry) }) .marks ⌝ }
 {
     let w = b.w;
     let mark = marks[position];
@@ -149,6 +149,6 @@ pub fn take(b: Block, symbols: &mut [u8], marks: &mut [u8], unit: &[u8]) -> Take
     }
     match admit(b, unit) {
         Admitted::Refused(number) => Taken::Refused(number),
-        Admitted::At(position, start) => arrive(b, symbols, marks, position, &unit[start..]),
+        Admitted::At(position, start) => take_symbol(b, symbols, marks, position, &unit[start..]),
     }
 }

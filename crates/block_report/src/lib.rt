@@ -36,7 +36,7 @@ pub fn print_count(name: &[u8], count: usize) {
 // Prints close's answer: the verdict and the three counts.
 pub fn print_closed(answer: Closed) {
     match answer {
-        Closed::Told(told) => {
+        Closed::Reported(told) => {
             let verdict = told.verdict;
             print_verdict(verdict);
             print_count(b" heard ", told.heard);

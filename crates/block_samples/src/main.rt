@@ -122,7 +122,7 @@ fn run<'a>(
     words: &mut [u64],
     bytes: &mut [u8],
 ) {
-    let Opened::Fresh(fresh) = block::open::open(b, symbols, marks) else {
+    let Opened::Record(fresh) = block::open::open(b, symbols, marks) else {
         report::print(b"open refused");
         return;
     };

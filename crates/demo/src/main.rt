@@ -138,7 +138,7 @@ fn gather(
     words: &mut [u64],
     bytes: &mut [u8],
 ) {
-    let Opened::Fresh(fresh) = block::open::open(b, symbols, marks) else {
+    let Opened::Record(fresh) = block::open::open(b, symbols, marks) else {
         report::print(b"open refused\n");
         return;
     };

@@ -64,7 +64,7 @@ fn gather_all(b: Block, symbols: &mut [u8], marks: &mut [u8]) {
 // Prints the last line.
 fn print_last(answer: Closed) {
     match answer {
-        Closed::Told(told) => {
+        Closed::Reported(told) => {
             let verdict = told.verdict;
             block_report::print_verdict(verdict);
             block_report::print_count(b" heard ", told.heard);
@@ -76,7 +76,7 @@ fn print_last(answer: Closed) {
 
 // Opens the block, gathers, and closes.
 fn run(b: Block, symbols: &mut [u8], marks: &mut [u8], words: &mut [u64], bytes: &mut [u8]) {
-    let Opened::Fresh(fresh) = block::open::open(b, symbols, marks) else {
+    let Opened::Record(fresh) = block::open::open(b, symbols, marks) else {
         bad_input();
         return;
     };

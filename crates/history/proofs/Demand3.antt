@@ -23,7 +23,7 @@ use Rattle.ccsds.specs.Refusals.{Outcome, refused, answered}
 use Rattle.block.specs.Block.{checks}
 use Rattle.block.specs.Status.{heard, missing, known, isHeard, statusBy}
 use Rattle.block.specs.Open.{openOf}
-use Rattle.block.specs.Take.{Placed, kept, repeated, admission, sameBytes}
+use Rattle.block.specs.Take.{AdmittedUnit, kept, repeated, admission, sameBytes}
 use Rattle.block.specs.Close.{Report, reportOf, wrongWork}
 use Rattle.history.specs.Calls.{takeUnit, closeWith, History, State, taken, closed, opened, isAt, symbolOf, heardAt, keptAt, keptSymbols, agreeingWith, latest, markOf, byteOf, stateOf, takeAnswer, answerOf}
 use Rattle.history.specs.Demand3.{Agrees, Closes, Demand3, Demand2}
@@ -52,10 +52,10 @@ module _ (n w : ℕ) (x y : List ℕ) (ex : length x ≡ n * w) (ey : length y �
   bytes-same e j l = sym (symbol-byte n w x ex i k j l) ∙ ap (λ (s : List ℕ). getD s j 0) e ∙ symbol-byte n w y ey i k j l
 
 -- a take that is admitted at a position not yet heard
-module _ (b : Block) (h : History) (unit : List ℕ) (x : Placed) (e : admission b unit ≡ answered x) where
+module _ (b : Block) (h : History) (unit : List ℕ) (x : AdmittedUnit) (e : admission b unit ≡ answered x) where
   take-heard : heardAt b (takeUnit unit ∷ h) (x .position) ≡ true
   unfolding heardAt isAt
-  take-heard = ap (λ (a : Outcome Placed). isAt a (x .position) || heardAt b h (x .position)) e
+  take-heard = ap (λ (a : Outcome AdmittedUnit). isAt a (x .position) || heardAt b h (x .position)) e
       ∙ ap (λ (t : Bool). t || heardAt b h (x .position)) (eqb-iff (x .position) (x .position) .1 refl)
 
   take-kept : heardAt b h (x .position) ≡ false → keptAt b (takeUnit unit ∷ h) (x .position) ≡ x .symbol
@@ -253,11 +253,11 @@ module _ (b : Block) (r : Right b) (h : History) where
 
   -- ---- a take
 
-  keeps : (unit : List ℕ) → (answerOf b h (takeUnit unit) ≡ taken (answered kept)) ↔ ((x : Placed) × (admission b unit ≡ answered x) × (heardAt b h (x .position) ≡ false))
+  keeps : (unit : List ℕ) → (answerOf b h (takeUnit unit) ≡ taken (answered kept)) ↔ ((x : AdmittedUnit) × (admission b unit ≡ answered x) × (heardAt b h (x .position) ≡ false))
   unfolding answerOf
   keeps unit = (λ e. to (admission b unit) refl e, λ a. rw (a .1, a .2))
     where
-      new : (x : Placed) (a : Bool) → heardAt b h (x .position) ≡ a
+      new : (x : AdmittedUnit) (a : Bool) → heardAt b h (x .position) ≡ a
           → taken (cond a (cond (sameBytes (keptAt b h (x .position)) (x .symbol)) (answered repeated) (refused 12)) (answered kept)) ≡ taken (answered kept) → a ≡ false
       new x true t e = clash (sameBytes (keptAt b h (x .position)) (x .symbol)) e
         where
@@ -266,12 +266,12 @@ module _ (b : Block) (r : Right b) (h : History) where
           clash false q = let z : _≡_ {A = ℕ} 0 1 = cc in absurd (omega arith)
       new x false t e = refl
 
-      to : (a : Outcome Placed) → admission b unit ≡ a → taken (takeAnswer b h a) ≡ taken (answered kept)
-          → (x : Placed) × (admission b unit ≡ answered x) × (heardAt b h (x .position) ≡ false)
+      to : (a : Outcome AdmittedUnit) → admission b unit ≡ a → taken (takeAnswer b h a) ≡ taken (answered kept)
+          → (x : AdmittedUnit) × (admission b unit ≡ answered x) × (heardAt b h (x .position) ≡ false)
       to (refused n) q e = let z : _≡_ {A = ℕ} 0 1 = cc in absurd (omega arith)
       to (answered x) q e = (x, q, new x (heardAt b h (x .position)) refl e)
 
-  stores : (unit : List ℕ) (x : Placed) → admission b unit ≡ answered x → heardAt b h (x .position) ≡ false
+  stores : (unit : List ℕ) (x : AdmittedUnit) → admission b unit ≡ answered x → heardAt b h (x .position) ≡ false
       → (getD (stateOf b (takeUnit unit ∷ h) .marks) (x .position) 0 ≡ 1) × (symbolAt (b .w) (stateOf b (takeUnit unit ∷ h) .symbols) (x .position) ≡ x .symbol)
   unfolding markOf
   stores unit x e f = (

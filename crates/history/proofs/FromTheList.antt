@@ -22,9 +22,9 @@ use Rattle.ccsds.proofs.Refusals.{width-right}
 use Rattle.block.specs.Block.{checks, blockRefusal}
 use Rattle.block.specs.Status.{wrongMark, Status, heard, missing, statusBy, statusOf, isHeard, known, markAfter}
 use Rattle.block.specs.Open.{openOf}
-use Rattle.block.specs.Take.{Placed, Take, kept, repeated, admission, sameBytes, stored, unchanged, arrival, takeOf}
-use Rattle.block.specs.Close.{reportOf, wrongWork, candidates, symbolsAfter, marksAfter, closeRefusal, closeOf}
-use Rattle.history.specs.Calls.{Call, takeUnit, closeWith, History, State, taken, closed, opened, next, answer, run, isAt, symbolOf, heardAt, keptAt, keptSymbols, agreeingWith, latest, markOf, byteOf, stateOf, takeAnswer, answerOf, Told, FromTheList}
+use Rattle.block.specs.Take.{AdmittedUnit, Take, kept, repeated, admission, sameBytes, stored, unchanged, takeSymbol, takeOf}
+use Rattle.block.specs.Close.{reportOf, wrongWork, agreeingWords, symbolsAfter, marksAfter, closeRefusal, closeOf}
+use Rattle.history.specs.Calls.{Call, takeUnit, closeWith, History, State, taken, closed, opened, next, answer, run, isAt, symbolOf, heardAt, keptAt, keptSymbols, agreeingWith, latest, markOf, byteOf, stateOf, takeAnswer, answerOf, FollowsList, FromTheList}
 use Rattle.block.specs.declared.Block.{Block}
 use Rattle.block.proofs.Symbols.{symbol-is, length-stored, stored-same, stored-other}
 use Rattle.block.proofs.BlockRefusal.{Right, block-right, not-refused, marks-right}
@@ -120,9 +120,9 @@ module _ (b : Block) (r : Right b) where
         rest : ℕ → ℕ → ℕ
         rest i j = cond (determined (b .w) (latest b h) i) (byteAt (b .w) (first (latest b h)) j i) 0
 
-    candidates-are : candidates b (stateOf b h .symbols) (stateOf b h .marks) ≡ agreeingWith b h
-    unfolding agreeingWith candidates
-    candidates-are = same-agreeing (checks b) (b .w) (known b (stateOf b h .marks)) (stateOf b h .symbols) (heardAt b h) (keptSymbols b h) same-known
+    agreeing-are : agreeingWords b (stateOf b h .symbols) (stateOf b h .marks) ≡ agreeingWith b h
+    unfolding agreeingWith agreeingWords
+    agreeing-are = same-agreeing (checks b) (b .w) (known b (stateOf b h .marks)) (stateOf b h .symbols) (heardAt b h) (keptSymbols b h) same-known
 
     -- the block's symbols after a verdict are those by the kept ones
     symbols-are : symbolsAfter b (stateOf b h .symbols) (stateOf b h .marks) ≡ filledSymbols (checks b) (b .w) (heardAt b h) (keptSymbols b h)
@@ -135,7 +135,7 @@ module _ (b : Block) (r : Right b) where
   kept-size [] i e = absurd (false≢true e)
   kept-size (takeUnit unit ∷ h) i e = go (admission b unit) refl (heardAt b h i) (kept-size h i) e
     where
-      go : (a : Outcome Placed) → admission b unit ≡ a → (d : Bool) → (d ≡ true → length (keptAt b h i) ≡ b .w)
+      go : (a : Outcome AdmittedUnit) → admission b unit ≡ a → (d : Bool) → (d ≡ true → length (keptAt b h i) ≡ b .w)
           → isAt a i || d ≡ true → length (cond d (keptAt b h i) (cond (isAt a i) (symbolOf a) [])) ≡ b .w
       go a q true ih f = ih refl
       go (refused number) q false ih f = absurd (false≢true f)
@@ -186,14 +186,14 @@ module _ (b : Block) (r : Right b) where
     does-refused : (number : ℕ) → admission b unit ≡ refused number → Does (unchanged b (stateOf b h .symbols) (stateOf b h .marks) (refused number))
     unfolding isAt
     does-refused number e = record {
-      state = quiet (λ i k t. absurd (false≢true (sym (ap (λ (a : Outcome Placed). isAt a i) e) ∙ t)));
+      state = quiet (λ i k t. absurd (false≢true (sym (ap (λ (a : Outcome AdmittedUnit). isAt a i) e) ∙ t)));
       answer = sym (ap (takeAnswer b h) e);
     }
 
-    module _ (x : Placed) (e : admission b unit ≡ answered x) where
+    module _ (x : AdmittedUnit) (e : admission b unit ≡ answered x) where
       at-own : (i : ℕ) → isAt (admission b unit) i ≡ eqb (x .position) i
       unfolding isAt
-      at-own i = ap (λ (a : Outcome Placed). isAt a i) e
+      at-own i = ap (λ (a : Outcome AdmittedUnit). isAt a i) e
 
       -- its position was heard
       does-heard : heardAt b h (x .position) ≡ true
@@ -244,23 +244,23 @@ module _ (b : Block) (r : Right b) where
           byte i j k l (yes q) =
               ap (λ (u : ℕ). byteAt (b .w) (stored s (p * b .w) (x .symbol)) j u) q
               ∙ stored-same (checks b .n) (b .w) s (symbols-size h) p (I .position) (x .symbol) (I .size) j l
-              ∙ sym (new q .1 j ∙ ap (λ (a : Outcome Placed). getD (symbolOf a) j 0) e)
+              ∙ sym (new q .1 j ∙ ap (λ (a : Outcome AdmittedUnit). getD (symbolOf a) j 0) e)
           byte i j k l (no d) =
               stored-other (checks b .n) (b .w) s (symbols-size h) p (I .position) (x .symbol) (I .size) i j l d ∙ byte-is h i j k l ∙ sym (old d .1 j)
 
-      does-admitted : Does (arrival b (stateOf b h .symbols) (stateOf b h .marks) x)
+      does-admitted : Does (takeSymbol b (stateOf b h .symbols) (stateOf b h .marks) x)
       unfolding known
       does-admitted = go (statusOf b (stateOf b h .marks) p) refl
         where
           p : ℕ
           p = x .position
 
-          told : isHeard (statusOf b (stateOf b h .marks) p) ≡ heardAt b h p
-          told = heard-is h p (admitted-inside b unit x e .position)
+          follows : isHeard (statusOf b (stateOf b h .marks) p) ≡ heardAt b h p
+          follows = heard-is h p (admitted-inside b unit x e .position)
 
-          go : (s : Status) → statusOf b (stateOf b h .marks) p ≡ s → Does (arrival b (stateOf b h .symbols) (stateOf b h .marks) x)
-          go heard t = subst Does (sym (at-right b (stateOf b h .symbols) (stateOf b h .marks) x (right h p) heard t)) (does-heard (sym told ∙ ap isHeard t))
-          go missing t = subst Does (sym (at-right b (stateOf b h .symbols) (stateOf b h .marks) x (right h p) missing t)) (does-new (sym told ∙ ap isHeard t))
+          go : (s : Status) → statusOf b (stateOf b h .marks) p ≡ s → Does (takeSymbol b (stateOf b h .symbols) (stateOf b h .marks) x)
+          go heard t = subst Does (sym (at-right b (stateOf b h .symbols) (stateOf b h .marks) x (right h p) heard t)) (does-heard (sym follows ∙ ap isHeard t))
+          go missing t = subst Does (sym (at-right b (stateOf b h .symbols) (stateOf b h .marks) x (right h p) missing t)) (does-new (sym follows ∙ ap isHeard t))
 
     does : Does (takeOf b (stateOf b h .symbols) (stateOf b h .marks) unit)
     does = go (admission b unit) refl
@@ -268,7 +268,7 @@ module _ (b : Block) (r : Right b) where
         z : blockRefusal b (length (stateOf b h .symbols)) (length (stateOf b h .marks)) ≡ 0
         z = not-refused b (length (stateOf b h .symbols)) (length (stateOf b h .marks)) r (symbols-size h) (marks-size h)
 
-        go : (a : Outcome Placed) → admission b unit ≡ a → Does (takeOf b (stateOf b h .symbols) (stateOf b h .marks) unit)
+        go : (a : Outcome AdmittedUnit) → admission b unit ≡ a → Does (takeOf b (stateOf b h .symbols) (stateOf b h .marks) unit)
         go (refused number) e = subst Does (sym (take-by b (stateOf b h .symbols) (stateOf b h .marks) unit (refused number) z e)) (does-refused number e)
         go (answered x) e = subst Does (sym (take-by b (stateOf b h .symbols) (stateOf b h .marks) unit (answered x) z e)) (does-admitted x e)
 
@@ -301,9 +301,9 @@ module _ (b : Block) (r : Right b) where
         state-is (closeWith words bytes ∷ h) (record { symbols = symbolsAfter b s m; marks = marksAfter b s m })
         (length-symbols (checks b) (b .w) (known b m) s) (length-tab (checks b .n) _)
         (λ i k.
-        getD-tab (checks b .n) (λ j. markAfter (statusOf b m j) (determined (b .w) (candidates b s m) j)) 0 i k
-        ∙ mark-by (statusOf b m i) (determined (b .w) (candidates b s m) i)
-        ∙ ap₂ (λ (a : Bool) (L : List (List ℕ)). cond a 1 (cond (determined (b .w) L i) 2 0)) (heard-is h i k) (candidates-are h) ∙ sym (rw t))
+        getD-tab (checks b .n) (λ j. markAfter (statusOf b m j) (determined (b .w) (agreeingWords b s m) j)) 0 i k
+        ∙ mark-by (statusOf b m i) (determined (b .w) (agreeingWords b s m) i)
+        ∙ ap₂ (λ (a : Bool) (L : List (List ℕ)). cond a 1 (cond (determined (b .w) L i) 2 0)) (heard-is h i k) (agreeing-are h) ∙ sym (rw t))
         (λ i j k l.
         ap (λ (x : List ℕ). byteAt (b .w) x j i) (symbols-are h) ∙ byte-at (checks b) (b .w) (heardAt b h) (keptSymbols b h) i j k l
         ∙ ap (λ (v : ℕ). cond (heardAt b h i) v (rest i j)) (kept-byte h i j k l) ∙ sym (rw t))
@@ -337,7 +337,7 @@ module _ (b : Block) (r : Right b) where
       go true t = rw (refusal-is h words bytes, t)
       go false t =
           rw (refusal-is h words bytes, t)
-          (ap closed (ap answered (ap₂ reportOf (ap verdictOf (candidates-are h)) (ap (λ (s : State). s .marks) (closed-state h words bytes t)))))
+          (ap closed (ap answered (ap₂ reportOf (ap verdictOf (agreeing-are h)) (ap (λ (s : State). s .marks) (closed-state h words bytes t)))))
 
   -- ---- the list
 
@@ -353,8 +353,8 @@ module _ (b : Block) (r : Right b) where
   run-is s e [] = e
   run-is s e (c ∷ h) = ap (λ (u : State). next b u c) (run-is s e h) ∙ next-is h c
 
-  told : (s : State) → s ≡ stateOf b [] → (h : History) → Told b h (run b s h)
-  told s e h = record {
+  follows : (s : State) → s ≡ stateOf b [] → (h : History) → FollowsList b h (run b s h)
+  follows s e h = record {
     state = run-is s e h;
     answers = λ c. ap (λ (u : State). answer b u c) (run-is s e h) ∙ answer-is h c;
     marks = λ i. subst (λ (u : State). wrongMark (getD (u .marks) i 0) ≡ false) (sym (run-is s e h)) (right h i);
@@ -384,4 +384,4 @@ opens o b symbols marks = go (blockRefusal o (length symbols) (length marks)) re
 pub from-the-list : FromTheList
 from-the-list o b symbols marks q h =
     let O = opens o b symbols marks q in
-    told b (O .1) (opened (openOf o symbols marks)) (O .2 ∙ sym (open-is b (O .1))) h
+    follows b (O .1) (opened (openOf o symbols marks)) (O .2 ∙ sym (open-is b (O .1))) h

@@ -15,7 +15,7 @@ use Rattle.ccsds.specs.Refusals.{Outcome, refused, answered, refusedFor}
 use Rattle.block.specs.Block.{checks}
 use Rattle.block.specs.Status.{missingMark, heardMark, filledMark, wrongMark}
 use Rattle.block.specs.Open.{Open, openOf}
-use Rattle.block.specs.Take.{Placed, Arrival, kept, repeated, admission, sameBytes, takeOf}
+use Rattle.block.specs.Take.{AdmittedUnit, TakeResult, kept, repeated, admission, sameBytes, takeOf}
 use Rattle.block.specs.Close.{Report, reportOf, wrongWork, closeOf}
 use Rattle.block.specs.declared.Block.{Block}
 
@@ -34,7 +34,7 @@ pub record State : Type 0 where
   pub marks : List ℕ
 
 pub data Answer : Type 0 where
-  taken : Outcome Arrival → Answer
+  taken : Outcome TakeResult → Answer
   closed : Outcome Report → Answer
 
 -- ---- call by call
@@ -64,11 +64,11 @@ module _ (b : Block) where
 -- ---- from the list alone
 
 -- the unit is admitted at position i
-unfoldable pub isAt : Outcome Placed → ℕ → Bool
+unfoldable pub isAt : Outcome AdmittedUnit → ℕ → Bool
 isAt (refused number) i = false
 isAt (answered x) i = eqb (x .position) i
 
-unfoldable pub symbolOf : Outcome Placed → List ℕ
+unfoldable pub symbolOf : Outcome AdmittedUnit → List ℕ
 symbolOf (refused number) = []
 symbolOf (answered x) = x .symbol
 
@@ -116,7 +116,7 @@ module _ (b : Block) where
   }
 
   -- the number of a unit that isn't admitted; the first admitted one for a position is kept, a later one repeated or 12
-  abbrev pub takeAnswer : History → Outcome Placed → Outcome Arrival
+  abbrev pub takeAnswer : History → Outcome AdmittedUnit → Outcome TakeResult
   takeAnswer h (refused number) = refused number
   takeAnswer h (answered x) =
       cond (heardAt h (x .position))
@@ -133,7 +133,7 @@ module _ (b : Block) where
 -- ---- the claim
 
 -- state s after the calls of h is what the list says, and so is the answer to every further call; no mark is one that 11 refuses
-pub record Told (b : Block) (h : History) (s : State) : Type 0 where
+pub record FollowsList (b : Block) (h : History) (s : State) : Type 0 where
   pub state : s ≡ stateOf b h
   pub answers : (c : Call) → answer b s c ≡ answerOf b h c
   pub marks : (i : ℕ) → wrongMark (getD (s .marks) i 0) ≡ false
@@ -141,4 +141,4 @@ pub record Told (b : Block) (h : History) (s : State) : Type 0 where
 -- for every record that open returned, whatever the buffers held before, and every list of calls
 abbrev pub FromTheList : Type 0
 FromTheList = (o b : Block) (symbols marks : List ℕ) → openOf o symbols marks .answer ≡ answered b
-    → (h : History) → Told b h (run b (opened (openOf o symbols marks)) h)
+    → (h : History) → FollowsList b h (run b (opened (openOf o symbols marks)) h)

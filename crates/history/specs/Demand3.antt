@@ -15,7 +15,7 @@ use Rattle.ccsds.specs.Refusals.{answered}
 use Rattle.block.specs.Block.{checks}
 use Rattle.block.specs.Status.{missingMark, heardMark, filledMark}
 use Rattle.block.specs.Open.{openOf}
-use Rattle.block.specs.Take.{Placed, kept, admission}
+use Rattle.block.specs.Take.{AdmittedUnit, kept, admission}
 use Rattle.block.specs.Close.{Report}
 use Rattle.history.specs.Calls.{takeUnit, closeWith, History, State, taken, closed, opened, answer, run, heardAt, keptAt}
 use Rattle.block.specs.declared.Block.{Block}
@@ -54,8 +54,8 @@ module _ (b : Block) (h : History) where
   -- a take after the calls of h, from state s to state t: it is kept exactly when its unit is admitted at a position not yet heard,
   -- and the unit's symbol then stands there as heard
   pub record Takes (unit : List ℕ) (s t : State) : Type 0 where
-    pub keeps : (answer b s (takeUnit unit) ≡ taken (answered kept)) ↔ ((x : Placed) × (admission b unit ≡ answered x) × (heardAt b h (x .position) ≡ false))
-    pub stores : (x : Placed) → admission b unit ≡ answered x → heardAt b h (x .position) ≡ false
+    pub keeps : (answer b s (takeUnit unit) ≡ taken (answered kept)) ↔ ((x : AdmittedUnit) × (admission b unit ≡ answered x) × (heardAt b h (x .position) ≡ false))
+    pub stores : (x : AdmittedUnit) → admission b unit ≡ answered x → heardAt b h (x .position) ≡ false
         → (getD (t .marks) (x .position) 0 ≡ heardMark) × (symbolAt (b .w) (t .symbols) (x .position) ≡ x .symbol)
 
 -- for every record that open returned, every list of calls, and every close after it that is not refused

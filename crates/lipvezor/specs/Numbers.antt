@@ -10,7 +10,7 @@ use lib.ListN.{length}
 use Rattle.algebra.specs.Closing.{Verdict, whole, ambiguous, inconsistent}
 use Rattle.ccsds.specs.Refusals.{Outcome, refused, answered}
 use Rattle.ccsds.specs.Reader.{Coding, Parts}
-use Rattle.block.specs.Take.{Arrival, kept, repeated}
+use Rattle.block.specs.Take.{TakeResult, kept, repeated}
 use Rattle.block.specs.Close.{Report}
 use Rattle.block.specs.declared.Block.{Block}
 
@@ -47,7 +47,7 @@ copiedBytes out shown = cond (eqb (length out) (length shown)) (length shown) 0
 
 -- ---- take
 
-abbrev pub takenNumber : Outcome Arrival → ℕ
+abbrev pub takenNumber : Outcome TakeResult → ℕ
 takenNumber (refused number) = number
 takenNumber (answered kept) = 0
 takenNumber (answered repeated) = 100

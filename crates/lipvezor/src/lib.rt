@@ -218,7 +218,7 @@ pub extern "C" fn lipvezor_open(
         lsc,
     };
     match block::open::open(b, symbols, marks) {
-        Opened::Fresh(_) => 0,
+        Opened::Record(_) => 0,
         Opened::Refused(number) => number,
     }
 }
@@ -291,7 +291,7 @@ pub extern "C" fn lipvezor_close(
     };
     match block::close::close(b, symbols, marks, words, bytes) {
         Closed::Refused(number) => number,
-        Closed::Told(told) => {
+        Closed::Reported(told) => {
             let verdict = told.verdict;
             *counts = [told.heard, told.filled, told.left];
             verdict_number(verdict)

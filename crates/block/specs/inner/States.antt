@@ -10,11 +10,11 @@ use Rattle.block.specs.Status.{statusOf, isHeard, markAfter}
 use Rattle.block.specs.declared.Block.{Block}
 
 -- told: 1 where the symbol is known, else 0
-pub record Told (b : Block) (marks states : List ℕ) : Type 0 where
+pub record StatesAre (b : Block) (marks states : List ℕ) : Type 0 where
   pub size : length states ≡ length marks
   pub each : (i : ℕ) → i < length marks → getD states i 0 ≡ cond (isHeard (statusOf b marks i)) 1 0
 
 -- the marks by status and by what the decoder told: 2 where a symbol is determined
-pub record Marked (b : Block) (marks states marks′ : List ℕ) : Type 0 where
+pub record MarksAre (b : Block) (marks states marks′ : List ℕ) : Type 0 where
   pub size : length marks′ ≡ length marks
   pub each : (i : ℕ) → i < length marks → getD marks′ i 0 ≡ markAfter (statusOf b marks i) (eqb (getD states i 0) 2)

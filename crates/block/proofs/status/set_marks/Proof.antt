@@ -1,6 +1,7 @@
 -- `block::status::set_marks` meets its contract: after i turns, the first i marks are set.
 -- Assumes nothing.
-use Prim.Native.Nat.{_-_, _≤_}
+use mathlib.Core.Path.{ap, _∙_}
+use Prim.Native.Nat.{ℕ, _-_, _≤_}
 use native.Mathlib.Omega.{arith}
 use lib.Dec.{eqb}
 use lib.ListN.{length, getD}
@@ -38,7 +39,13 @@ loop-less : tie.Need-loop-less Inv-loop μ-loop
 loop-less c = omega arith
 
 loop-again : tie.Need-loop-again Inv-loop μ-loop
-loop-again c = let l = c .before .before .before .before .loop in (omega arith, changed-more _ (l .inv .1) (omega arith) ?)
+loop-again c =
+    let l = c .before .before .before .before .loop in
+    let states = c .before .before .before .before .before .before .before .args .states .now in (
+      omega arith,
+      changed-more _ (l .inv .1) (omega arith)
+          (c .after .ensures ∙ ap (λ (v : ℕ). markAfter (statusBy v) (eqb (getD states (l .i) 0) 2)) (l .inv .1 .rest (l .i) (omega arith))),
+    )
 
 same-length : tie.Need-same-length Inv-loop μ-loop
 same-length c = c .before .loop .inv .1 .size

@@ -1,16 +1,11 @@
 -- `block::status::state` meets its contract, by the status.
 -- Assumes nothing.
-use mathlib.Core.Path.{_≡_, sym, ap, _∙_}
+use mathlib.Core.Path.{sym, ap, _∙_}
 use mathlib.Core.Bool.{cond}
-use Prim.Native.Nat.{ℕ}
-use Rattle.block.specs.Status.{Status, heard, missing, statusBy, isHeard, statusAs}
+use Rattle.block.specs.Status.{Status, isHeard, statusAs}
 use borrow.Author.Needs.{needs}
 use Rattle.block.proofs.status.state.Statement.{statement}
 use Rattle.block.proofs.status.state.Tie as tie
-
--- by the status
-stateBy : Status → ℕ
-stateBy s = cond (isHeard s) 1 0
 
 of-requires : tie.Need-of-requires
 of-requires c κs = search needs
@@ -22,10 +17,10 @@ enum-told-2 : tie.Need-enum-told-2
 enum-told-2 c = search needs
 
 returns : tie.Need-returns
-returns c = ?
+returns c = ap (λ (s : Status). cond (isHeard s) 1 0) (sym (ap statusAs (c .enum-told .given .1)) ∙ c .before .before .of .ensures)
 
 returns-2 : tie.Need-returns-2
-returns-2 c = ?
+returns-2 c = ap (λ (s : Status). cond (isHeard s) 1 0) (sym (ap statusAs (c .enum-told2 .given .1)) ∙ c .before .before .of .ensures)
 
 pub state-spec : {M : Type 1} → statement M
 state-spec = tie.close (tie.spec of-requires enum-told enum-told-2 returns returns-2)

@@ -10,7 +10,7 @@ use Rattle.algebra.proofs.Codeword.{slot}
 use Rattle.ccsds.specs.Refusals.{Outcome, refused, answered}
 use Rattle.ccsds.proofs.Refusals.{width-right}
 use Rattle.block.specs.Block.{checks, blockRefusal}
-use Rattle.block.specs.Take.{Arrival, Take, admission, arrival, takeOf}
+use Rattle.block.specs.Take.{TakeResult, Take, admission, takeSymbol, takeOf}
 use Rattle.block.specs.inner.Steps.{admittedAs}
 use Rattle.block.specs.declared.Block.{Block}
 use Rattle.block.proofs.BlockRefusal.{block-right}
@@ -37,14 +37,14 @@ module _ (b : Block) (symbols marks unit : List ℕ) (position start : ℕ) (z :
       let l = block-right b (length symbols) (length marks) z in
       (omega (arith, i .position, l .2), (omega (arith, slot position (checks b .n) (b .w) (i .position), l .1), ap length rest ∙ i .size))
 
-  through : {a : Outcome Arrival} {s m : List ℕ}
-      → (a ≡ arrival b symbols marks (record { position = position; symbol = take (length unit - start) (drop start unit) }) .answer)
-      × ((s ≡ arrival b symbols marks (record { position = position; symbol = take (length unit - start) (drop start unit) }) .symbols)
-      × (m ≡ arrival b symbols marks (record { position = position; symbol = take (length unit - start) (drop start unit) }) .marks))
+  through : {a : Outcome TakeResult} {s m : List ℕ}
+      → (a ≡ takeSymbol b symbols marks (record { position = position; symbol = take (length unit - start) (drop start unit) }) .answer)
+      × ((s ≡ takeSymbol b symbols marks (record { position = position; symbol = take (length unit - start) (drop start unit) }) .symbols)
+      × (m ≡ takeSymbol b symbols marks (record { position = position; symbol = take (length unit - start) (drop start unit) }) .marks))
       → (a ≡ takeOf b symbols marks unit .answer) × ((s ≡ takeOf b symbols marks unit .symbols) × (m ≡ takeOf b symbols marks unit .marks))
   through {a} {s} {m} q =
       subst (λ (t : Take). (a ≡ t .answer) × ((s ≡ t .symbols) × (m ≡ t .marks)))
-      (ap (λ (y : List ℕ). arrival b symbols marks (record { position = position; symbol = y })) rest
+      (ap (λ (y : List ℕ). takeSymbol b symbols marks (record { position = position; symbol = y })) rest
       ∙ sym (take-by b symbols marks unit (answered (record { position = position; symbol = drop start unit })) z e)) q
 
 zero : (c : tie.Else1) → let a = c .before .before .before .before .before .args in blockRefusal (a .b) (length (a .symbols .now)) (length (a .marks .now)) ≡ 0
@@ -71,23 +71,23 @@ enum-known-number c = search needs
 enum-known-position : tie.Need-enum-known-position
 enum-known-position c = search needs
 
-sub-arrive : tie.Need-sub-arrive
-sub-arrive c =
+sub-take-symbol : tie.Need-sub-take-symbol
+sub-take-symbol c =
     let k = c .before .before in
     let a = k .before .before .before .before .before .before .before .before .before .args in
     within (a .b) (a .symbols .now) (a .marks .now) (a .unit .now) _ _ (zero (k .before .before .before .before)) (let-in k)
 
-part-arrive-start : tie.Need-part-arrive-start
-part-arrive-start c =
+part-take-symbol-start : tie.Need-part-take-symbol-start
+part-take-symbol-start c =
     let k = c .before .before in
     let a = k .before .before .before .before .before .before .before .before .before .args in
     within (a .b) (a .symbols .now) (a .marks .now) (a .unit .now) _ _ (zero (k .before .before .before .before)) (let-in k)
 
-part-arrive-end : tie.Need-part-arrive-end
-part-arrive-end c = search needs
+part-take-symbol-end : tie.Need-part-take-symbol-end
+part-take-symbol-end c = search needs
 
-arrive-requires : tie.Need-arrive-requires
-arrive-requires c κs =
+take-symbol-requires : tie.Need-take-symbol-requires
+take-symbol-requires c κs =
     let k = c .before .before .before in
     let a = k .before .before .before .before .before .before .before .before .before .args in
     room (a .b) (a .symbols .now) (a .marks .now) (a .unit .now) _ _ (zero (k .before .before .before .before)) (let-in k)
@@ -108,7 +108,7 @@ returns-3 : tie.Need-returns-3
 returns-3 c =
     let k = c .before .before .before .before .before .before .before .before in
     let a = k .before .before .before .before .before .before .before .before .before .args in
-    through (a .b) (a .symbols .now) (a .marks .now) (a .unit .now) _ _ (zero (k .before .before .before .before)) (let-in k) (c .before .before .before .before .arrive .ensures)
+    through (a .b) (a .symbols .now) (a .marks .now) (a .unit .now) _ _ (zero (k .before .before .before .before)) (let-in k) (c .before .before .before .before .take-symbol .ensures)
 
 pub take-spec : {M : Type 1} → statement M
 take-spec =
@@ -119,10 +119,10 @@ take-spec =
     admit-requires
     enum-known-number
     enum-known-position
-    sub-arrive
-    part-arrive-start
-    part-arrive-end
-    arrive-requires
+    sub-take-symbol
+    part-take-symbol-start
+    part-take-symbol-end
+    take-symbol-requires
     returns-2
     same-length
     same-length-2

@@ -1,13 +1,14 @@
--- `block::status::tell` meets its contract: after i turns, the first i positions are told.
+-- `block::status::put_states` meets its contract: after i turns, the first i positions are told.
 -- Assumes nothing.
+use mathlib.Core.Path.{sym, _∙_}
 use mathlib.Core.Bool.{cond}
 use Prim.Native.Nat.{_-_, _≤_}
 use native.Mathlib.Omega.{arith}
 use lib.ListN.{length, getD}
 use Rattle.algebra.proofs.Fronts.{Filled, filled-none, filled-more}
 use Rattle.block.specs.Status.{statusBy, isHeard}
-use Rattle.block.proofs.status.tell.Statement.{statement}
-use Rattle.block.proofs.status.tell.Tie as tie
+use Rattle.block.proofs.status.put_states.Statement.{statement}
+use Rattle.block.proofs.status.put_states.Tie as tie
 
 abbrev Inv-loop : tie.InvT-loop
 Inv-loop marks states₀ i₀ states i = (i ≤ length marks) × Filled (λ k. cond (isHeard (statusBy (getD marks k 0))) 1 0) (length marks) i states
@@ -37,13 +38,13 @@ loop-again : tie.Need-loop-again Inv-loop μ-loop
 loop-again c = let l = c .before .before .before .loop in (omega arith, filled-more (l .inv .1) (omega arith) (c .state .ensures))
 
 same-length : tie.Need-same-length Inv-loop μ-loop
-same-length c = ?
+same-length c = c .before .loop .inv .1 .size ∙ sym (c .before .before .before .before .pre)
 
 returns : tie.Need-returns Inv-loop μ-loop
 returns c = let l = c .before .loop in record { size = l .inv .1 .size; each = λ i h. l .inv .1 .each i (omega arith) }
 
-pub tell-spec : {M : Type 1} → statement M
-tell-spec =
+pub put-states-spec : {M : Type 1} → statement M
+put-states-spec =
     tie.close
     (tie.spec
     Inv-loop

@@ -1,4 +1,4 @@
--- `block::close::tell` meets its contract: no mark is above 2, so what is neither heard nor filled is left.
+-- `block::close::make_report` meets its contract: no mark is above 2, so what is neither heard nor filled is left.
 -- Assumes nothing.
 use mathlib.Core.Path.{_≡_}
 use Prim.Native.Nat.{_+_, _-_}
@@ -9,8 +9,8 @@ use Rattle.algebra.proofs.Counts.{count-all}
 use Rattle.block.specs.Close.{verdictAs}
 use Rattle.block.proofs.Closing.{told}
 use borrow.Author.Needs.{needs}
-use Rattle.block.proofs.close.tell.Statement.{statement}
-use Rattle.block.proofs.close.tell.Tie as tie
+use Rattle.block.proofs.close.make_report.Statement.{statement}
+use Rattle.block.proofs.close.make_report.Tie as tie
 
 -- the marks are all counted
 all : (c : tie.After-count-marks) → c .count-marks .result .heard + c .count-marks .result .filled + count 0 (c .before .before .args .marks .now) ≡ length (c .before .before .args .marks .now)
@@ -37,6 +37,6 @@ returns c =
     let left : length (a .marks .now) - r .heard - r .filled ≡ count 0 (a .marks .now) = omega (arith, all (c .before)) in
     told (verdictAs (c .verdict-by .result)) (a .ok) (r .heard) (r .filled) _ (a .marks .now) (c .verdict-by .ensures) (c .before .count-marks .ensures .0) (c .before .count-marks .ensures .1) left
 
-pub tell-spec : {M : Type 1} → statement M
-tell-spec =
+pub make-report-spec : {M : Type 1} → statement M
+make-report-spec =
     tie.close (tie.spec count-marks-requires sub-left sub-left-2 verdict-by-requires returns)
