@@ -296,7 +296,7 @@ module _ (b : Block) (r : Right b) where
           marks = marksAfter b (stateOf b h .symbols) (stateOf b h .marks);
         })
         (stateOf b (closeWith words bytes ∷ h))
-    unfolding markOf byteOf marksAfter symbolsAfter filledByte known heardAt keptAt latest
+    unfolding markOf byteOf marksAfter symbolsAfter filledByte agreeingWith known heardAt keptAt latest
     closed-state t =
         state-is (closeWith words bytes ∷ h) (record { symbols = symbolsAfter b s m; marks = marksAfter b s m })
         (length-symbols (checks b) (b .w) (known b m) s) (length-tab (checks b .n) _)
