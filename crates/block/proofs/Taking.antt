@@ -1,20 +1,19 @@
 -- The refusals of a unit row by row, what is known of one that is admitted, and the ways of a take.
 -- Assumes nothing.
 use mathlib.Core.Path.{_≡_, refl, sym, ap, _∙_, subst}
-use mathlib.Core.Bool.{true, false, not, cond}
+use mathlib.Core.Bool.{true, false, cond}
 use mathlib.Core.List.{List}
 use Prim.Native.Nat.{ℕ, zero, suc, _-_, _*_, _≤_, _<_}
 use native.Mathlib.Omega.{arith}
-use lib.Dec.{eqb, ltb}
 use lib.ListN.{length, getD, drop, set, length-drop}
-use borrow.Author.Tests.{lt-ltb, le-ltb, ltb-false, eq-eqb, ne-eqb, eqb-false, eqb-true, not-false}
+use borrow.Author.Tests.{lt-ltb, le-ltb, ne-eqb}
 use Rattle.ccsds.specs.Codes.{nOf}
 use Rattle.ccsds.specs.Tables.{codeOf}
 use Rattle.ccsds.specs.RefusalTable as refusal
-use Rattle.ccsds.specs.Refusals.{wrongPosition, wrongSymbol, Outcome, refused, answered, outcome, _⟫_}
+use Rattle.ccsds.specs.Refusals.{wrongLength, wrongPosition, Outcome, refused, answered, outcome, _⟫_}
 use Rattle.ccsds.specs.Reader.{Parts, readUnit}
 use Rattle.ccsds.proofs.RefusalOrder.{in-order, first-is, first-on, first-end, first-none}
-use Rattle.ccsds.proofs.Refusals.{or-false, refused-by, answered-by}
+use Rattle.ccsds.proofs.Refusals.{position-right, length-right, length-same, length-wrong, refused-by, answered-by}
 use Rattle.block.specs.Block.{checks, blockRefusal}
 use Rattle.block.specs.Status.{wrongMark, Status, heard, missing, statusOf}
 use Rattle.algebra.specs.Codeword.{symbolAt}
@@ -45,15 +44,15 @@ module _ (b : Block) (p : Parts) (len : ℕ) where
         inside = ap (λ (n : ℕ). wrongPosition n (p .lwc)) (checks-n b) ∙ position
 
         pub symbol-refused : (len - p .symbol ≡ b .w → ⊥) → 10 ≡ unitRefusal b p len
-        unfolding unitRefusal wrongSymbol
+        unfolding unitRefusal
         symbol-refused h =
-            sym (in-order _ refl ∙ first-on _ _ _ parameters ∙ first-on _ _ _ own ∙ first-on _ _ _ inside ∙ first-is _ _ _ (ap not (ne-eqb (len - p .symbol) (b .w) h)))
+            sym (in-order _ refl ∙ first-on _ _ _ parameters ∙ first-on _ _ _ own ∙ first-on _ _ _ inside ∙ first-is _ _ _ (length-wrong (len - p .symbol) (b .w) h))
 
         pub unit-admitted : len - p .symbol ≡ b .w → 0 ≡ unitRefusal b p len
-        unfolding unitRefusal wrongSymbol
+        unfolding unitRefusal
         unit-admitted h =
             sym (in-order _ refl ∙ first-on _ _ _ parameters ∙ first-on _ _ _ own ∙ first-on _ _ _ inside
-            ∙ first-on _ _ _ (ap not (eq-eqb (len - p .symbol) (b .w) h)) ∙ first-end)
+            ∙ first-on _ _ _ (length-same (len - p .symbol) (b .w) h) ∙ first-end)
 
 -- ---- an admitted unit
 
@@ -68,15 +67,14 @@ pub record Fitting (b : Block) (p : Parts) (len : ℕ) : Type 0 where
   pub symbol : len - p .symbol ≡ b .w
 
 pub fitting : (b : Block) (p : Parts) (len : ℕ) → unitRefusal b p len ≡ 0 → Fitting b p len
-unfolding unitRefusal wrongPosition wrongSymbol
+unfolding unitRefusal
 fitting b p len z =
     let a1 = first-none refusal.parameters (wrongParameters b (p .coding)) _ (sym (in-order _ refl) ∙ z) in
     let a2 = first-none refusal.foreign (foreign b p) _ (a1 .1) in
     let a3 = first-none refusal.position (wrongPosition (checks b .n) (p .lwc)) _ (a2 .1) in
-    let a4 = first-none refusal.symbol (wrongSymbol (len - p .symbol) (b .w)) _ (a3 .1) in
-    let l = or-false (eqb (p .lwc) 0) (ltb (checks b .n) (p .lwc)) (a3 .0) in
-    let nz : p .lwc ≡ 0 → ⊥ = eqb-false (p .lwc) 0 (l .0) in
-    record { above = omega arith; most = ltb-false (checks b .n) (p .lwc) (l .1); symbol = eqb-true _ _ (not-false _ (a4 .0)) }
+    let a4 = first-none refusal.symbol (wrongLength (len - p .symbol) (b .w)) _ (a3 .1) in
+    let l = position-right (checks b .n) (p .lwc) (a3 .0) in
+    record { above = l .0; most = l .1; symbol = length-right _ _ (a4 .0) }
 
 unit-right : (b : Block) (p : Parts) (unit : List ℕ) → unitRefusal b p (length unit) ≡ 0
     → Inside b (record { position = p .lwc - 1; symbol = drop (length unit - b .w) unit })

@@ -8,7 +8,7 @@ use lib.Dec.{eqb}
 use lib.ListN.{length, getD, take, drop, set}
 use Rattle.ccsds.specs.Tables.{codeOf}
 use Rattle.ccsds.specs.RefusalTable as refusal
-use Rattle.ccsds.specs.Refusals.{firstOf, wrongPosition, wrongSymbol, Outcome, refused, answered, outcome, _⟫_, refusedFor}
+use Rattle.ccsds.specs.Refusals.{firstOf, wrongLength, wrongPosition, Outcome, refused, answered, outcome, _⟫_, refusedFor}
 use Rattle.ccsds.specs.Reader.{Coding, Parts, readUnit}
 use Rattle.block.specs.Block.{checks, blockRefusal}
 use Rattle.block.specs.Status.{heardMark, wrongMark, Status, heard, missing, statusOf}
@@ -35,7 +35,7 @@ unitRefusal b p len =
     (refusal.parameters, wrongParameters b (p .coding))
     ∷ (refusal.foreign, foreign b p)
     ∷ (refusal.position, wrongPosition (checks b .n) (p .lwc))
-    ∷ (refusal.symbol, wrongSymbol (len - p .symbol) (b .w))
+    ∷ (refusal.symbol, wrongLength (len - p .symbol) (b .w))
     ∷ []
     )
 

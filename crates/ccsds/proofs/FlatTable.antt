@@ -12,7 +12,7 @@ use lib.Seq.{getD-drop}
 use borrow.Author.Tests.{ne-eqb}
 use Rattle.ccsds.specs.Codes.{Params}
 use Rattle.ccsds.specs.Tables.{codeOf, codeIn, codes, c0, c1, c2}
-use Rattle.ccsds.specs.inner.Layout.{Given, Small, degreeOf, startOf, joined}
+use Rattle.ccsds.specs.inner.Layout.{LayoutOf, Small, degreeOf, startOf, joined}
 use Rattle.ccsds.specs.declared.tables.Layout.{Layout}
 use Rattle.ccsds.proofs.Table.{every, at, both-left, both-right}
 
@@ -48,7 +48,7 @@ right c r row l = eqb (length l) (degreeOf r row) && prefix l (drop (startOf r r
 
 -- the test of a code's numbers against its table
 pub given : (c : Params) (r : Layout) → r .k ≡ c .k → r .m ≡ c .m → r .q ≡ c .q → r .a ≡ c .a → r .rows ≡ length (c .rows) → Small r → length (c .rows) ≤ 64 → r .k + r .m ≤ 3072 → length (joined (c .rows)) ≤ 512
-    → T (every (right c r) 0 (c .rows)) → Given c r
+    → T (every (right c r) 0 (c .rows)) → LayoutOf c r
 given c r k m q a rs sm sh few fl t =
     record { k = k; m = m; q = q; a = a; rows = rs; small = sm; short = sh; few = few; flat = fl; laid = laid; degree = λ row h. eqb→eq _ _ (long row h) }
   where

@@ -13,7 +13,7 @@ use Rattle.ccsds.specs.RefusalTable.{Refusal}
 use Rattle.ccsds.specs.RefusalTable as refusal
 use Rattle.ccsds.specs.Refusals.{Outcome, refused, answered, _⟫_}
 use Rattle.wire.specs.Sdnv.{Number, Reading, finished, unfinished, wrong, numberAt}
-use Rattle.ccsds.specs.Reader.{numberOr, Coding, Said, Parts, lengthAt, codingOf, valueOf, wrongType, extensionAt, isSome, oneMore, extensionsOf, wrongHeader, readUnit}
+use Rattle.ccsds.specs.Reader.{numberOr, Coding, ExtensionsRead, Parts, lengthAt, codingOf, valueOf, wrongType, extensionAt, isSome, oneMore, extensionsOf, wrongHeader, readUnit}
 use Rattle.wire.specs.Bytes.{part, pairAt}
 use Rattle.ccsds.proofs.Refusals.{or-false, never, the-answer, of-steps, of-test}
 use Rattle.wire.proofs.SdnvLaws.{Fine, is-fine}
@@ -50,26 +50,26 @@ of-length s at {x} e =
 -- ---- extensions
 
 -- an extension's answer, by whether it is a type 1
-abbrev chosen : Bool → Outcome Coding → ℕ → Outcome Said
+abbrev chosen : Bool → Outcome Coding → ℕ → Outcome ExtensionsRead
 chosen t r e = cond t (r ⟫ λ p. answered (record { coding = some p; end = e })) (answered (record { coding = none; end = e }))
 
-chosen-ends : (t : Bool) (r : Outcome Coding) (e : ℕ) {x : Said} → chosen t r e ≡ answered x → x .end ≡ e
+chosen-ends : (t : Bool) (r : Outcome Coding) (e : ℕ) {x : ExtensionsRead} → chosen t r e ≡ answered x → x .end ≡ e
 chosen-ends true (refused n) e h = absurd (never h)
-chosen-ends true (answered p) e h = sym (ap (λ (y : Said). y .end) (the-answer h))
-chosen-ends false r e h = sym (ap (λ (y : Said). y .end) (the-answer h))
+chosen-ends true (answered p) e h = sym (ap (λ (y : ExtensionsRead). y .end) (the-answer h))
+chosen-ends false r e h = sym (ap (λ (y : ExtensionsRead). y .end) (the-answer h))
 
-chosen-coding : (t : Bool) (r : Outcome Coding) (e : ℕ) {x : Said} {p : Coding} → chosen t r e ≡ answered x → x .coding ≡ some p → (t ≡ true) × (r ≡ answered p)
+chosen-coding : (t : Bool) (r : Outcome Coding) (e : ℕ) {x : ExtensionsRead} {p : Coding} → chosen t r e ≡ answered x → x .coding ≡ some p → (t ≡ true) × (r ≡ answered p)
 chosen-coding true (refused n) e h c = absurd (never h)
 chosen-coding true (answered q) e {p = p} h c =
-    let d = ap (λ (y : Said). y .coding) (the-answer h) ∙ c in
+    let d = ap (λ (y : ExtensionsRead). y .coding) (the-answer h) ∙ c in
     let z : q ≡ p = cc in
     (refl, ap answered z)
 chosen-coding false r e h c =
-    let d = ap (λ (y : Said). y .coding) (the-answer h) ∙ c in
+    let d = ap (λ (y : ExtensionsRead). y .coding) (the-answer h) ∙ c in
     absurd (let z : _≡_ {A = ℕ} 0 1 = cc in omega arith)
 
 -- the extension at a position
-pub record Read (s : List ℕ) (came : Bool) (at : ℕ) (x : Said) : Type 0 where
+pub record Read (s : List ℕ) (came : Bool) (at : ℕ) (x : ExtensionsRead) : Type 0 where
   pub len : Number
   pub here : at < length s
   pub type : wrongType came (getD s at 0) ≡ false
@@ -77,7 +77,7 @@ pub record Read (s : List ℕ) (came : Bool) (at : ℕ) (x : Said) : Type 0 wher
   pub end-is : x .end ≡ len .end + len .value
   pub coding-is : {p : Coding} → x .coding ≡ some p → (getD s at 0 ≡ 1) × (codingOf (part s (len .end) (len .end + len .value)) ≡ answered p)
 
-pub of-extension : (s : List ℕ) (came : Bool) (at : ℕ) {x : Said} → extensionAt s came at ≡ answered x → Read s came at x
+pub of-extension : (s : List ℕ) (came : Bool) (at : ℕ) {x : ExtensionsRead} → extensionAt s came at ≡ answered x → Read s came at x
 unfolding extensionAt valueOf
 of-extension s came at {x} e =
     let a = of-test refusal.extension (leb (length s) at) _ e in
@@ -95,14 +95,14 @@ of-extension s came at {x} e =
           (eqb-true (getD s at 0) 1 (d .0), d .1);
     }
 
-pub extensions-end : (s : List ℕ) (count : ℕ) {x : Said} → 6 ≤ length s → extensionsOf s count ≡ answered x → x .end ≤ length s
+pub extensions-end : (s : List ℕ) (count : ℕ) {x : ExtensionsRead} → 6 ≤ length s → extensionsOf s count ≡ answered x → x .end ≤ length s
 unfolding extensionsOf
 extensions-end s zero h e = rw (← the-answer e) h
 extensions-end s (suc count) {x} h e =
     let a = of-steps (extensionsOf s count) (oneMore s) e in
     let b = of-steps (extensionAt s (isSome (a .0 .coding)) (a .0 .end)) _ (a .2) in
     let r = of-extension s (isSome (a .0 .coding)) (a .0 .end) (b .1) in
-    let q : b .0 .end ≡ x .end = ap (λ (y : Said). y .end) (the-answer (b .2)) in
+    let q : b .0 .end ≡ x .end = ap (λ (y : ExtensionsRead). y .end) (the-answer (b .2)) in
     omega (arith, r .end-is, r .length-read .inside)
 
 -- ---- units
@@ -133,7 +133,7 @@ six-bytes s e = of-header s e .six
 
 -- a unit
 pub record UnitRead (s : List ℕ) (p : Parts) : Type 0 where
-  pub said : Said
+  pub said : ExtensionsRead
   pub header : Header s
   pub extensions : extensionsOf s (getD s 1 0) ≡ answered said
   pub parts-are : p ≡ record {

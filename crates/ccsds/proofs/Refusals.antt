@@ -11,7 +11,7 @@ use borrow.Author.Tests.{not-false, eq-eqb, ne-eqb, eqb-true, eqb-false, ltb-fal
 use Rattle.ccsds.specs.Tables.{codeOf, isCode, Known}
 use Rattle.ccsds.specs.RefusalTable.{Refusal}
 use Rattle.ccsds.specs.RefusalTable as refusal
-use Rattle.ccsds.specs.Refusals.{wrongCode, wrongWidth, wrongLabel, wrongLength, wrongPosition, wrongSymbol, codeConditions, labelConditions, encoderConditions, Outcome, refused, answered, _⟫_, refuseIf, outcome, afterwards, bytesOf}
+use Rattle.ccsds.specs.Refusals.{wrongCode, wrongWidth, wrongLabel, wrongLength, wrongPosition, codeConditions, labelConditions, encoderConditions, Outcome, refused, answered, _⟫_, refuseIf, outcome, afterwards, bytesOf}
 use Rattle.ccsds.proofs.RefusalOrder.{chain, parts-none, first-none}
 
 -- ---- the conditions
@@ -65,18 +65,6 @@ position-is-right n lwc h l = rw (ne-eqb lwc 0 (λ e. omega arith), le-ltb n lwc
 -- as a test of it finds it, by the number of symbols that was computed
 pub position-found : (lwc : ℕ) {m n : ℕ} {t : Bool} → n ≡ m → t ≡ wrongPosition n lwc → wrongPosition m lwc ≡ t
 position-found lwc e f = ap (λ (k : ℕ). wrongPosition k lwc) (sym e) ∙ sym f
-
-pub symbol-right : (have w : ℕ) → wrongSymbol have w ≡ false → have ≡ w
-unfolding wrongSymbol
-symbol-right have w e = eqb-true have w (not-false (eqb have w) e)
-
-pub symbol-same : (have w : ℕ) → have ≡ w → wrongSymbol have w ≡ false
-unfolding wrongSymbol
-symbol-same have w e = ap not (eq-eqb have w e)
-
-pub symbol-wrong : (have w : ℕ) → (have ≡ w → ⊥) → wrongSymbol have w ≡ true
-unfolding wrongSymbol
-symbol-wrong have w e = ap not (ne-eqb have w e)
 
 pub length-right : (have size : ℕ) → wrongLength have size ≡ false → have ≡ size
 unfolding wrongLength

@@ -9,12 +9,12 @@ use lib.ListN.{length, length-append}
 use Rattle.ccsds.specs.Codes.{Params, nOf}
 use Rattle.ccsds.specs.Tables.{codeOf, Known}
 use Rattle.ccsds.specs.RefusalTable as refusal
-use Rattle.ccsds.specs.Refusals.{labelConditions, wrongCode, wrongWidth, wrongLength, wrongPosition, wrongSymbol}
+use Rattle.ccsds.specs.Refusals.{labelConditions, wrongCode, wrongWidth, wrongLength, wrongPosition}
 use Rattle.wire.specs.Sdnv.{sdnvBytes}
 use Rattle.ccsds.specs.inner.Compact.{Compact}
 use Rattle.ccsds.specs.Writer.{headerOf, valueBytes, extensionOf, unitOf, symbolStart, unitLength, unitBytes, writeRefusal}
 use Rattle.ccsds.proofs.RefusalOrder.{in-order, parts-none, first-none}
-use Rattle.ccsds.proofs.Refusals.{code-known, width-right, label-right, length-right, position-right, symbol-right, label-none}
+use Rattle.ccsds.proofs.Refusals.{code-known, width-right, label-right, length-right, position-right, label-none}
 use Rattle.wire.proofs.SdnvRound.{most-five, in-one, two-long}
 use Rattle.ccsds.proofs.Valid.{valid-of}
 
@@ -69,12 +69,12 @@ writable number w protocol lsc lwc symbolLength outLength e =
     let b = label-none number w protocol lsc (a .0) in
     let c = first-none refusal.length (wrongLength outLength (unitLength (codeOf number) w)) _ (a .1) in
     let d = first-none refusal.position (wrongPosition (nOf (codeOf number)) lwc) _ (c .1) in
-    let f = first-none refusal.symbol (wrongSymbol symbolLength w) _ (d .1) in
+    let f = first-none refusal.symbol (wrongLength symbolLength w) _ (d .1) in
     record {
       known = code-known number (b .0);
       width = width-right w (b .1);
       label = label-right protocol lsc (b .2);
       position = position-right (nOf (codeOf number)) lwc (d .0);
       output = length-right outLength (unitLength (codeOf number) w) (c .0);
-      symbol = symbol-right symbolLength w (f .0);
+      symbol = length-right symbolLength w (f .0);
     }

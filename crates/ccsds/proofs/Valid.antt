@@ -12,7 +12,7 @@ use native.Mathlib.Omega.{arith}
 use lib.Dec.{T, lit<, lit≤, eqb, eqb→eq, ltb, ltb→lt, leb, leb→le, leb·suc-suc}
 use lib.ListN.{length, getD}
 use borrow.Author.Tests.{eq-eqb, ne-eqb, eqb-true, lt-ltb, le-ltb}
-use Rattle.ccsds.specs.Codes.{Params, nOf, rowOf, place, hits, touches}
+use Rattle.ccsds.specs.Codes.{Params, nOf, rowOf, checkRowOf, hits, touches}
 use Rattle.ccsds.specs.Tables.{codeOf, codeIn, codes, isCode, numberIn, Known, c0, c1, c2, rows1, rows2}
 use Rattle.ccsds.proofs.Table.{every, at, both-left, both-right}
 use Rattle.algebra.proofs.Sums.{odd, odd-ext, odd-none, odd-xor}
@@ -141,9 +141,9 @@ shift-apart m s y z hy hz e =
     let wz = wrapped m (z + s % m) (omega arith) in
     ⊎-elim (λ p. ⊎-elim (λ q. omega arith) (λ q. omega arith) wz) (λ p. ⊎-elim (λ q. omega arith) (λ q. omega arith) wz) wy
 
-place-apart : (c : Params) (x y z : ℕ) → y < c .m → z < c .m → place c x y ≡ place c x z → y ≡ z
-unfolding place
-place-apart c x y z = shift-apart (c .m) (x % c .q * c .a) y z
+check-row-apart : (c : Params) (x y z : ℕ) → y < c .m → z < c .m → checkRowOf c x y ≡ checkRowOf c x z → y ≡ z
+unfolding checkRowOf
+check-row-apart c x y z = shift-apart (c .m) (x % c .q * c .a) y z
 
 -- ---- so the addresses of a row touch different check rows
 
@@ -183,9 +183,9 @@ row-good : (c : Params) (v : Valid c) (x : ℕ) → x < c .k → T (good (c .m) 
 unfolding rowOf
 row-good c v x h = at (good (c .m)) [] (c .rows) (v .table) (x / c .q) (row-lt c v x h)
 
-pub row-apart : (c : Params) (v : Valid c) (x : ℕ) → x < c .k → Apart (place c x) (rowOf c x)
+pub row-apart : (c : Params) (v : Valid c) (x : ℕ) → x < c .k → Apart (checkRowOf c x) (rowOf c x)
 row-apart c v x h =
-    apart (c .m) (place c x) (place-apart c x) (rowOf c x) (both-left (below (c .m) (rowOf c x)) (distinct (rowOf c x)) (row-good c v x h))
+    apart (c .m) (checkRowOf c x) (check-row-apart c x) (rowOf c x) (both-left (below (c .m) (rowOf c x)) (distinct (rowOf c x)) (row-good c v x h))
     (both-right (below (c .m) (rowOf c x)) (distinct (rowOf c x)) (row-good c v x h))
 
 below-at : (m : ℕ) (ys : List ℕ) → T (below m ys) → (i : ℕ) → i < length ys → getD ys i 0 < m
@@ -236,6 +236,6 @@ hits-odd f (y ∷ ys) p j =
     ∙ odd-xor (suc j) (λ i. eqb (f y) i) (hits f ys)
     ∙ ap₂ xor (odd-eqb (f y) (suc j) ∙ leb·suc-suc (f y) j) (hits-odd f ys (p .1) j)
 
-pub touches-odd : (c : Params) (v : Valid c) (x : ℕ) → x < c .k → (j : ℕ) → odd (suc j) (touches c x) ≡ upTo (place c x) (rowOf c x) j
+pub touches-odd : (c : Params) (v : Valid c) (x : ℕ) → x < c .k → (j : ℕ) → odd (suc j) (touches c x) ≡ upTo (checkRowOf c x) (rowOf c x) j
 unfolding touches
-touches-odd c v x h j = hits-odd (place c x) (rowOf c x) (row-apart c v x h) j
+touches-odd c v x h j = hits-odd (checkRowOf c x) (rowOf c x) (row-apart c v x h) j

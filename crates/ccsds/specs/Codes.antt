@@ -25,8 +25,8 @@ unfoldable pub rowOf : Params → ℕ → List ℕ
 rowOf c x = getD (c .rows) (x / c .q) []
 
 -- the check row that information symbol x touches by address y
-unfoldable pub place : Params → ℕ → ℕ → ℕ
-place c x y = (y + x % c .q * c .a) % c .m
+unfoldable pub checkRowOf : Params → ℕ → ℕ → ℕ
+checkRowOf c x y = (y + x % c .q * c .a) % c .m
 
 -- some entry of the list goes to j by f
 unfoldable pub hits : (ℕ → ℕ) → List ℕ → ℕ → Bool
@@ -35,7 +35,7 @@ hits f (y ∷ ys) j = eqb (f y) j || hits f ys j
 
 -- information symbol x touches check row j
 unfoldable pub touches : Params → ℕ → ℕ → Bool
-touches c x j = hits (place c x) (rowOf c x) j
+touches c x j = hits (checkRowOf c x) (rowOf c x) j
 
 -- Check row j: all information symbols that touch j, p_j, and p_(j - 1) where j > 0. A codeword is n symbols for which every
 -- check row's sum is zero (`codeword` of algebra).

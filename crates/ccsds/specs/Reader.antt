@@ -33,7 +33,7 @@ pub record Coding : Type 0 where
   pub seed : ℕ
 
 -- what one extension or several say: the coding parameters, if a type 1 came, and the position after them
-pub record Said : Type 0 where
+pub record ExtensionsRead : Type 0 where
   pub coding : Option Coding
   pub end : ℕ
 
@@ -73,7 +73,7 @@ codingOf v =
     (answered (record { w = w .value; k = k .value; n = n .value; seed = seed .value }))
 
 -- the value of an extension of a type, from position a up to position e
-unfoldable pub valueOf : List ℕ → ℕ → ℕ → ℕ → Outcome Said
+unfoldable pub valueOf : List ℕ → ℕ → ℕ → ℕ → Outcome ExtensionsRead
 valueOf s type a e =
     cond (eqb type 1)
     (codingOf (part s a e) ⟫ λ p. answered (record { coding = some p; end = e }))
@@ -84,7 +84,7 @@ unfoldable pub wrongType : Bool → ℕ → Bool
 wrongType came type = eqb type 0 || eqb type 255 || came && eqb type 1
 
 -- one extension at a position: a type, a length, and that many value bytes
-unfoldable pub extensionAt : List ℕ → Bool → ℕ → Outcome Said
+unfoldable pub extensionAt : List ℕ → Bool → ℕ → Outcome ExtensionsRead
 extensionAt s came at =
     refuseIf refusal.extension (leb (length s) at)
     (refuseIf refusal.kind (wrongType came (getD s at 0))
@@ -102,13 +102,13 @@ after before none = before
 after before (some p) = some p
 
 -- one more extension
-abbrev pub oneMore : List ℕ → Said → Outcome Said
+abbrev pub oneMore : List ℕ → ExtensionsRead → Outcome ExtensionsRead
 oneMore s found =
     extensionAt s (isSome (found .coding)) (found .end) ⟫ λ x.
     answered (record { coding = after (found .coding) (x .coding); end = x .end })
 
 -- the first so many extensions of a unit
-unfoldable pub extensionsOf : List ℕ → ℕ → Outcome Said
+unfoldable pub extensionsOf : List ℕ → ℕ → Outcome ExtensionsRead
 extensionsOf s zero = answered (record { coding = none; end = 6 })
 extensionsOf s (suc count) = extensionsOf s count ⟫ oneMore s
 
@@ -147,7 +147,7 @@ abbrev pub extensionAs : Extension → Option Coding
 extensionAs (extension.Coding p) = some (fourAs p)
 extensionAs extension.PassedOver = none
 
-abbrev pub walkAs : Walk → Outcome Said
+abbrev pub walkAs : Walk → Outcome ExtensionsRead
 walkAs (walk.To x end) = answered (record { coding = extensionAs x; end = end })
 walkAs (walk.Refused n) = refused n
 

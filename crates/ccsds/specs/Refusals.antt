@@ -42,17 +42,13 @@ wrongWidth w = eqb w 0 || ltb 1024 w
 unfoldable pub wrongLabel : ℕ → ℕ → Bool
 wrongLabel protocol lsc = eqb lsc 0 || ltb 65534 lsc || ltb 7 protocol
 
--- 4, length: a buffer of `have` elements where `size` are asked for
+-- 4, length: a buffer of `have` elements where `size` are asked for; and 10, symbol: of `have` bytes where W are
 unfoldable pub wrongLength : ℕ → ℕ → Bool
 wrongLength have size = not (eqb have size)
 
 -- 9, position: of n
 unfoldable pub wrongPosition : ℕ → ℕ → Bool
 wrongPosition n lwc = eqb lwc 0 || ltb n lwc
-
--- 10, symbol: of `have` bytes
-unfoldable pub wrongSymbol : ℕ → ℕ → Bool
-wrongSymbol have w = not (eqb have w)
 
 -- ---- the parts of the table that more than one call uses
 

@@ -7,7 +7,7 @@ use lib.ListN.{length}
 use Rattle.ccsds.specs.Codes.{Params, nOf}
 use Rattle.ccsds.specs.Tables.{codeOf}
 use Rattle.ccsds.specs.RefusalTable as refusal
-use Rattle.ccsds.specs.Refusals.{firstOf, labelConditions, wrongCode, wrongWidth, wrongLength, wrongPosition, wrongSymbol, Outcome, refused, answered}
+use Rattle.ccsds.specs.Refusals.{firstOf, labelConditions, wrongCode, wrongWidth, wrongLength, wrongPosition, Outcome, refused, answered}
 use Rattle.wire.specs.Bytes.{twoBytes}
 use Rattle.wire.specs.Sdnv.{sdnvBytes}
 use Rattle.ccsds.specs.declared.writer.Written.{Written}
@@ -48,7 +48,7 @@ writeRefusal number w protocol lsc lwc symbolLength outLength =
     labelConditions number w protocol lsc
     ++ (refusal.length, wrongLength outLength (unitLength (codeOf number) w))
     ∷ (refusal.position, wrongPosition (nOf (codeOf number)) lwc)
-    ∷ (refusal.symbol, wrongSymbol symbolLength w)
+    ∷ (refusal.symbol, wrongLength symbolLength w)
     ∷ []
     )
 

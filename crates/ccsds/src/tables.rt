@@ -6,7 +6,7 @@ ghost use mathlib.Core.List.{[]};
 ghost use Prim.Native.Nat.{_<_, _≤_};
 ghost use lib.ListN.{length, getD};
 ghost use Rattle.ccsds.specs.Tables.{codeOf};
-ghost use Rattle.ccsds.specs.inner.Layout.{Given, Front, startIn};
+ghost use Rattle.ccsds.specs.inner.Layout.{LayoutOf, BeginsWith, startIn};
 
 // Table 4-2, row by row.
 const C1: [u16; 80] = [
@@ -63,7 +63,7 @@ pub struct Layout {
 
 // The layout of a code; all zero for a number that is no code's.
 pub fn layout_of(number: usize) -> Layout
-    ensures { λ r. ⌜ Given (codeOf number) r ⌝ }
+    ensures { λ r. ⌜ LayoutOf (codeOf number) r ⌝ }
 {
     match number {
         1 => Layout { k: Code::C1_K, m: Code::C1_M, q: 32, a: 8, rows: 16, long: 16, degree: 5, rest: 0 },
@@ -92,7 +92,7 @@ fn start(row: usize, long: usize, degree: usize, rest: usize) -> usize
 
 // How many addresses a table row has.
 pub fn row_degree(number: usize, l: Layout, row: usize) -> usize
-    requires { ⌜ Given (codeOf number) l ⌝ }
+    requires { ⌜ LayoutOf (codeOf number) l ⌝ }
     requires { ⌜ row < length (codeOf number .rows) ⌝ }
     ensures { λ r. ⌜ r ≡ length (getD (codeOf number .rows) row []) ⌝ }
 {
@@ -101,7 +101,7 @@ pub fn row_degree(number: usize, l: Layout, row: usize) -> usize
 
 // Address i of a table row.
 fn address(number: usize, l: Layout, row: usize, i: usize) -> usize
-    requires { ⌜ Given (codeOf number) l ⌝ }
+    requires { ⌜ LayoutOf (codeOf number) l ⌝ }
     requires { ⌜ row < length (codeOf number .rows) ⌝ }
     requires { ⌜ i < length (getD (codeOf number .rows) row []) ⌝ }
     ensures { λ r. ⌜ r ≡ getD (getD (codeOf number .rows) row []) i 0 ⌝ }
@@ -117,9 +117,9 @@ fn address(number: usize, l: Layout, row: usize, i: usize) -> usize
 // The addresses of a table row, at the front of an array. A read of a constant array copies all of it first, so that a loop over symbols
 // reads its row once, by this.
 pub fn addresses(number: usize, l: Layout, row: usize) -> [usize; 8]
-    requires { ⌜ Given (codeOf number) l ⌝ }
+    requires { ⌜ LayoutOf (codeOf number) l ⌝ }
     requires { ⌜ row < length (codeOf number .rows) ⌝ }
-    ensures { λ r. ⌜ Front (getD (codeOf number .rows) row []) r ⌝ }
+    ensures { λ r. ⌜ BeginsWith r (getD (codeOf number .rows) row []) ⌝ }
 {
     let mut ys = [0usize; 8];
     let n = row_degree(number, l, row);

@@ -10,7 +10,7 @@ ghost use lib.ListN.{length};
 ghost use Rattle.ccsds.specs.Tables.{codeOf};
 ghost use Rattle.ccsds.specs.Refusals.{outcome, afterwards};
 ghost use Rattle.ccsds.specs.Writer.{headerOf, valueBytes, extensionOf, unitOf, unitBytes, writeRefusal, writtenAs};
-ghost use Rattle.wire.specs.inner.Put.{Put};
+ghost use Rattle.wire.specs.inner.Appended.{Appended};
 ghost use Rattle.ccsds.specs.inner.Compact.{Compact};
 
 // The length of the coding parameters' value: k and n have two bytes each in every code, and the seed has one.
@@ -60,10 +60,12 @@ fn check_write(
         return earlier;
     }
     let code = Code { number };
-    if outLength != code.unit_bytes(w) {
+    let size = code.unit_bytes(w);
+    let misplaced = checks::wrong_position(code.n(), lwc);
+    if outLength != size {
         return refusal::LENGTH;
     }
-    if checks::wrong_position(code.n(), lwc) {
+    if misplaced {
         return refusal::POSITION;
     }
     if symbolLength != w {
@@ -74,7 +76,7 @@ fn check_write(
 
 fn put_header(out: &mut [u8], protocol: usize, lsc: usize, lwc: usize) -> usize
     requires { ⌜ (6 ≤ length (now out)) × (protocol < 8) × (lsc < 65536) × (lwc < 65536) ⌝ }
-    ensures { λ r. ⌜ Put (now (out .entry)) (now (out .exit)) 0 r (headerOf protocol lsc lwc) ⌝ }
+    ensures { λ r. ⌜ Appended (now (out .entry)) (now (out .exit)) 0 r (headerOf protocol lsc lwc) ⌝ }
 {
     let a = put::byte(out, 0, 16 + protocol * 2);
     let b = put::byte(out, a, 1);
@@ -85,7 +87,7 @@ fn put_header(out: &mut [u8], protocol: usize, lsc: usize, lwc: usize) -> usize
 fn put_value(out: &mut [u8], at: usize, w: usize, k: usize, n: usize) -> usize
     requires { ⌜ Compact w k n ⌝ }
     requires { ⌜ at + length (valueBytes w k n) ≤ length (now out) ⌝ }
-    ensures { λ r. ⌜ Put (now (out .entry)) (now (out .exit)) at r (valueBytes w k n) ⌝ }
+    ensures { λ r. ⌜ Appended (now (out .entry)) (now (out .exit)) at r (valueBytes w k n) ⌝ }
 {
     let a = put::sdnv(out, at, w);
     let b = put::sdnv_2(out, a, k);
@@ -96,7 +98,7 @@ fn put_value(out: &mut [u8], at: usize, w: usize, k: usize, n: usize) -> usize
 fn put_extension(out: &mut [u8], at: usize, w: usize, k: usize, n: usize) -> usize
     requires { ⌜ Compact w k n ⌝ }
     requires { ⌜ at + length (extensionOf w k n) ≤ length (now out) ⌝ }
-    ensures { λ r. ⌜ Put (now (out .entry)) (now (out .exit)) at r (extensionOf w k n) ⌝ }
+    ensures { λ r. ⌜ Appended (now (out .entry)) (now (out .exit)) at r (extensionOf w k n) ⌝ }
 {
     let a = put::byte(out, at, 1);
     let b = put::sdnv(out, a, value_bytes(w, k, n));

@@ -15,80 +15,80 @@ use Rattle.ccsds.specs.Codes.{Params}
 use Rattle.ccsds.specs.Tables.{codeOf, codes, Known, c1, c2, rows1, rows2}
 use Rattle.ccsds.proofs.Table.{every, at, upTo, in-range, both-left, both-right}
 use Rattle.ccsds.proofs.Valid.{Valid, each-of, some-a, address-lt}
-use Rattle.encoder.specs.inner.Positions.{Entry, classIn, classFrom, classOf, Lists, lists, entered, rowEntered, tableEntered, Is, Place, Laid, Counted}
+use Rattle.encoder.specs.inner.Positions.{Entry, classIn, classFrom, classOf, ClassArrays, classArrays, entered, rowEntered, tableEntered, ArraysAre, EntryBounds, ClassEntries, ClassCounts}
 use Rattle.encoder.proofs.Touched.{quotient-lt}
 
 -- ---- one address
 
 module _ (q a row y : ℕ) (f e n : List ℕ) where
-  pub entered-full : 64 ≤ getD n (y % a) 0 → Is (entered q a row y (lists f e n)) f e n
+  pub entered-full : 64 ≤ getD n (y % a) 0 → ArraysAre (entered q a row y (classArrays f e n)) f e n
   unfolding entered
   entered-full h = rw (le-ltb (getD n (y % a) 0) 64 h) (record { firsts = refl; ends = refl; counts = refl })
 
   pub entered-room : getD n (y % a) 0 < 64
-      → Is (entered q a row y (lists f e n)) (set f (y % a * 64 + getD n (y % a) 0) (row * q + q - y / a)) (set e (y % a * 64 + getD n (y % a) 0) (row * q + q))
+      → ArraysAre (entered q a row y (classArrays f e n)) (set f (y % a * 64 + getD n (y % a) 0) (row * q + q - y / a)) (set e (y % a * 64 + getD n (y % a) 0) (row * q + q))
       (set n (y % a) (getD n (y % a) 0 + 1))
   unfolding entered
   entered-room h = rw (lt-ltb (getD n (y % a) 0) 64 h) (record { firsts = refl; ends = refl; counts = refl })
 
 -- ---- the turns
 
-same-lists : {s : Lists} {f e n : List ℕ} → Is s f e n → lists f e n ≡ s
-same-lists {s} {f} {e} {n} h =
-    ap (λ (l : List ℕ). lists l e n) (h .firsts) ∙ ap (λ (l : List ℕ). lists (s .firsts) l n) (h .ends) ∙ ap (λ (l : List ℕ). lists (s .firsts) (s .ends) l) (h .counts)
+same-arrays : {s : ClassArrays} {f e n : List ℕ} → ArraysAre s f e n → classArrays f e n ≡ s
+same-arrays {s} {f} {e} {n} h =
+    ap (λ (l : List ℕ). classArrays l e n) (h .firsts) ∙ ap (λ (l : List ℕ). classArrays (s .firsts) l n) (h .ends) ∙ ap (λ (l : List ℕ). classArrays (s .firsts) (s .ends) l) (h .counts)
 
-module _ (c : Params) (row : ℕ) (s : Lists) where
+module _ (c : Params) (row : ℕ) (s : ClassArrays) where
   pub address-more : (i : ℕ) {q a y : ℕ} {f e n f′ e′ n′ : List ℕ} → q ≡ c .q → a ≡ c .a → y ≡ getD (getD (c .rows) row []) i 0
-      → Is (rowEntered c row i s) f e n → Is (entered q a row y (lists f e n)) f′ e′ n′ → Is (rowEntered c row (i + 1) s) f′ e′ n′
+      → ArraysAre (rowEntered c row i s) f e n → ArraysAre (entered q a row y (classArrays f e n)) f′ e′ n′ → ArraysAre (rowEntered c row (i + 1) s) f′ e′ n′
   unfolding rowEntered
   address-more i {q} {a} {y} {f} {e} {n} {f′} {e′} {n′} eq ea ey h g =
-      subst (λ (t : Lists). Is t f′ e′ n′)
-      (ap₂ (λ (k l : ℕ). entered k l row y (lists f e n)) eq ea ∙ ap₂ (λ (k : ℕ) (t : Lists). entered (c .q) (c .a) row k t) ey (same-lists h)
+      subst (λ (t : ClassArrays). ArraysAre t f′ e′ n′)
+      (ap₂ (λ (k l : ℕ). entered k l row y (classArrays f e n)) eq ea ∙ ap₂ (λ (k : ℕ) (t : ClassArrays). entered (c .q) (c .a) row k t) ey (same-arrays h)
       ∙ ap (λ (k : ℕ). rowEntered c row k s) (sym (add-one i))) g
 
-  pub address-all : (i k : ℕ) {f e n : List ℕ} → i ≡ k → Is (rowEntered c row i s) f e n → Is (rowEntered c row k s) f e n
-  address-all i k {f} {e} {n} h g = subst (λ (t : ℕ). Is (rowEntered c row t s) f e n) h g
+  pub address-all : (i k : ℕ) {f e n : List ℕ} → i ≡ k → ArraysAre (rowEntered c row i s) f e n → ArraysAre (rowEntered c row k s) f e n
+  address-all i k {f} {e} {n} h g = subst (λ (t : ℕ). ArraysAre (rowEntered c row t s) f e n) h g
 
-  pub row-more : {f e n f′ e′ n′ : List ℕ} → Is (tableEntered c row s) f e n
-      → Is (rowEntered c row (length (getD (c .rows) row [])) (lists f e n)) f′ e′ n′ → Is (tableEntered c (row + 1) s) f′ e′ n′
+  pub row-more : {f e n f′ e′ n′ : List ℕ} → ArraysAre (tableEntered c row s) f e n
+      → ArraysAre (rowEntered c row (length (getD (c .rows) row [])) (classArrays f e n)) f′ e′ n′ → ArraysAre (tableEntered c (row + 1) s) f′ e′ n′
   unfolding tableEntered
   row-more {f′ = f′} {e′} {n′} h g =
-      subst (λ (t : Lists). Is t f′ e′ n′)
-      (ap (rowEntered c row (length (getD (c .rows) row []))) (same-lists h) ∙ ap (λ (k : ℕ). tableEntered c k s) (sym (add-one row))) g
+      subst (λ (t : ClassArrays). ArraysAre t f′ e′ n′)
+      (ap (rowEntered c row (length (getD (c .rows) row []))) (same-arrays h) ∙ ap (λ (k : ℕ). tableEntered c k s) (sym (add-one row))) g
 
 -- ---- the lengths
 
 abbrev pub Room : List ℕ → List ℕ → List ℕ → Type 0
 Room f e n = (length f ≡ 512) × (length e ≡ 512) × (length n ≡ 8)
 
-abbrev Roomy : Lists → Type 0
+abbrev Roomy : ClassArrays → Type 0
 Roomy s = Room (s .firsts) (s .ends) (s .counts)
 
-entered-room-kept : (q a row y : ℕ) (s : Lists) → Roomy s → Roomy (entered q a row y s)
+entered-room-kept : (q a row y : ℕ) (s : ClassArrays) → Roomy s → Roomy (entered q a row y s)
 unfolding entered
 entered-room-kept q a row y s h = go (ltb (getD (s .counts) (y % a) 0) 64)
   where
     go : (b : Bool) → Roomy (cond b
-        (lists (set (s .firsts) (y % a * 64 + getD (s .counts) (y % a) 0) (row * q + q - y / a)) (set (s .ends) (y % a * 64 + getD (s .counts) (y % a) 0) (row * q + q))
+        (classArrays (set (s .firsts) (y % a * 64 + getD (s .counts) (y % a) 0) (row * q + q - y / a)) (set (s .ends) (y % a * 64 + getD (s .counts) (y % a) 0) (row * q + q))
         (set (s .counts) (y % a) (getD (s .counts) (y % a) 0 + 1))) s)
     go true = (length-set (s .firsts) _ _ ∙ h .0, length-set (s .ends) _ _ ∙ h .1, length-set (s .counts) _ _ ∙ h .2)
     go false = h
 
-row-room-kept : (c : Params) (row n : ℕ) (s : Lists) → Roomy s → Roomy (rowEntered c row n s)
+row-room-kept : (c : Params) (row n : ℕ) (s : ClassArrays) → Roomy s → Roomy (rowEntered c row n s)
 unfolding rowEntered
 row-room-kept c row zero s h = h
 row-room-kept c row (suc n) s h = entered-room-kept (c .q) (c .a) row (getD (getD (c .rows) row []) n 0) (rowEntered c row n s) (row-room-kept c row n s h)
 
-is-room : {s : Lists} {f e n : List ℕ} → Is s f e n → Roomy s → Room f e n
+is-room : {s : ClassArrays} {f e n : List ℕ} → ArraysAre s f e n → Roomy s → Room f e n
 is-room h r = (ap length (h .firsts) ∙ r .0, ap length (h .ends) ∙ r .1, ap length (h .counts) ∙ r .2)
 
-pub address-room : (q a row y : ℕ) (f e n : List ℕ) {f′ e′ n′ : List ℕ} → Room f e n → Is (entered q a row y (lists f e n)) f′ e′ n′ → Room f′ e′ n′
-address-room q a row y f e n r h = is-room h (entered-room-kept q a row y (lists f e n) r)
+pub address-room : (q a row y : ℕ) (f e n : List ℕ) {f′ e′ n′ : List ℕ} → Room f e n → ArraysAre (entered q a row y (classArrays f e n)) f′ e′ n′ → Room f′ e′ n′
+address-room q a row y f e n r h = is-room h (entered-room-kept q a row y (classArrays f e n) r)
 
-pub row-room : (c : Params) (row k : ℕ) (f e n : List ℕ) {f′ e′ n′ : List ℕ} → Room f e n → Is (rowEntered c row k (lists f e n)) f′ e′ n′ → Room f′ e′ n′
-row-room c row k f e n r h = is-room h (row-room-kept c row k (lists f e n) r)
+pub row-room : (c : Params) (row k : ℕ) (f e n : List ℕ) {f′ e′ n′ : List ℕ} → Room f e n → ArraysAre (rowEntered c row k (classArrays f e n)) f′ e′ n′ → Room f′ e′ n′
+row-room c row k f e n r h = is-room h (row-room-kept c row k (classArrays f e n) r)
 
-pub table-none : (c : Params) (f e n : List ℕ) → Is (tableEntered c 0 (lists f e n)) f e n
+pub table-none : (c : Params) (f e n : List ℕ) → ArraysAre (tableEntered c 0 (classArrays f e n)) f e n
 unfolding tableEntered
 table-none c f e n = record { firsts = refl; ends = refl; counts = refl }
 
@@ -106,13 +106,13 @@ address-fits c v row i q a y few hr hi eq ea ey =
 
 -- ---- the test
 
-abbrev blank : Lists
-blank = lists (replicate 512 0) (replicate 512 0) (replicate 8 0)
+abbrev blank : ClassArrays
+blank = classArrays (replicate 512 0) (replicate 512 0) (replicate 8 0)
 
-abbrev placed : ℕ → ℕ → Lists → ℕ → Entry → Bool
+abbrev placed : ℕ → ℕ → ClassArrays → ℕ → Entry → Bool
 placed q r s i e = eqb (getD (s .ends) (r * 64 + i) 0) (e .0 * q + q) && eqb (getD (s .firsts) (r * 64 + i) 0 + e .1) (getD (s .ends) (r * 64 + i) 0)
 
-abbrev classed : Params → Lists → ℕ → Bool
+abbrev classed : Params → ClassArrays → ℕ → Bool
 classed c s r = leb (length (classOf c r)) 62 && (eqb (getD (s .counts) r 0) (length (classOf c r)) && every (placed (c .q) r s) 0 (classOf c r))
 
 abbrev tested : Params → Bool
@@ -126,7 +126,7 @@ module _ (number : ℕ) (known : Known number) where
   abbrev c : Params
   c = codeOf number
 
-  abbrev laid : Lists
+  abbrev laid : ClassArrays
   laid = tableEntered c (length (c .rows)) blank
 
   passed : T (tested c)
@@ -138,7 +138,7 @@ module _ (number : ℕ) (known : Known number) where
   record Class (r : ℕ) : Type 0 where
     few : length (classOf c r) ≤ 62
     count : getD (laid .counts) r 0 ≡ length (classOf c r)
-    each : (i : ℕ) → i < length (classOf c r) → Place (c .q) (getD (classOf c r) i (0, 0)) (getD (laid .firsts) (r * 64 + i) 0) (getD (laid .ends) (r * 64 + i) 0)
+    each : (i : ℕ) → i < length (classOf c r) → EntryBounds (c .q) (getD (classOf c r) i (0, 0)) (getD (laid .firsts) (r * 64 + i) 0) (getD (laid .ends) (r * 64 + i) 0)
 
   class : (r : ℕ) → r < c .a → Class r
   class r h =
@@ -159,22 +159,22 @@ module _ (number : ℕ) (known : Known number) where
             record { last = eqb→eq _ _ (both-left ends starts d); start = eqb→eq _ _ (both-right ends starts d) };
       }
 
-  pub all-laid : {f e n : List ℕ} → Is laid f e n → length f ≡ 512 → length e ≡ 512 → length n ≡ 8 → Laid c f e × Counted c n
+  pub all-laid : {f e n : List ℕ} → ArraysAre laid f e n → length f ≡ 512 → length e ≡ 512 → length n ≡ 8 → ClassEntries c f e × ClassCounts c n
   all-laid {f} {e} {n} h hf he hn = (
     record {
       few = record { classes = few-classes; entries = λ r g. class r g .few };
       firsts-size = hf;
       ends-size = he;
       each = λ r g i k.
-          subst (λ (l : List ℕ). Place (c .q) (getD (classOf c r) i (0, 0)) (getD l (r * 64 + i) 0) (getD e (r * 64 + i) 0)) (sym (h .firsts))
-          (subst (λ (l : List ℕ). Place (c .q) (getD (classOf c r) i (0, 0)) (getD (laid .firsts) (r * 64 + i) 0) (getD l (r * 64 + i) 0)) (sym (h .ends)) (class r g .each i k));
+          subst (λ (l : List ℕ). EntryBounds (c .q) (getD (classOf c r) i (0, 0)) (getD l (r * 64 + i) 0) (getD e (r * 64 + i) 0)) (sym (h .firsts))
+          (subst (λ (l : List ℕ). EntryBounds (c .q) (getD (classOf c r) i (0, 0)) (getD (laid .firsts) (r * 64 + i) 0) (getD l (r * 64 + i) 0)) (sym (h .ends)) (class r g .each i k));
     },
     record { size = hn; each = λ r g. ap (λ (l : List ℕ). getD l r 0) (h .counts) ∙ class r g .count },
   )
 
   pub blank-laid : (rows : ℕ) {f₀ e₀ n₀ f e n : List ℕ} → rows ≡ length (c .rows) → f₀ ≡ replicate 512 0 → e₀ ≡ replicate 512 0 → n₀ ≡ replicate 8 0
-      → Is (tableEntered c rows (lists f₀ e₀ n₀)) f e n → Room f e n → Laid c f e × Counted c n
+      → ArraysAre (tableEntered c rows (classArrays f₀ e₀ n₀)) f e n → Room f e n → ClassEntries c f e × ClassCounts c n
   blank-laid rows {f₀} {e₀} {n₀} {f} {e} {n} k hf he hn h r =
-      all-laid (subst (λ (s : Lists). Is s f e n)
-      (ap₂ (λ (i : ℕ) (l : List ℕ). tableEntered c i (lists l e₀ n₀)) k hf
-      ∙ ap₂ (λ (l m : List ℕ). tableEntered c (length (c .rows)) (lists (replicate 512 0) l m)) he hn) h) (r .0) (r .1) (r .2)
+      all-laid (subst (λ (s : ClassArrays). ArraysAre s f e n)
+      (ap₂ (λ (i : ℕ) (l : List ℕ). tableEntered c i (classArrays l e₀ n₀)) k hf
+      ∙ ap₂ (λ (l m : List ℕ). tableEntered c (length (c .rows)) (classArrays (replicate 512 0) l m)) he hn) h) (r .0) (r .1) (r .2)

@@ -10,7 +10,7 @@ use lib.ListN.{length, getD}
 use borrow.Author.Tests.{eq-eqb}
 use Rattle.algebra.specs.Staircase.{stair}
 use Rattle.algebra.proofs.Staircase.{check-row, has-parity, one-codeword}
-use Rattle.ccsds.specs.Codes.{rowOf, place, hits, touches}
+use Rattle.ccsds.specs.Codes.{rowOf, checkRowOf, hits, touches}
 use Rattle.ccsds.specs.Tables.{codeOf}
 use Rattle.encoder.specs.Claims.{OfEachCode, EncodesCodeword, ChecksAsWritten, FirstRow, TouchesOnce}
 use Rattle.ccsds.proofs.Refusals.{or-false}
@@ -49,4 +49,4 @@ apart f (y ∷ ys) a (suc i) (suc j) hi hj e = ap suc (apart f ys (a .1) i j (le
 
 pub touches-once : OfEachCode TouchesOnce
 touches-once number known x h i j hi hj e =
-    apart (place (codeOf number) x) (rowOf (codeOf number) x) (row-apart (codeOf number) (valid-of number known) x h) i j hi hj e
+    apart (checkRowOf (codeOf number) x) (rowOf (codeOf number) x) (row-apart (codeOf number) (valid-of number known) x h) i j hi hj e

@@ -12,7 +12,7 @@ use Rattle.algebra.specs.Sums.{pick}
 use Rattle.algebra.specs.Codeword.{byteAt, codeword}
 use Rattle.algebra.proofs.Sums.{odd, sum-tests, sum-terms, sum-pick, sum-alone}
 use Rattle.algebra.proofs.Staircase.{codeword-parity, parity-odd}
-use Rattle.ccsds.specs.Codes.{Params, rowOf, place, touches, checksOf}
+use Rattle.ccsds.specs.Codes.{Params, rowOf, checkRowOf, touches, checksOf}
 use Rattle.ccsds.specs.Tables.{codeOf, codeIn, codes, isCode, numberIn, c1, c2, rows1, rows2}
 use Rattle.encoder.specs.Samples.{CodeSample, CodeHolds, inRuns, SdnvHolds, Sample, ofCode, ofSdnv, Each, samples}
 use Rattle.wire.specs.Sdnv.{sdnvFrom, group, sdnvBytes}
@@ -27,7 +27,7 @@ same false false t = refl
 
 -- information symbol x is in parity symbol j just when a run has j
 abbrev right : CodeSample → ℕ → ℕ → Bool
-right s x j = Bool·beq (upTo (place (codeOf (s .code)) x) (rowOf (codeOf (s .code)) x) j) (inRuns (s .runs) j)
+right s x j = Bool·beq (upTo (checkRowOf (codeOf (s .code)) x) (rowOf (codeOf (s .code)) x) j) (inRuns (s .runs) j)
 
 -- so for each information symbol first .. last and each parity symbol from .. to
 abbrev test : CodeSample → Bool
@@ -52,7 +52,7 @@ module _ (s : CodeSample) (v : Valid (codeOf (s .code))) (end : s .to < codeOf (
       u = byteAt w x b
 
       bit : ℕ → Bool
-      bit i = upTo (place c i) (rowOf c i) j
+      bit i = upTo (checkRowOf c i) (rowOf c i) j
 
       zero : (t : Bool) → pick t 0 ≡ 0
       zero true = refl
@@ -99,7 +99,7 @@ enough (ofCode s ∷ ss) t = (code-holds s (t .0), enough ss (t .1))
 enough (ofSdnv s ∷ ss) t = (t .0, enough ss (t .1))
 
 pub all : Each samples
-unfolding samples codeOf codeIn codes isCode numberIn c1 c2 rows1 rows2 rowOf place upTo inRuns xor sdnvFrom sdnvBytes group
+unfolding samples codeOf codeIn codes isCode numberIn c1 c2 rows1 rows2 rowOf checkRowOf upTo inRuns xor sdnvFrom sdnvBytes group
 all =
     enough samples (tt, (tt, (tt, (tt, (tt, ((refl, refl), ((refl, refl), ((refl, refl), ((refl, refl), ((refl, tt), ((refl, tt), tt)))))))))))
 

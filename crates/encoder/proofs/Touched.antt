@@ -15,10 +15,10 @@ use Rattle.algebra.specs.Sums.{_⊕_, sum}
 use Rattle.symbol_sums.specs.Gather.{gathered}
 use Rattle.algebra.proofs.Sums as sums
 use Rattle.algebra.proofs.Codeword.{slot}
-use Rattle.ccsds.specs.Codes.{Params, rowOf, place, hits, touches}
+use Rattle.ccsds.specs.Codes.{Params, rowOf, checkRowOf, hits, touches}
 use Rattle.ccsds.proofs.Table.{getD-map}
 use Rattle.ccsds.proofs.Valid.{Valid, Apart, some-a, row-apart, hit-once, address-lt}
-use Rattle.encoder.specs.inner.Positions.{Entry, entryIf, classIn, classFrom, classOf, positionAt, positions, Place}
+use Rattle.encoder.specs.inner.Positions.{Entry, entryIf, classIn, classFrom, classOf, positionAt, positions, EntryBounds}
 use Rattle.encoder.proofs.Cycle.{there, back, blocks}
 
 -- ---- one address
@@ -30,8 +30,8 @@ module _ (c : Params) (v : Valid c) where
 
   module _ (x y j : ℕ) (hy : y < c .m) (hj : j < c .m) where
     -- the check row by its quotient and remainder
-    placed : place c x y ≡ (y / c .a + x % c .q) % c .q * c .a + y % c .a
-    unfolding place
+    placed : checkRowOf c x y ≡ (y / c .a + x % c .q) % c .q * c .a + y % c .a
+    unfolding checkRowOf
     placed =
         let r : y % c .a < c .a = mod-lt y (some-a c v) in
         let t : x % c .q < c .q = mod-lt x (v .some-q) in
@@ -39,22 +39,22 @@ module _ (c : Params) (v : Valid c) where
         omega (arith, add-mul (y / c .a) (x % c .q) (c .a), div-add-mod' y (c .a)) in
         ap₂ _%_ e (sym (v .step)) ∙ blocks (c .q) (c .a) (y / c .a + x % c .q) (y % c .a) (omega (arith, quotient-lt y hy)) r
 
-    placed-remainder : place c x y ≡ j → y % c .a ≡ j % c .a
+    placed-remainder : checkRowOf c x y ≡ j → y % c .a ≡ j % c .a
     placed-remainder e = sym (digits-mod _ (mod-lt y (some-a c v))) ∙ ap (λ (n : ℕ). n % c .a) (sym placed ∙ e)
 
-    placed-quotient : place c x y ≡ j → (y / c .a + x % c .q) % c .q ≡ j / c .a
+    placed-quotient : checkRowOf c x y ≡ j → (y / c .a + x % c .q) % c .q ≡ j / c .a
     placed-quotient e = sym (digits-div _ (mod-lt y (some-a c v))) ∙ ap (λ (n : ℕ). n / c .a) (sym placed ∙ e)
 
-    placed-is : y % c .a ≡ j % c .a → (y / c .a + x % c .q) % c .q ≡ j / c .a → place c x y ≡ j
+    placed-is : y % c .a ≡ j % c .a → (y / c .a + x % c .q) % c .q ≡ j / c .a → checkRowOf c x y ≡ j
     placed-is e f = placed ∙ ap₂ (λ (n r : ℕ). n * c .a + r) f e ∙ div-add-mod' j (c .a)
 
     -- another class
-    other : eqb (y % c .a) (j % c .a) ≡ false → eqb (place c x y) j ≡ false
-    other e = ne-eqb (place c x y) j (λ h. false≢true (sym e ∙ eq-eqb (y % c .a) (j % c .a) (placed-remainder h)))
+    other : eqb (y % c .a) (j % c .a) ≡ false → eqb (checkRowOf c x y) j ≡ false
+    other e = ne-eqb (checkRowOf c x y) j (λ h. false≢true (sym e ∙ eq-eqb (y % c .a) (j % c .a) (placed-remainder h)))
 
     -- the same class, and x in the table row: x is the position just when it touches j
-    same : eqb (y % c .a) (j % c .a) ≡ true → eqb (positionAt (c .q) (j / c .a) (x / c .q, y / c .a)) x ≡ eqb (place c x y) j
-    same e = go (ℕ-discrete (place c x y) j)
+    same : eqb (y % c .a) (j % c .a) ≡ true → eqb (positionAt (c .q) (j / c .a) (x / c .q, y / c .a)) x ≡ eqb (checkRowOf c x y) j
+    same e = go (ℕ-discrete (checkRowOf c x y) j)
       where
         p : ℕ
         p = positionAt (c .q) (j / c .a) (x / c .q, y / c .a)
@@ -62,15 +62,15 @@ module _ (c : Params) (v : Valid c) where
         t : x % c .q < c .q
         t = mod-lt x (v .some-q)
 
-        go : Dec (place c x y ≡ j) → eqb p x ≡ eqb (place c x y) j
+        go : Dec (checkRowOf c x y ≡ j) → eqb p x ≡ eqb (checkRowOf c x y) j
         go (yes h) =
             let f : p ≡ x = ap (λ (k : ℕ). x / c .q * c .q + k) (back (c .q) (y / c .a) (j / c .a) (x % c .q) (quotient-lt y hy) (quotient-lt j hj) t (placed-quotient h))
             ∙ div-add-mod' x (c .q) in
-            eq-eqb p x f ∙ sym (eq-eqb (place c x y) j h)
+            eq-eqb p x f ∙ sym (eq-eqb (checkRowOf c x y) j h)
         go (no h) =
             ne-eqb p x (λ f. h (placed-is (eqb-true _ _ e) (there (c .q) (y / c .a) (j / c .a) (x % c .q) (quotient-lt y hy) (quotient-lt j hj) t
             (sym (digits-mod (x / c .q) (mod-lt (c .q - y / c .a + j / c .a) (v .some-q))) ∙ ap (λ (n : ℕ). n % c .q) f))))
-            ∙ sym (ne-eqb (place c x y) j h)
+            ∙ sym (ne-eqb (checkRowOf c x y) j h)
 
 -- ---- a list of positions and a list of addresses, whatever joins the tests
 
@@ -165,15 +165,15 @@ module _ (c : Params) (v : Valid c) (op : Bool → Bool → Bool) (unit : (b : B
   class row ys = map at (classIn (c .a) (j % c .a) row ys)
 
   -- x's own table row
-  own-row : (row : ℕ) → row ≡ x / c .q → (ys : List ℕ) → Below (c .m) ys → folded op (λ z. z) (class row ys) x ≡ folded op (place c x) ys j
+  own-row : (row : ℕ) → row ≡ x / c .q → (ys : List ℕ) → Below (c .m) ys → folded op (λ z. z) (class row ys) x ≡ folded op (checkRowOf c x) ys j
   unfolding folded classIn
   own-row row e [] b = refl
   own-row row e (y ∷ ys) b = go (eqb (y % c .a) (j % c .a)) refl (own-row row e ys (b .1))
     where
-      go : (t : Bool) → eqb (y % c .a) (j % c .a) ≡ t → folded op (λ z. z) (class row ys) x ≡ folded op (place c x) ys j
-          → folded op (λ z. z) (map at (entryIf t (row, y / c .a) (classIn (c .a) (j % c .a) row ys))) x ≡ op (eqb (place c x y) j) (folded op (place c x) ys j)
+      go : (t : Bool) → eqb (y % c .a) (j % c .a) ≡ t → folded op (λ z. z) (class row ys) x ≡ folded op (checkRowOf c x) ys j
+          → folded op (λ z. z) (map at (entryIf t (row, y / c .a) (classIn (c .a) (j % c .a) row ys))) x ≡ op (eqb (checkRowOf c x y) j) (folded op (checkRowOf c x) ys j)
       go true h r = ap₂ op (ap (λ (n : ℕ). eqb (at (n, y / c .a)) x) e ∙ same c v x y j (b .0) hj h) r
-      go false h r = r ∙ sym (ap (λ (t : Bool). op t (folded op (place c x) ys j)) (other c v x y j (b .0) hj h) ∙ unit (folded op (place c x) ys j))
+      go false h r = r ∙ sym (ap (λ (t : Bool). op t (folded op (checkRowOf c x) ys j)) (other c v x y j (b .0) hj h) ∙ unit (folded op (checkRowOf c x) ys j))
 
   -- a position of another table row is not x
   apart : (row h : ℕ) → (row ≡ x / c .q → ⊥) → eqb (at (row, h)) x ≡ false
@@ -202,7 +202,7 @@ module _ (c : Params) (v : Valid c) (op : Bool → Bool → Bool) (unit : (b : B
       (misses-join (class row ys) (map at (classFrom (c .a) (j % c .a) (suc row) rest)) x (other-row row (λ e. omega arith) ys) (later-rows (suc row) rest (omega arith)))
 
   from-row : (row : ℕ) (rest : List (List ℕ)) → ((i : ℕ) → i < length rest → Below (c .m) (getD rest i [])) → (d : ℕ) → row + d ≡ x / c .q
-      → folded op (λ z. z) (map at (classFrom (c .a) (j % c .a) row rest)) x ≡ folded op (place c x) (getD rest d []) j
+      → folded op (λ z. z) (map at (classFrom (c .a) (j % c .a) row rest)) x ≡ folded op (checkRowOf c x) (getD rest d []) j
   unfolding folded classFrom
   from-row row [] b d e = refl
   from-row row (ys ∷ rest) b zero e =
@@ -214,7 +214,7 @@ module _ (c : Params) (v : Valid c) (op : Bool → Bool → Bool) (unit : (b : B
       ∙ folded-right op unit (class row ys) (map at (classFrom (c .a) (j % c .a) (suc row) rest)) x (other-row row (λ q. omega arith) ys)
       ∙ from-row (suc row) rest (λ i g. b (suc i) (omega arith)) d (omega arith)
 
-  pub positions-folded : folded op (λ z. z) (positions c j) x ≡ folded op (place c x) (rowOf c x) j
+  pub positions-folded : folded op (λ z. z) (positions c j) x ≡ folded op (checkRowOf c x) (rowOf c x) j
   unfolding positions classOf rowOf
   positions-folded = from-row 0 (c .rows) (table-below c v) (x / c .q) (omega arith)
 
@@ -274,14 +274,14 @@ module _ (c : Params) (v : Valid c) (j : ℕ) where
     pub positions-touch : (x : ℕ) → hits (λ z. z) (positions c j) x ≡ touches c x j
     unfolding touches
     positions-touch x =
-        hits-folded (λ z. z) (positions c j) x ∙ positions-folded c v _||_ (λ b. refl) x j hj ∙ sym (hits-folded (place c x) (rowOf c x) j)
+        hits-folded (λ z. z) (positions c j) x ∙ positions-folded c v _||_ (λ b. refl) x j hj ∙ sym (hits-folded (checkRowOf c x) (rowOf c x) j)
 
     -- the sum of the symbols that touch j
     pub positions-sum : (u : ℕ → ℕ) → gathered u (positions c j) (length (positions c j)) ≡ sum (λ x. touches c x j) u (c .k)
     unfolding touches
     positions-sum u =
         sym (sums.sum-tests (λ x. touches c x j) (λ x. folded xor (λ z. z) (positions c j) x) u (c .k) (λ x h.
-        hits-xor (place c x) (rowOf c x) j (row-apart c v x h) ∙ sym (positions-folded c v xor xor-unit x j hj))
+        hits-xor (checkRowOf c x) (rowOf c x) j (row-apart c v x h) ∙ sym (positions-folded c v xor xor-unit x j hj))
         ∙ gathered-sum u (c .k) (positions c j) (below-of (c .k) (positions c j) positions-lt))
 
 -- ---- in the numbers that the code works with
@@ -293,7 +293,7 @@ module _ (c : Params) (v : Valid c) (r s : ℕ) (hr : r < c .a) (hs : s < c .q) 
   pub row-count : length (positions c (s * c .a + r)) ≡ length (classOf c r)
   row-count = positions-count c v (s * c .a + r) ∙ ap (λ (n : ℕ). length (classOf c n)) (digits-mod s hr)
 
-  module _ (i : ℕ) (hi : i < length (classOf c r)) {first end : ℕ} (p : Place (c .q) (getD (classOf c r) i (0, 0)) first end) where
+  module _ (i : ℕ) (hi : i < length (classOf c r)) {first end : ℕ} (p : EntryBounds (c .q) (getD (classOf c r) i (0, 0)) first end) where
     pub entry-fits : (first ≤ end) × (end ≤ first + c .q) × (c .q ≤ end) × (end ≤ 4096) × (s < c .q)
     entry-fits =
         let g = entry-good c v r i hi in

@@ -8,7 +8,7 @@ use lib.ListN.{length, getD}
 use Rattle.algebra.specs.Sums.{_⊕_, sum}
 use Rattle.algebra.specs.Codeword.{byteAt, rowSum}
 use Rattle.algebra.specs.Staircase.{before, OneCodeword}
-use Rattle.ccsds.specs.Codes.{Params, rowOf, place, touches, checksOf}
+use Rattle.ccsds.specs.Codes.{Params, rowOf, checkRowOf, touches, checksOf}
 use Rattle.ccsds.specs.Tables.{codeOf, Known}
 
 -- a claim about each code
@@ -34,4 +34,4 @@ FirstRow c = (i : ℕ) → checksOf c .has 0 (c .k + i) ≡ eqb i 0
 abbrev pub TouchesOnce : Params → Type 0
 TouchesOnce c =
     (x : ℕ) → x < c .k → (i j : ℕ) → i < length (rowOf c x) → j < length (rowOf c x)
-    → place c x (getD (rowOf c x) i 0) ≡ place c x (getD (rowOf c x) j 0) → i ≡ j
+    → checkRowOf c x (getD (rowOf c x) i 0) ≡ checkRowOf c x (getD (rowOf c x) j 0) → i ≡ j

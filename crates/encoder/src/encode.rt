@@ -1,6 +1,7 @@
 // The encoder: parity bytes from information bytes.
 use crate::positions;
 use ccsds::checks;
+use ccsds::code::Code;
 use ccsds::tables;
 use ccsds::tables::Layout;
 ghost use mathlib.Core.Path.{_≡_};
@@ -8,10 +9,10 @@ ghost use Prim.Native.Nat.{_<_, _+_, _*_};
 ghost use lib.ListN.{length};
 ghost use Rattle.ccsds.specs.Codes.{encodeOf};
 ghost use Rattle.ccsds.specs.Tables.{codeOf, Known};
-ghost use Rattle.ccsds.specs.inner.Layout.{Given};
+ghost use Rattle.ccsds.specs.inner.Layout.{LayoutOf};
 ghost use Rattle.ccsds.specs.Refusals.{outcome, afterwards};
 ghost use Rattle.encoder.specs.Encode.{encodeRefusal, encodedAs};
-ghost use Rattle.encoder.specs.inner.Positions.{Laid, Counted};
+ghost use Rattle.encoder.specs.inner.Positions.{ClassEntries, ClassCounts};
 ghost use Rattle.encoder.specs.inner.Steps.{Sized, Done};
 
 // What encode answers: that it is done, or the number of the refusal.
@@ -34,8 +35,8 @@ fn put_row(
     info: &[u8],
     parity: &mut [u8],
 )
-    requires { ⌜ Known number × Given (codeOf number) l × (r < codeOf number .a) × (s < codeOf number .q) ⌝ }
-    requires { ⌜ Laid (codeOf number) (now firsts) (now ends) × Counted (codeOf number) (now counts) × (length (now xs) ≡ 64) ⌝ }
+    requires { ⌜ Known number × LayoutOf (codeOf number) l × (r < codeOf number .a) × (s < codeOf number .q) ⌝ }
+    requires { ⌜ ClassEntries (codeOf number) (now firsts) (now ends) × ClassCounts (codeOf number) (now counts) × (length (now xs) ≡ 64) ⌝ }
     requires { ⌜ (length (now info) ≡ codeOf number .k * w) × Done (codeOf number) w (now info) (s * codeOf number .a + r) (now parity) ⌝ }
     ensures { λ _. ⌜ (length (now (xs .exit)) ≡ 64) × Done (codeOf number) w (now (info .entry)) (s * codeOf number .a + r + 1) (now (parity .exit)) ⌝ }
 {
@@ -58,8 +59,8 @@ fn put_rows(
     info: &[u8],
     parity: &mut [u8],
 )
-    requires { ⌜ Known number × Given (codeOf number) l × (s < codeOf number .q) ⌝ }
-    requires { ⌜ Laid (codeOf number) (now firsts) (now ends) × Counted (codeOf number) (now counts) × (length (now xs) ≡ 64) ⌝ }
+    requires { ⌜ Known number × LayoutOf (codeOf number) l × (s < codeOf number .q) ⌝ }
+    requires { ⌜ ClassEntries (codeOf number) (now firsts) (now ends) × ClassCounts (codeOf number) (now counts) × (length (now xs) ≡ 64) ⌝ }
     requires { ⌜ (length (now info) ≡ codeOf number .k * w) × Done (codeOf number) w (now info) (s * codeOf number .a) (now parity) ⌝ }
     ensures { λ _. ⌜ (length (now (xs .exit)) ≡ 64) × Done (codeOf number) w (now (info .entry)) (s * codeOf number .a + codeOf number .a) (now (parity .exit)) ⌝ }
 {
@@ -78,7 +79,8 @@ fn encode_sized(number: usize, w: usize, info: &[u8], parity: &mut [u8])
     ensures { λ _. ⌜ now (parity .exit) ≡ encodeOf (codeOf number) w (now (info .entry)) ⌝ }
 {
     let l = tables::layout_of(number);
-    let q = l.q;
+    let code = Code { number };
+    let q = code.q();
     let mut firsts = [0u16; 512];
     let mut ends = [0u16; 512];
     let mut counts = [0usize; 8];

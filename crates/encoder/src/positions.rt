@@ -9,8 +9,8 @@ ghost use Prim.Native.Nat.{_+_, _-_, _*_, _/_, _%_, _<_, _≤_};
 ghost use lib.ListN.{length, getD, replicate};
 ghost use Rattle.ccsds.specs.Codes.{checksOf};
 ghost use Rattle.ccsds.specs.Tables.{codeOf, Known};
-ghost use Rattle.ccsds.specs.inner.Layout.{Given};
-ghost use Rattle.encoder.specs.inner.Positions.{classOf, lists, entered, rowEntered, Is, Laid, Counted, Information, RowOf};
+ghost use Rattle.ccsds.specs.inner.Layout.{LayoutOf};
+ghost use Rattle.encoder.specs.inner.Positions.{classOf, classArrays, entered, rowEntered, ArraysAre, ClassEntries, ClassCounts, Information, RowOf};
 
 // Enters address y of a table row into its class.
 fn enter(
@@ -24,7 +24,7 @@ fn enter(
 )
     requires { ⌜ (0 < a) × (a ≤ 8) × (row * q + q ≤ 3072) × (y / a ≤ q) ⌝ }
     requires { ⌜ (length (now firsts) ≡ 512) × (length (now ends) ≡ 512) × (length (now counts) ≡ 8) ⌝ }
-    ensures { λ _. ⌜ Is (entered q a row y (lists (now (firsts .entry)) (now (ends .entry)) (now (counts .entry)))) (now (firsts .exit)) (now (ends .exit)) (now (counts .exit)) ⌝ }
+    ensures { λ _. ⌜ ArraysAre (entered q a row y (classArrays (now (firsts .entry)) (now (ends .entry)) (now (counts .entry)))) (now (firsts .exit)) (now (ends .exit)) (now (counts .exit)) ⌝ }
 {
     let r = y % a;
     let n = counts[r];
@@ -46,10 +46,10 @@ fn enter_row(
     ends: &mut [u16; 512],
     counts: &mut [usize; 8],
 )
-    requires { ⌜ Known number × Given (codeOf number) l ⌝ }
+    requires { ⌜ Known number × LayoutOf (codeOf number) l ⌝ }
     requires { ⌜ (row < length (codeOf number .rows)) × (codeOf number .a ≤ 8) ⌝ }
     requires { ⌜ (length (now firsts) ≡ 512) × (length (now ends) ≡ 512) × (length (now counts) ≡ 8) ⌝ }
-    ensures { λ _. ⌜ Is (rowEntered (codeOf number) row (length (getD (codeOf number .rows) row [])) (lists (now (firsts .entry)) (now (ends .entry)) (now (counts .entry)))) (now (firsts .exit)) (now (ends .exit)) (now (counts .exit)) ⌝ }
+    ensures { λ _. ⌜ ArraysAre (rowEntered (codeOf number) row (length (getD (codeOf number .rows) row [])) (classArrays (now (firsts .entry)) (now (ends .entry)) (now (counts .entry)))) (now (firsts .exit)) (now (ends .exit)) (now (counts .exit)) ⌝ }
 {
     let ys = tables::addresses(number, l, row);
     let n = tables::row_degree(number, l, row);
@@ -70,9 +70,9 @@ pub fn lay(
     ends: &mut [u16; 512],
     counts: &mut [usize; 8],
 )
-    requires { ⌜ Known number × Given (codeOf number) l ⌝ }
+    requires { ⌜ Known number × LayoutOf (codeOf number) l ⌝ }
     requires { ⌜ (now firsts ≡ replicate 512 0) × (now ends ≡ replicate 512 0) × (now counts ≡ replicate 8 0) ⌝ }
-    ensures { λ _. ⌜ Laid (codeOf number) (now (firsts .exit)) (now (ends .exit)) × Counted (codeOf number) (now (counts .exit)) ⌝ }
+    ensures { λ _. ⌜ ClassEntries (codeOf number) (now (firsts .exit)) (now (ends .exit)) × ClassCounts (codeOf number) (now (counts .exit)) ⌝ }
 {
     let rows = l.rows;
     let mut row = 0;
@@ -104,7 +104,7 @@ pub fn information(
 )
     requires { ⌜ Known number × (q ≡ codeOf number .q) ⌝ }
     requires { ⌜ (r < codeOf number .a) × (s < codeOf number .q) × (n ≡ length (classOf (codeOf number) r)) ⌝ }
-    requires { ⌜ Laid (codeOf number) (now firsts) (now ends) ⌝ }
+    requires { ⌜ ClassEntries (codeOf number) (now firsts) (now ends) ⌝ }
     requires { ⌜ length (now xs) ≡ 64 ⌝ }
     ensures { λ _. ⌜ Information (codeOf number) (s * codeOf number .a + r) n (now (xs .exit)) ⌝ }
 {
@@ -126,9 +126,9 @@ pub fn of_row(
     j: usize,
     xs: &mut [usize; 64],
 ) -> usize
-    requires { ⌜ Known number × Given (codeOf number) l ⌝ }
+    requires { ⌜ Known number × LayoutOf (codeOf number) l ⌝ }
     requires { ⌜ j < codeOf number .m ⌝ }
-    requires { ⌜ Laid (codeOf number) (now firsts) (now ends) × Counted (codeOf number) (now counts) ⌝ }
+    requires { ⌜ ClassEntries (codeOf number) (now firsts) (now ends) × ClassCounts (codeOf number) (now counts) ⌝ }
     requires { ⌜ length (now xs) ≡ 64 ⌝ }
     ensures { λ n. ⌜ RowOf (checksOf (codeOf number)) j n (now (xs .exit)) ⌝ }
 {

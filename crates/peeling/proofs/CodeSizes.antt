@@ -12,7 +12,7 @@ use Rattle.symbol_sums.specs.Gather.{Inside}
 use Rattle.ccsds.specs.Codes.{checksOf}
 use Rattle.ccsds.specs.Tables.{codeOf}
 use Rattle.encoder.specs.inner.Positions.{RowOf}
-use Rattle.ccsds.specs.inner.Layout.{Given}
+use Rattle.ccsds.specs.inner.Layout.{LayoutOf}
 use Rattle.ccsds.specs.declared.tables.Layout.{Layout}
 use Rattle.ccsds.proofs.Valid.{valid-of, few-of}
 use Rattle.peeling.specs.Table.{Table}
@@ -27,7 +27,7 @@ unfolding staircase
 few-positions number = few-of number
 
 -- its layout has its positions
-pub symbols-of : (number : ℕ) (l : Layout) → Given (codeOf number) l → l .k + l .m ≡ checksOf (codeOf number) .n
+pub symbols-of : (number : ℕ) (l : Layout) → LayoutOf (codeOf number) l → l .k + l .m ≡ checksOf (codeOf number) .n
 unfolding staircase
 symbols-of number l g = omega (arith, g .k, g .m)
 

@@ -5,7 +5,7 @@ use Prim.Native.Nat.{ℕ, _*_, _/_, _%_, _<_, _≤_}
 use native.Mathlib.Nat.{mod-lt, mul-le-mul, mul-le-mul-left, mul-le-mul-right, div-lt-iff-lt-mul}
 use native.Mathlib.Omega.{arith}
 use Rattle.ccsds.specs.Tables.{codeOf, Known}
-use Rattle.ccsds.specs.inner.Layout.{Given}
+use Rattle.ccsds.specs.inner.Layout.{LayoutOf}
 use Rattle.ccsds.specs.declared.tables.Layout.{Layout}
 use Rattle.ccsds.proofs.Valid.{valid-of, some-a}
 use Rattle.peeling.specs.Hints.{Fits}
@@ -14,7 +14,7 @@ use Rattle.peeling.specs.Hints.{Fits}
 factors : (q a m : ℕ) → 0 < q → 0 < a → q * a ≡ m → (q ≤ m) × (a ≤ m)
 factors q a m hq ha e = (omega (arith, mul-le-mul-left q ha), omega (arith, mul-le-mul-right a hq))
 
-pub fits-of : (number : ℕ) (l : Layout) → Known number → Given (codeOf number) l → Fits l
+pub fits-of : (number : ℕ) (l : Layout) → Known number → LayoutOf (codeOf number) l → Fits l
 fits-of number l k g =
     let v = valid-of number k in
     let f = factors (codeOf number .q) (codeOf number .a) (codeOf number .m) (v .some-q) (some-a (codeOf number) v) (v .step) in

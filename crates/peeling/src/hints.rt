@@ -7,7 +7,7 @@ ghost use mathlib.Core.Path.{_≡_};
 ghost use Prim.Native.Nat.{_<_, _≤_};
 ghost use lib.ListN.{length};
 ghost use Rattle.ccsds.specs.Tables.{codeOf};
-ghost use Rattle.ccsds.specs.inner.Layout.{Given};
+ghost use Rattle.ccsds.specs.inner.Layout.{LayoutOf};
 ghost use Rattle.peeling.specs.Hints.{Fits};
 
 fn wide(x: u16) -> usize
@@ -34,7 +34,7 @@ fn put_addresses(ys: &[usize; 8], row: usize, t: &mut [u16; 512])
 
 // The addresses of a code's table, 8 places a row.
 pub fn addresses(number: usize, l: Layout) -> [u16; 512]
-    requires { ⌜ Given (codeOf number) l ⌝ }
+    requires { ⌜ LayoutOf (codeOf number) l ⌝ }
     ensures { λ r. ⌜ length r ≡ 512 ⌝ }
 {
     let mut t = [0u16; 512];

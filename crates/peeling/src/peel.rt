@@ -2,8 +2,8 @@
 // put off as a pivot, with zero for its symbol. The plan (specs/Plan.antt) says of each position what became of it.
 use crate::hints;
 use crate::states::KNOWN;
-use encoder::positions;
 use ccsds::tables::Layout;
+use encoder::positions;
 ghost use mathlib.Core.Path.{_≡_};
 ghost use mathlib.Core.Logic.{_≢_};
 ghost use mathlib.Core.Bool.{cond};
@@ -14,7 +14,7 @@ ghost use Rattle.algebra.specs.Codeword.{byteAt};
 ghost use Rattle.symbol_sums.specs.Gather.{gathered, Inside, Replaced};
 ghost use Rattle.ccsds.specs.Codes.{checksOf};
 ghost use Rattle.ccsds.specs.Tables.{codeOf, Known};
-ghost use Rattle.ccsds.specs.inner.Layout.{Given};
+ghost use Rattle.ccsds.specs.inner.Layout.{LayoutOf};
 ghost use Rattle.peeling.specs.Table.{Table};
 ghost use Rattle.peeling.specs.Plan.{Plan, Closed, Unsolved};
 ghost use Rattle.peeling.specs.Values.{Values};
@@ -210,7 +210,7 @@ fn put_off(
     ready: &mut [u64; 16],
 ) -> Progress
     requires { ⌜ Hinted (now table) (now counts) (now ready) ⌝ }
-    requires { ⌜ Known number × Given (codeOf number) l ⌝ }
+    requires { ⌜ Known number × LayoutOf (codeOf number) l ⌝ }
     requires { ⌜ g .cursor < (checksOf (codeOf number)) .n ⌝ }
     requires { ⌜ State (checksOf (codeOf number)) w (now symbols) (now states) (now plan) (now symbols) g ⌝ }
     ensures { λ _. ⌜ Hinted (now (table .entry)) (now (counts .exit)) (now (ready .exit)) ⌝ }

@@ -14,7 +14,7 @@ use Rattle.ccsds.specs.Codes.{nOf}
 use Rattle.ccsds.specs.RefusalTable as refusal
 use Rattle.ccsds.specs.Refusals.{answered}
 use Rattle.wire.specs.Sdnv.{Number, numberAt, sdnvBytes}
-use Rattle.ccsds.specs.Reader.{Coding, Said, Parts, parameterAt, codingOf, extensionAt, after, extensionsOf}
+use Rattle.ccsds.specs.Reader.{Coding, ExtensionsRead, Parts, parameterAt, codingOf, extensionAt, after, extensionsOf}
 use Rattle.wire.specs.Bytes.{part, pairAt, OfBytes}
 use Rattle.ccsds.specs.Writer.{headerOf, valueBytes, extensionOf, unitOf}
 use Rattle.unit_claims.specs.UnitClaims.{CanonicalUnit}
@@ -61,7 +61,7 @@ value-is v bytes {p} e z =
 
 -- ---- the extension and the header
 
-extension-is : (s : List ℕ) → OfBytes s → {x : Said} {p : Coding} → extensionAt s false 6 ≡ answered x → x .coding ≡ some p → p .seed ≡ 0
+extension-is : (s : List ℕ) → OfBytes s → {x : ExtensionsRead} {p : Coding} → extensionAt s false 6 ≡ answered x → x .coding ≡ some p → p .seed ≡ 0
     → drop 6 s ≡ extensionOf (p .w) (p .k) (p .n) ++ drop (x .end) s
 unfolding extensionOf
 extension-is s bytes {x} {p} e c z =
@@ -101,13 +101,13 @@ after-none : (x : Option Coding) → after none x ≡ x
 after-none none = refl
 after-none (some p) = refl
 
-one-extension : (s : List ℕ) {x : Said} {p : Coding} → extensionsOf s 1 ≡ answered x → x .coding ≡ some p
-    → (y : Said) × (extensionAt s false 6 ≡ answered y) × (y .coding ≡ some p) × (y .end ≡ x .end)
+one-extension : (s : List ℕ) {x : ExtensionsRead} {p : Coding} → extensionsOf s 1 ≡ answered x → x .coding ≡ some p
+    → (y : ExtensionsRead) × (extensionAt s false 6 ≡ answered y) × (y .coding ≡ some p) × (y .end ≡ x .end)
 unfolding extensionsOf
 one-extension s e c =
     let a = of-steps (extensionAt s false 6) _ e in
     let q = the-answer (a .2) in
-    (a .0, a .1, sym (after-none (a .0 .coding)) ∙ ap (λ (y : Said). y .coding) q ∙ c, ap (λ (y : Said). y .end) q)
+    (a .0, a .1, sym (after-none (a .0 .coding)) ∙ ap (λ (y : ExtensionsRead). y .coding) q ∙ c, ap (λ (y : ExtensionsRead). y .end) q)
 
 pub canonical-unit : CanonicalUnit
 unfolding unitOf

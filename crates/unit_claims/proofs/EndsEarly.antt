@@ -15,7 +15,7 @@ use Rattle.ccsds.specs.RefusalTable.{Refusal, numberOf}
 use Rattle.ccsds.specs.RefusalTable as refusal
 use Rattle.ccsds.specs.Refusals.{Outcome, refused, answered, _⟫_, refuseIf}
 use Rattle.wire.specs.Sdnv.{Number, Reading, finished, unfinished, wrong, longer, sdnvFrom, numberAt}
-use Rattle.ccsds.specs.Reader.{numberOr, Coding, Said, Parts, lengthAt, parameterAt, codingOf, valueOf, wrongType, extensionAt, isSome, after, oneMore, extensionsOf, wrongHeader, readUnit}
+use Rattle.ccsds.specs.Reader.{numberOr, Coding, ExtensionsRead, Parts, lengthAt, parameterAt, codingOf, valueOf, wrongType, extensionAt, isSome, after, oneMore, extensionsOf, wrongHeader, readUnit}
 use Rattle.wire.specs.Bytes.{part}
 use Rattle.unit_claims.specs.UnitClaims.{EndsEarly}
 use Rattle.ccsds.proofs.Refusals.{never}
@@ -54,7 +54,7 @@ coding-not-6 v =
 value-not-6 : (s : List ℕ) (type a e : ℕ) → Not6 (valueOf s type a e)
 unfolding valueOf
 value-not-6 s type a e =
-    by-test (Not6 {A = Said}) (eqb type 1) (λ t. steps-not-6 (codingOf (part s a e)) _ (coding-not-6 (part s a e)) (λ p. tt)) (λ t. tt)
+    by-test (Not6 {A = ExtensionsRead}) (eqb type 1) (λ t. steps-not-6 (codingOf (part s a e)) _ (coding-not-6 (part s a e)) (λ p. tt)) (λ t. tt)
 
 -- ---- five bytes FF after an unfinished number make it too long
 
@@ -115,12 +115,12 @@ module _ (s : List ℕ) where
 -- ---- an extension, the extensions and the unit
 
 -- the answer is another refusal, or the bytes end with what was read
-abbrev Decided : List ℕ → Outcome Said → Type 0
+abbrev Decided : List ℕ → Outcome ExtensionsRead → Type 0
 Decided u (refused number) = number ≡ 6 → ⊥
 Decided u (answered x) = x .end ≡ length u
 
 -- bytes that decide it
-abbrev Later : List ℕ → (List ℕ → Outcome Said) → Type 0
+abbrev Later : List ℕ → (List ℕ → Outcome ExtensionsRead) → Type 0
 Later s f = (bytes : List ℕ) × Decided (s ++ bytes) (f (s ++ bytes))
 
 coding-decided : (u : List ℕ) (e : ℕ) (r : Outcome Coding) → e ≡ length u → Not6 r → Decided u (r ⟫ λ p. answered (record { coding = some p; end = e }))
@@ -180,13 +180,13 @@ module _ (s : List ℕ) (came : Bool) (at : ℕ) (here : at < length s) (type : 
   by-number unfinished q =
       let r : numberAt (s ++ ones) (at + 1) ≡ wrong = too-long s 5 0 (at + 1) (omega arith) (omega arith) q in
       (ones, subst (Decided (s ++ ones)) (sym (wrong-length (s ++ ones) came at (here-too ones) (type-too ones) r)) (λ z. omega arith))
-  by-number wrong q = absurd (not-6-of {A = Said} (refused 19) (λ z. omega arith) (sym (wrong-length s came at here type q) ∙ e))
+  by-number wrong q = absurd (not-6-of {A = ExtensionsRead} (refused 19) (λ z. omega arith) (sym (wrong-length s came at here type q) ∙ e))
 
 extension-later : (s : List ℕ) (came : Bool) (at : ℕ) → at ≤ length s → extensionAt s came at ≡ refused 6 → Later s (λ u. extensionAt u came at)
 extension-later s came at l e = go (decLt at (length s))
   where
     by-type : at < length s → (b : Bool) → wrongType came (getD s at 0) ≡ b → Later s (λ u. extensionAt u came at)
-    by-type h true t = absurd (not-6-of {A = Said} (refused 20) (λ z. omega arith) (sym (wrong-type s came at h t) ∙ e))
+    by-type h true t = absurd (not-6-of {A = ExtensionsRead} (refused 20) (λ z. omega arith) (sym (wrong-type s came at h t) ∙ e))
     by-type h false t = by-number s came at h t e (numberAt s (at + 1)) refl
 
     go : Dec (at < length s) → Later s (λ u. extensionAt u came at)
@@ -196,10 +196,10 @@ extension-later s came at l e = go (decLt at (length s))
 -- ---- the walk
 
 -- with what came before
-abbrev joined : (Option Coding → Option Coding) → Said → Outcome Said
+abbrev joined : (Option Coding → Option Coding) → ExtensionsRead → Outcome ExtensionsRead
 joined f x = answered (record { coding = f (x .coding); end = x .end })
 
-joined-decided : (u : List ℕ) (f : Option Coding → Option Coding) (r : Outcome Said) → Decided u r → Decided u (r ⟫ joined f)
+joined-decided : (u : List ℕ) (f : Option Coding → Option Coding) (r : Outcome ExtensionsRead) → Decided u r → Decided u (r ⟫ joined f)
 joined-decided u f (refused number) d = d
 joined-decided u f (answered x) d = d
 
@@ -210,17 +210,17 @@ of-6 (answered x) f e = absurd (never (sym e))
 
 module _ (s : List ℕ) (h : 6 ≤ length s) (count : ℕ) where
   -- the last extension ended early
-  last-early : (found : Said) → extensionsOf s count ≡ answered found → oneMore s found ≡ refused 6 → Later s (λ u. extensionsOf u count ⟫ oneMore u)
+  last-early : (found : ExtensionsRead) → extensionsOf s count ≡ answered found → oneMore s found ≡ refused 6 → Later s (λ u. extensionsOf u count ⟫ oneMore u)
   last-early found q e =
       let came = isSome (found .coding) in
       let l = extension-later s came (found .end) (extensions-end s count h q) (of-6 (extensionAt s came (found .end)) _ e) in
       let u = s ++ l .0 in
       let r : extensionsOf u count ≡ answered found = extensions-stay s (l .0) count (λ z. never (sym z ∙ q)) ∙ q in
-      (l .0, subst (λ (x : Outcome Said). Decided u (x ⟫ oneMore u)) (sym r) (joined-decided u (after (found .coding)) (extensionAt u came (found .end)) (l .1)))
+      (l .0, subst (λ (x : Outcome ExtensionsRead). Decided u (x ⟫ oneMore u)) (sym r) (joined-decided u (after (found .coding)) (extensionAt u came (found .end)) (l .1)))
 
   -- one before it did: bytes that decide it, and a type 0 if those end with it
-  earlier-early : (bytes : List ℕ) (r : Outcome Said) → extensionsOf (s ++ bytes) count ≡ r → Decided (s ++ bytes) r → Later s (λ u. extensionsOf u count ⟫ oneMore u)
-  earlier-early bytes (refused number) q d = (bytes, subst (λ (x : Outcome Said). Decided (s ++ bytes) (x ⟫ oneMore (s ++ bytes))) (sym q) d)
+  earlier-early : (bytes : List ℕ) (r : Outcome ExtensionsRead) → extensionsOf (s ++ bytes) count ≡ r → Decided (s ++ bytes) r → Later s (λ u. extensionsOf u count ⟫ oneMore u)
+  earlier-early bytes (refused number) q d = (bytes, subst (λ (x : Outcome ExtensionsRead). Decided (s ++ bytes) (x ⟫ oneMore (s ++ bytes))) (sym q) d)
   earlier-early bytes (answered x) q d =
       let u = s ++ bytes ++ (0 ∷ []) in
       let r : extensionsOf u count ≡ answered x = extensions-stay (s ++ bytes) (0 ∷ []) count (λ z. never (sym z ∙ q)) ∙ q in
@@ -229,7 +229,7 @@ module _ (s : List ℕ) (h : 6 ≤ length s) (count : ℕ) where
       let a : u ≡ s ++ (bytes ++ (0 ∷ [])) = append-assoc s bytes (0 ∷ []) in (
         bytes ++ (0 ∷ []),
         subst (λ (y : List ℕ). Decided y (extensionsOf y count ⟫ oneMore y)) a
-            (subst (λ (y : Outcome Said). Decided u (y ⟫ oneMore u)) (sym r) (subst (Decided u) (sym o) (λ n. omega arith))),
+            (subst (λ (y : Outcome ExtensionsRead). Decided u (y ⟫ oneMore u)) (sym r) (subst (Decided u) (sym o) (λ n. omega arith))),
       )
 
 extensions-later : (s : List ℕ) → 6 ≤ length s → (count : ℕ) → extensionsOf s count ≡ refused 6 → Later s (λ u. extensionsOf u count)
@@ -237,14 +237,14 @@ unfolding extensionsOf
 extensions-later s h zero e = absurd (never (sym e))
 extensions-later s h (suc count) e = go (extensions-later s h count) (extensionsOf s count) refl e
   where
-    go : (extensionsOf s count ≡ refused 6 → Later s (λ u. extensionsOf u count)) → (r : Outcome Said) → extensionsOf s count ≡ r → r ⟫ oneMore s ≡ refused 6
+    go : (extensionsOf s count ≡ refused 6 → Later s (λ u. extensionsOf u count)) → (r : Outcome ExtensionsRead) → extensionsOf s count ≡ r → r ⟫ oneMore s ≡ refused 6
         → Later s (λ u. extensionsOf u count ⟫ oneMore u)
     go f (refused number) q e =
         let l = f (q ∙ e) in
         earlier-early s h count (l .0) (extensionsOf (s ++ l .0) count) refl (l .1)
     go f (answered found) q e = last-early s h count found q e
 
-by-decided : (u : List ℕ) (f : Said → Parts) (r : Outcome Said) → Decided u r → (r ⟫ λ x. answered (f x)) ≡ refused 6 → ⊥
+by-decided : (u : List ℕ) (f : ExtensionsRead → Parts) (r : Outcome ExtensionsRead) → Decided u r → (r ⟫ λ x. answered (f x)) ≡ refused 6 → ⊥
 by-decided u f (refused number) d e = let z : number ≡ 6 = cc in d z
 by-decided u f (answered x) d e = never (sym e)
 

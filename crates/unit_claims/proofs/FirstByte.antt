@@ -13,7 +13,7 @@ use borrow.Author.Tests.{lt-leb, le-leb, le-ltb, ltb-false}
 use Rattle.ccsds.specs.RefusalTable as refusal
 use Rattle.ccsds.specs.Refusals.{Outcome, refused, answered, _⟫_, refuseIf}
 use Rattle.wire.specs.Sdnv.{Number, Reading, finished, unfinished, wrong, longer, sdnvFrom, numberAt}
-use Rattle.ccsds.specs.Reader.{numberOr, Said, Parts, lengthAt, valueOf, wrongType, extensionAt, isSome, oneMore, extensionsOf, wrongHeader, readUnit}
+use Rattle.ccsds.specs.Reader.{numberOr, ExtensionsRead, Parts, lengthAt, valueOf, wrongType, extensionAt, isSome, oneMore, extensionsOf, wrongHeader, readUnit}
 use Rattle.wire.specs.Bytes.{part}
 use Rattle.unit_claims.specs.UnitClaims.{FirstByteDecides}
 use Rattle.wire.proofs.SdnvLaws.{ends-early}
@@ -89,7 +89,7 @@ module _ (s after : List ℕ) where
   value-stays type a e h l = rw (part-stays a e h l)
 
   -- the answer from a length on
-  abbrev onward : List ℕ → ℕ → Outcome Number → Outcome Said
+  abbrev onward : List ℕ → ℕ → Outcome Number → Outcome ExtensionsRead
   onward u type r = r ⟫ λ x. valueOf u type (x .end) (x .end + x .value)
 
   by-length : (type at : ℕ) (r : Outcome Number) → lengthAt s at ≡ r → onward (s ++ after) type r ≡ onward s type r
@@ -115,7 +115,7 @@ module _ (s after : List ℕ) where
 
   -- ---- the walk and the unit
 
-  by-found : (r : Outcome Said) → (r ⟫ oneMore s ≡ refused 6 → ⊥) → r ⟫ oneMore (s ++ after) ≡ r ⟫ oneMore s
+  by-found : (r : Outcome ExtensionsRead) → (r ⟫ oneMore s ≡ refused 6 → ⊥) → r ⟫ oneMore (s ++ after) ≡ r ⟫ oneMore s
   by-found (refused number) n = refl
   by-found (answered x) n =
       let e = extension-stays (isSome (x .coding)) (x .end) (λ u. n (rw u)) in
@@ -133,7 +133,7 @@ module _ (s after : List ℕ) where
   header-stays h =
       rw (byte-stays 0 (omega arith), byte-stays 1 (omega arith), le-ltb (length s) 6 h, le-ltb (length (s ++ after)) 6 (omega (arith, longer-than)))
 
-  by-header : (count : ℕ) (f : Said → Parts) (b : Bool) → (refuseIf refusal.header b (extensionsOf s count ⟫ λ x. answered (f x)) ≡ refused 6 → ⊥)
+  by-header : (count : ℕ) (f : ExtensionsRead → Parts) (b : Bool) → (refuseIf refusal.header b (extensionsOf s count ⟫ λ x. answered (f x)) ≡ refused 6 → ⊥)
       → refuseIf refusal.header b (extensionsOf (s ++ after) count ⟫ λ x. answered (f x)) ≡ refuseIf refusal.header b (extensionsOf s count ⟫ λ x. answered (f x))
   by-header count f true n = refl
   by-header count f false n =

@@ -27,7 +27,7 @@ use Rattle.ccsds.specs.Writer.{headerOf, valueBytes, extensionOf, unitOf, symbo
 use Rattle.ccsds.specs.Show.{Slice, showRefusal, showOf}
 use Rattle.algebra.specs.Codeword.{symbolAt}
 use Rattle.ccsds.proofs.Valid.{few-of}
-use Rattle.ccsds.proofs.Refusals.{length-same, position-is-right, symbol-same}
+use Rattle.ccsds.proofs.Refusals.{length-same, position-is-right}
 use Rattle.wire.proofs.SdnvRound.{reads-back}
 use Rattle.ccsds.proofs.ReaderLaws.{from-value}
 use Rattle.ccsds.proofs.UnitLaws.{value-most, extension-length, unit-length, unit-right, writable}
@@ -150,7 +150,7 @@ module _ (number w position : ℕ) (code : wrongCode number ≡ false) (width : 
       → writeRefusal number w protocol lsc (lwcOf position) symbolLength (unitBytes number w) ≡ 0
   unfolding writeRefusal firstOf firstIn applies
   write-admits protocol lsc symbolLength label h =
-      rw (code, width, label, length-same _ _ (unit-right number w code width), right, symbol-same symbolLength w h)
+      rw (code, width, label, length-same _ _ (unit-right number w code width), right, length-same symbolLength w h)
 
   shown-is : (info parity : RefT (List ℕ)) → length (info .now) ≡ codeOf number .k * w → length (parity .now) ≡ codeOf number .m * w
       → showOf number w info parity (lwcOf position) .bytes ≡ symbolAt w (info .now ++ parity .now) position

@@ -1,4 +1,4 @@
 pub mod PartLaws
 pub mod SdnvLaws
 pub mod SdnvRound
-pub mod PutLaws
+pub mod AppendedLaws

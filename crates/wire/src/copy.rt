@@ -5,7 +5,7 @@
 ghost use mathlib.Core.Path.{_≡_};
 ghost use Prim.Native.Nat.{_+_, _<_, _≤_};
 ghost use lib.ListN.{length, take, drop};
-ghost use Rattle.wire.specs.inner.Put.{Put, fourOf};
+ghost use Rattle.wire.specs.inner.Appended.{Appended, fourOf};
 
 // Four bytes, one after the other.
 struct Four {
@@ -30,7 +30,7 @@ fn read_four(s: &[u8], from: usize) -> Four
 
 fn put_four(out: &mut [u8], at: usize, x: Four) -> usize
     requires { ⌜ at + 4 ≤ length (now out) ⌝ }
-    ensures { λ r. ⌜ Put (now (out .entry)) (now (out .exit)) at r (fourOf x) ⌝ }
+    ensures { λ r. ⌜ Appended (now (out .entry)) (now (out .exit)) at r (fourOf x) ⌝ }
 {
     out[at] = x.a;
     out[at + 1] = x.b;
@@ -42,7 +42,7 @@ fn put_four(out: &mut [u8], at: usize, x: Four) -> usize
 // Puts one byte of s, that of index `from`.
 fn copy_1(out: &mut [u8], at: usize, s: &[u8], from: usize) -> usize
     requires { ⌜ (at + 1 ≤ length (now out)) × (from + 1 ≤ length (now s)) ⌝ }
-    ensures { λ r. ⌜ Put (now (out .entry)) (now (out .exit)) at r (take 1 (drop from (now (s .entry)))) ⌝ }
+    ensures { λ r. ⌜ Appended (now (out .entry)) (now (out .exit)) at r (take 1 (drop from (now (s .entry)))) ⌝ }
 {
     out[at] = s[from];
     at + 1
@@ -51,7 +51,7 @@ fn copy_1(out: &mut [u8], at: usize, s: &[u8], from: usize) -> usize
 // The same with 4 bytes from index `from` on.
 fn copy_4(out: &mut [u8], at: usize, s: &[u8], from: usize) -> usize
     requires { ⌜ (at + 4 ≤ length (now out)) × (from + 4 ≤ length (now s)) ⌝ }
-    ensures { λ r. ⌜ Put (now (out .entry)) (now (out .exit)) at r (take 4 (drop from (now (s .entry)))) ⌝ }
+    ensures { λ r. ⌜ Appended (now (out .entry)) (now (out .exit)) at r (take 4 (drop from (now (s .entry)))) ⌝ }
 {
     let x = read_four(s, from);
     put_four(out, at, x)
@@ -60,7 +60,7 @@ fn copy_4(out: &mut [u8], at: usize, s: &[u8], from: usize) -> usize
 // With 8.
 fn copy_8(out: &mut [u8], at: usize, s: &[u8], from: usize) -> usize
     requires { ⌜ (at + 8 ≤ length (now out)) × (from + 8 ≤ length (now s)) ⌝ }
-    ensures { λ r. ⌜ Put (now (out .entry)) (now (out .exit)) at r (take 8 (drop from (now (s .entry)))) ⌝ }
+    ensures { λ r. ⌜ Appended (now (out .entry)) (now (out .exit)) at r (take 8 (drop from (now (s .entry)))) ⌝ }
 {
     let x = read_four(s, from);
     let y = read_four(s, from + 4);
@@ -71,7 +71,7 @@ fn copy_8(out: &mut [u8], at: usize, s: &[u8], from: usize) -> usize
 // With 16.
 fn copy_16(out: &mut [u8], at: usize, s: &[u8], from: usize) -> usize
     requires { ⌜ (at + 16 ≤ length (now out)) × (from + 16 ≤ length (now s)) ⌝ }
-    ensures { λ r. ⌜ Put (now (out .entry)) (now (out .exit)) at r (take 16 (drop from (now (s .entry)))) ⌝ }
+    ensures { λ r. ⌜ Appended (now (out .entry)) (now (out .exit)) at r (take 16 (drop from (now (s .entry)))) ⌝ }
 {
     let x = read_four(s, from);
     let y = read_four(s, from + 4);
@@ -86,7 +86,7 @@ fn copy_16(out: &mut [u8], at: usize, s: &[u8], from: usize) -> usize
 // All of s, from 1 byte to 32: the first part and the last, which may overlap.
 fn copy_few(out: &mut [u8], at: usize, s: &[u8]) -> usize
     requires { ⌜ (0 < length (now s)) × (length (now s) ≤ 32) × (at + length (now s) ≤ length (now out)) ⌝ }
-    ensures { λ r. ⌜ Put (now (out .entry)) (now (out .exit)) at r (now (s .entry)) ⌝ }
+    ensures { λ r. ⌜ Appended (now (out .entry)) (now (out .exit)) at r (now (s .entry)) ⌝ }
 {
     let n = s.len();
     if n >= 16 {
@@ -120,7 +120,7 @@ fn second_part(at: usize, n: usize) -> usize
 // All of s, 16 bytes or more.
 fn copy_many(out: &mut [u8], at: usize, s: &[u8]) -> usize
     requires { ⌜ (16 ≤ length (now s)) × (at + length (now s) ≤ length (now out)) ⌝ }
-    ensures { λ r. ⌜ Put (now (out .entry)) (now (out .exit)) at r (now (s .entry)) ⌝ }
+    ensures { λ r. ⌜ Appended (now (out .entry)) (now (out .exit)) at r (now (s .entry)) ⌝ }
 {
     let n = s.len();
     let last = n - 16;
@@ -136,7 +136,7 @@ fn copy_many(out: &mut [u8], at: usize, s: &[u8]) -> usize
 // Puts all of s, which has a byte at least.
 pub fn symbol(out: &mut [u8], at: usize, s: &[u8]) -> usize
     requires { ⌜ (0 < length (now s)) × (at + length (now s) ≤ length (now out)) ⌝ }
-    ensures { λ r. ⌜ Put (now (out .entry)) (now (out .exit)) at r (now (s .entry)) ⌝ }
+    ensures { λ r. ⌜ Appended (now (out .entry)) (now (out .exit)) at r (now (s .entry)) ⌝ }
 {
     if s.len() <= 32 {
         return copy_few(out, at, s);

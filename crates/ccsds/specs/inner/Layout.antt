@@ -32,7 +32,7 @@ pub record Small (r : Layout) : Type 0 where
   pub rest : r .rest ≤ 8
 
 -- r holds the numbers of c: its parameters, where each row starts in the flat array, and how long the row is
-pub record Given (c : Params) (r : Layout) : Type 0 where
+pub record LayoutOf (c : Params) (r : Layout) : Type 0 where
   pub k : r .k ≡ c .k
   pub m : r .m ≡ c .m
   pub q : r .q ≡ c .q
@@ -47,7 +47,7 @@ pub record Given (c : Params) (r : Layout) : Type 0 where
   pub degree : (row : ℕ) → row < length (c .rows) → length (getD (c .rows) row []) ≡ degreeOf r row
 
 -- ys has 8 elements and begins with those of l
-pub record Front (l ys : List ℕ) : Type 0 where
+pub record BeginsWith (ys l : List ℕ) : Type 0 where
   pub size : length ys ≡ 8
   pub few : length l ≤ 8
   pub each : (i : ℕ) → i < length l → getD ys i 0 ≡ getD l i 0

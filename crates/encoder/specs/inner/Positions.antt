@@ -55,58 +55,58 @@ positions c j = map (positionAt (c .q) (j / c .a)) (classOf c (j % c .a))
 -- ---- the arrays
 
 -- the arrays of the classes: where the positions of each entry start, where they end, and how many entries each class has
-pub record Lists : Type 0 where
+pub record ClassArrays : Type 0 where
   pub firsts : List ℕ
   pub ends : List ℕ
   pub counts : List ℕ
 
-abbrev pub lists : List ℕ → List ℕ → List ℕ → Lists
-lists firsts ends counts = record { firsts = firsts; ends = ends; counts = counts }
+abbrev pub classArrays : List ℕ → List ℕ → List ℕ → ClassArrays
+classArrays firsts ends counts = record { firsts = firsts; ends = ends; counts = counts }
 
 -- address y of a table row is entered into its class, where there is room
-unfoldable pub entered : ℕ → ℕ → ℕ → ℕ → Lists → Lists
+unfoldable pub entered : ℕ → ℕ → ℕ → ℕ → ClassArrays → ClassArrays
 entered q a row y s =
     cond (ltb (getD (s .counts) (y % a) 0) 64)
-    (lists (set (s .firsts) (y % a * 64 + getD (s .counts) (y % a) 0) (row * q + q - y / a)) (set (s .ends) (y % a * 64 + getD (s .counts) (y % a) 0) (row * q + q))
+    (classArrays (set (s .firsts) (y % a * 64 + getD (s .counts) (y % a) 0) (row * q + q - y / a)) (set (s .ends) (y % a * 64 + getD (s .counts) (y % a) 0) (row * q + q))
     (set (s .counts) (y % a) (getD (s .counts) (y % a) 0 + 1)))
     s
 
 -- the first n addresses of a table row
-unfoldable pub rowEntered : Params → ℕ → ℕ → Lists → Lists
+unfoldable pub rowEntered : Params → ℕ → ℕ → ClassArrays → ClassArrays
 rowEntered c row zero s = s
 rowEntered c row (suc n) s = entered (c .q) (c .a) row (getD (getD (c .rows) row []) n 0) (rowEntered c row n s)
 
 -- the first n table rows
-unfoldable pub tableEntered : Params → ℕ → Lists → Lists
+unfoldable pub tableEntered : Params → ℕ → ClassArrays → ClassArrays
 tableEntered c zero s = s
 tableEntered c (suc n) s = rowEntered c n (length (getD (c .rows) n [])) (tableEntered c n s)
 
 -- the three arrays are those of s
-pub record Is (s : Lists) (f e n : List ℕ) : Type 0 where
+pub record ArraysAre (s : ClassArrays) (f e n : List ℕ) : Type 0 where
   pub firsts : f ≡ s .firsts
   pub ends : e ≡ s .ends
   pub counts : n ≡ s .counts
 
 -- where an entry's positions start and end
-pub record Place (q : ℕ) (e : Entry) (first end : ℕ) : Type 0 where
+pub record EntryBounds (q : ℕ) (e : Entry) (first end : ℕ) : Type 0 where
   pub last : end ≡ e .0 * q + q
   pub start : first + e .1 ≡ end
 
 -- there are at most 8 classes, of at most 62 entries each
-pub record Few (c : Params) : Type 0 where
+pub record ClassSizes (c : Params) : Type 0 where
   pub classes : c .a ≤ 8
   pub entries : (r : ℕ) → r < c .a → length (classOf c r) ≤ 62
 
 -- the classes of c stand in the arrays, 64 places each
-pub record Laid (c : Params) (firsts ends : List ℕ) : Type 0 where
-  pub few : Few c
+pub record ClassEntries (c : Params) (firsts ends : List ℕ) : Type 0 where
+  pub few : ClassSizes c
   pub firsts-size : length firsts ≡ 512
   pub ends-size : length ends ≡ 512
   pub each : (r : ℕ) → r < c .a → (i : ℕ) → i < length (classOf c r)
-      → Place (c .q) (getD (classOf c r) i (0, 0)) (getD firsts (r * 64 + i) 0) (getD ends (r * 64 + i) 0)
+      → EntryBounds (c .q) (getD (classOf c r) i (0, 0)) (getD firsts (r * 64 + i) 0) (getD ends (r * 64 + i) 0)
 
 -- how many entries each class has
-pub record Counted (c : Params) (counts : List ℕ) : Type 0 where
+pub record ClassCounts (c : Params) (counts : List ℕ) : Type 0 where
   pub size : length counts ≡ 8
   pub each : (r : ℕ) → r < c .a → getD counts r 0 ≡ length (classOf c r)
 

@@ -7,7 +7,7 @@ use Prim.Native.Nat.{ℕ, _/_, _%_}
 use native.Mathlib.Omega.{arith}
 use lib.ListN.{getD}
 use Rattle.ccsds.specs.Refusals.{refused, answered}
-use Rattle.ccsds.specs.Reader.{Said, wrongHeader, extensionsOf, readUnit, walkAs}
+use Rattle.ccsds.specs.Reader.{ExtensionsRead, wrongHeader, extensionsOf, readUnit, walkAs}
 use Rattle.wire.specs.Bytes.{pairAt}
 use Rattle.ccsds.proofs.ReaderLaws.{six-bytes}
 use borrow.Author.Needs.{needs}
@@ -20,7 +20,7 @@ module _ (s : List ℕ) {n : ℕ} (h : wrongHeader s ≡ false) (d : n ≡ getD 
   unfolding readUnit
   none x = rw (h, ← d, ← x)
 
-  parts : {f l b : ℕ} {x : Said} → f ≡ getD s 0 0 → l ≡ pairAt s 2 → b ≡ pairAt s 4 → answered x ≡ extensionsOf s n
+  parts : {f l b : ℕ} {x : ExtensionsRead} → f ≡ getD s 0 0 → l ≡ pairAt s 2 → b ≡ pairAt s 4 → answered x ≡ extensionsOf s n
       → answered (record { protocol = f / 2 % 8; count = n; lwc = l; lsc = b; coding = x .coding; symbol = x .end }) ≡ readUnit s
   unfolding readUnit
   parts e l b x = rw (h, ← d, ← e, ← l, ← b, ← x)

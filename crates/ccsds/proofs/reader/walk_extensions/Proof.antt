@@ -11,7 +11,7 @@ use native.Mathlib.Numerals.{add-one}
 use native.Mathlib.Omega.{arith}
 use borrow.Author.Needs.{needs}
 use Rattle.ccsds.specs.Refusals.{Outcome, refused, answered}
-use Rattle.ccsds.specs.Reader.{Coding, Said, extensionAt, extensionsOf, fourAs, extensionAs, walkAs}
+use Rattle.ccsds.specs.Reader.{Coding, ExtensionsRead, extensionAt, extensionsOf, fourAs, extensionAs, walkAs}
 use Rattle.ccsds.specs.declared.reader.Parameters.{Parameters}
 use Rattle.ccsds.specs.declared.reader.Extension.{Extension}
 use Rattle.ccsds.specs.declared.reader.Walk.{Walk}
@@ -62,7 +62,7 @@ module _ (s : List ℕ) (i : ℕ) (p : Parameters) (at : ℕ) where
   none-read false e h = rw (add-one, e, h)
 
 -- what was read, by the walk's answer and by its extension
-told : {r : Walk} {o : Outcome Said} {x y : Extension} {end : ℕ} → walkAs r ≡ o → r ≡ walk.To x end → x ≡ y → o ≡ answered (record { coding = extensionAs y; end = end })
+told : {r : Walk} {o : Outcome ExtensionsRead} {x y : Extension} {end : ℕ} → walkAs r ≡ o → r ≡ walk.To x end → x ≡ y → o ≡ answered (record { coding = extensionAs y; end = end })
 told {r} {o} {x} {y} {end} e t z = sym e ∙ ap walkAs t ∙ ap (λ (v : Extension). answered (record { coding = extensionAs v; end = end })) z
 
 loop-holds : tie.Need-loop-holds Inv-loop μ-loop

@@ -7,10 +7,10 @@ use borrow.Author.Needs.{needs}
 use Rattle.ccsds.specs.Codes.{nOf}
 use Rattle.ccsds.specs.Tables.{codeOf}
 use Rattle.ccsds.specs.RefusalTable as refusal
-use Rattle.ccsds.specs.Refusals.{labelConditions, wrongLength, wrongPosition, wrongSymbol}
+use Rattle.ccsds.specs.Refusals.{labelConditions, wrongLength, wrongPosition}
 use Rattle.ccsds.specs.Writer.{unitLength, writeRefusal}
 use Rattle.ccsds.proofs.RefusalOrder.{chain, in-order, part-refuses, part-passed, first-is, first-on, first-end}
-use Rattle.ccsds.proofs.Refusals.{label-none, position-found, length-same, length-wrong, symbol-same, symbol-wrong}
+use Rattle.ccsds.proofs.Refusals.{label-none, position-found, length-same, length-wrong}
 use Rattle.ccsds.proofs.UnitLaws.{unit-right}
 use Rattle.ccsds.proofs.writer.check_write.Statement.{statement}
 use Rattle.ccsds.proofs.writer.check_write.Tie as tie
@@ -21,7 +21,7 @@ passed : (c : tie.Else1) → let a = c .before .before .args in
     ≡ chain (
     (refusal.length, wrongLength (a .outLength) (unitLength (codeOf (a .number)) (a .w)))
     ∷ (refusal.position, wrongPosition (nOf (codeOf (a .number))) (a .lwc))
-    ∷ (refusal.symbol, wrongSymbol (a .symbolLength) (a .w))
+    ∷ (refusal.symbol, wrongLength (a .symbolLength) (a .w))
     ∷ []
     )
 unfolding writeRefusal
@@ -29,17 +29,23 @@ passed c =
     let a = c .before .before .args in
     part-passed (labelConditions (a .number) (a .w) (a .protocol) (a .lsc)) _ refl refl _ (c .before .check-label .ensures) (c .if1 .left)
 
-output : (c : tie.After-unit-bytes) → let a = c .before .before .before .args in c .unit-bytes .result ≡ unitLength (codeOf (a .number)) (a .w)
+-- each of the three numbers, as it is found
+output : (c : tie.After-wrong-position) → let a = c .before .before .before .before .before .args in
+    c .before .before .unit-bytes .result ≡ unitLength (codeOf (a .number)) (a .w)
 output c =
-    let n = label-none _ _ _ _ (sym (in-order _ refl) ∙ sym (c .before .before .check-label .ensures) ∙ c .before .if1 .left) in
-    c .unit-bytes .ensures ∙ unit-right _ _ (n .0) (n .1)
+    let e = c .before .before .before in
+    let n = label-none _ _ _ _ (sym (in-order _ refl) ∙ sym (e .before .check-label .ensures) ∙ e .if1 .left) in
+    c .before .before .unit-bytes .ensures ∙ unit-right _ _ (n .0) (n .1)
 
-size : (c : tie.Else2) → let a = c .before .before .before .before .args in wrongLength (a .outLength) (unitLength (codeOf (a .number)) (a .w)) ≡ false
+size : (c : tie.Else2) → let a = c .before .before .before .before .before .before .args in wrongLength (a .outLength) (unitLength (codeOf (a .number)) (a .w)) ≡ false
 size c = length-same _ _ (c .if2 .left ∙ output (c .before))
 
-position : (c : tie.After-wrong-position) → let a = c .before .before .before .before .before .before .args in
+position : (c : tie.After-wrong-position) → let a = c .before .before .before .before .before .args in
     wrongPosition (nOf (codeOf (a .number))) (a .lwc) ≡ c .wrong-position .result
 position c = position-found _ (c .before .n .ensures) (c .wrong-position .ensures)
+
+placed : (c : tie.Else3) → let a = c .before .before .before .before .before .before .before .args in wrongPosition (nOf (codeOf (a .number))) (a .lwc) ≡ false
+placed c = position (c .before .before) ∙ c .if3 .left
 
 check-label-requires : tie.Need-check-label-requires
 check-label-requires c κs = search needs
@@ -53,32 +59,31 @@ returns c =
 unit-bytes-requires : tie.Need-unit-bytes-requires
 unit-bytes-requires c κs = search needs
 
-returns-2 : tie.Need-returns-2
-returns-2 c = sym (passed (c .before .before) ∙ first-is _ _ _ (length-wrong _ _ (λ e. c .if2 .taken (e ∙ sym (output (c .before))))))
-
 n-requires : tie.Need-n-requires
 n-requires c κs = search needs
 
 wrong-position-requires : tie.Need-wrong-position-requires
 wrong-position-requires c κs = search needs
 
+returns-2 : tie.Need-returns-2
+returns-2 c = let p = c .before in sym (passed (p .before .before .before) ∙ first-is _ _ _ (length-wrong _ _ (λ e. c .if2 .taken (e ∙ sym (output p)))))
+
 returns-3 : tie.Need-returns-3
 returns-3 c =
-    let e = c .before .before .before in
-    sym (passed (e .before .before) ∙ first-on _ _ _ (size e) ∙ first-is _ _ _ (position (c .before) ∙ c .if3 .taken))
+    let p = c .before .before in
+    sym (passed (p .before .before .before) ∙ first-on _ _ _ (size (c .before)) ∙ first-is _ _ _ (position p ∙ c .if3 .taken))
 
 returns-4 : tie.Need-returns-4
 returns-4 c =
-    let p = c .before in
-    let e = p .before .before .before in
-    sym (passed (e .before .before) ∙ first-on _ _ _ (size e) ∙ first-on _ _ _ (position (p .before) ∙ p .if3 .left) ∙ first-is _ _ _ (symbol-wrong _ _ (c .if4 .taken)))
+    let e = c .before in
+    let p = e .before .before in
+    sym (passed (p .before .before .before) ∙ first-on _ _ _ (size (e .before)) ∙ first-on _ _ _ (placed e) ∙ first-is _ _ _ (length-wrong _ _ (c .if4 .taken)))
 
 returns-5 : tie.Need-returns-5
 returns-5 c =
-    let p = c .before in
-    let e = p .before .before .before in
-    sym (passed (e .before .before) ∙ first-on _ _ _ (size e) ∙ first-on _ _ _ (position (p .before) ∙ p .if3 .left)
-    ∙ first-on _ _ _ (symbol-same _ _ (c .if4 .left)) ∙ first-end)
+    let e = c .before in
+    let p = e .before .before in
+    sym (passed (p .before .before .before) ∙ first-on _ _ _ (size (e .before)) ∙ first-on _ _ _ (placed e) ∙ first-on _ _ _ (length-same _ _ (c .if4 .left)) ∙ first-end)
 
 pub check-write-spec : {M : Type 1} → statement M
 check-write-spec =
@@ -87,9 +92,9 @@ check-write-spec =
     check-label-requires
     returns
     unit-bytes-requires
-    returns-2
     n-requires
     wrong-position-requires
+    returns-2
     returns-3
     returns-4
     returns-5)

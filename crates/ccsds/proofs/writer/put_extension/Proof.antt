@@ -6,7 +6,7 @@ use native.Mathlib.Omega.{arith}
 use lib.ListN.{length}
 use Rattle.wire.specs.Sdnv.{sdnvBytes}
 use Rattle.ccsds.specs.Writer.{extensionOf}
-use Rattle.wire.proofs.PutLaws.{then-put}
+use Rattle.wire.proofs.AppendedLaws.{then-appended}
 use Rattle.ccsds.proofs.UnitLaws.{extension-length, value-most}
 use borrow.Author.Needs.{needs}
 use Rattle.ccsds.proofs.writer.put_extension.Statement.{statement}
@@ -34,7 +34,7 @@ same-length c = search needs
 returns : tie.Need-returns
 unfolding extensionOf
 returns c =
-    then-put (then-put (c .before .before .before .before .before .before .before .before .before .before .before .byte .ensures) (rw (c .before .before .before .before .before .before .before .value-bytes .ensures) at (c .before .before .before .before .before .before .sdnv .ensures))) (c .before .before .put-value .ensures)
+    then-appended (then-appended (c .before .before .before .before .before .before .before .before .before .before .before .byte .ensures) (rw (c .before .before .before .before .before .before .before .value-bytes .ensures) at (c .before .before .before .before .before .before .sdnv .ensures))) (c .before .before .put-value .ensures)
 
 pub put-extension-spec : {M : Type 1} → statement M
 put-extension-spec =

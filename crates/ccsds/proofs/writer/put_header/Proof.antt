@@ -1,7 +1,7 @@
 -- `ccsds::writer::put_header` meets its contract: the header's bytes, one after the other.
 -- Assumes nothing.
 use Rattle.ccsds.specs.Writer.{headerOf}
-use Rattle.wire.proofs.PutLaws.{then-put}
+use Rattle.wire.proofs.AppendedLaws.{then-appended}
 use borrow.Author.Needs.{needs}
 use Rattle.ccsds.proofs.writer.put_header.Statement.{statement}
 use Rattle.ccsds.proofs.writer.put_header.Tie as tie
@@ -29,7 +29,7 @@ same-length c = search needs
 
 returns : tie.Need-returns
 unfolding headerOf
-returns c = then-put (then-put (then-put (c .before .before .before .before .before .before .before .before .before .before .before .before .before .before .byte .ensures) (c .before .before .before .before .before .before .before .before .before .before .byte2 .ensures)) (c .before .before .before .before .before .before .pair .ensures)) (c .before .before .pair2 .ensures)
+returns c = then-appended (then-appended (then-appended (c .before .before .before .before .before .before .before .before .before .before .before .before .before .before .byte .ensures) (c .before .before .before .before .before .before .before .before .before .before .byte2 .ensures)) (c .before .before .before .before .before .before .pair .ensures)) (c .before .before .pair2 .ensures)
 
 pub put-header-spec : {M : Type 1} → statement M
 put-header-spec =

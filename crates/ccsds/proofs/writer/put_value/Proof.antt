@@ -3,7 +3,7 @@
 use native.Mathlib.Omega.{arith}
 use lib.Dec.{lit<}
 use Rattle.ccsds.specs.Writer.{valueBytes}
-use Rattle.wire.proofs.PutLaws.{then-put}
+use Rattle.wire.proofs.AppendedLaws.{then-appended}
 use Rattle.wire.proofs.SdnvRound.{in-one, two-long}
 use Rattle.ccsds.proofs.UnitLaws.{value-compact}
 use borrow.Author.Needs.{needs}
@@ -27,7 +27,7 @@ same-length c = search needs
 
 returns : tie.Need-returns
 unfolding valueBytes
-returns c = then-put (then-put (then-put (c .before .before .before .before .before .before .before .before .before .before .before .before .before .before .sdnv .ensures) (c .before .before .before .before .before .before .before .before .before .before .sdnv-2 .ensures)) (c .before .before .before .before .before .before .sdnv-22 .ensures)) (rw (in-one 0 (lit< tt)) (c .before .before .byte .ensures))
+returns c = then-appended (then-appended (then-appended (c .before .before .before .before .before .before .before .before .before .before .before .before .before .before .sdnv .ensures) (c .before .before .before .before .before .before .before .before .before .before .sdnv-2 .ensures)) (c .before .before .before .before .before .before .sdnv-22 .ensures)) (rw (in-one 0 (lit< tt)) (c .before .before .byte .ensures))
 
 pub put-value-spec : {M : Type 1} → statement M
 put-value-spec =

@@ -9,7 +9,7 @@ use Rattle.ccsds.specs.Tables.{codeOf}
 use Rattle.ccsds.specs.Writer.{extensionOf, unitOf, unitLength, symbolStart}
 use Rattle.ccsds.proofs.Valid.{few-of}
 use Rattle.ccsds.proofs.Refusals.{refused-by, kept-by, not-refused, answered-by, changed-by}
-use Rattle.wire.proofs.PutLaws.{then-put, put-whole}
+use Rattle.wire.proofs.AppendedLaws.{then-appended, appended-whole}
 use Rattle.ccsds.proofs.UnitLaws.{header-length, compact-of, unit-length, Writable, writable}
 use borrow.Author.Needs.{needs}
 use Rattle.ccsds.proofs.writer.write.Statement.{statement}
@@ -65,9 +65,9 @@ returns-2 c =
     let a = c .before .before .before .before .before .before .before .before .before .before .before .before .before .before .before .before .before .before .args in
     let e = c .before .before .before .before .before .before .before .before .before .before .before .before .before .before .before .check-write .ensures in
     let z = c .before .before .before .before .before .before .before .before .before .before .before .before .before .before .if1 .left in
-    let u = then-put (then-put (c .before .before .before .before .before .before .before .before .before .before .before .before .put-header .ensures) (rw (extension (c .before .before .before .before .before .before .before)) at (c .before .before .before .before .before .before .put-extension .ensures))) (c .before .before .symbol .ensures) in
+    let u = then-appended (then-appended (c .before .before .before .before .before .before .before .before .before .before .before .before .put-header .ensures) (rw (extension (c .before .before .before .before .before .before .before)) at (c .before .before .before .before .before .before .put-extension .ensures))) (c .before .before .symbol .ensures) in
     let l = unit-length (codeOf (a .code)) (a .w) (a .protocol) (a .lsc) (a .lwc) (a .symbol .now) ∙ sym (room _ _ _ _ _ _ _ (ready (c .before .before .before .before .before .before .before .before .before .before .before .before .before .before))) in
-    (answered-by _ _ e z tt, put-whole u l ∙ changed-by _ _ e z _ _)
+    (answered-by _ _ e z tt, appended-whole u l ∙ changed-by _ _ e z _ _)
 
 pub write-spec : {M : Type 1} → statement M
 write-spec =

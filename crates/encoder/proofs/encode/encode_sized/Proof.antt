@@ -24,20 +24,23 @@ abbrev μ-loop : tie.MeasureT-loop
 layout-of-requires : tie.Need-layout-of-requires Inv-loop μ-loop
 layout-of-requires c κs = search needs
 
+q-requires : tie.Need-q-requires Inv-loop μ-loop
+q-requires c κs = search needs
+
 lay-requires : tie.Need-lay-requires Inv-loop μ-loop
-lay-requires c κs = ((c .before .before .before .before .before .before .pre .0 .0, c .before .before .before .layout-of .ensures), (refl, refl, refl))
+lay-requires c κs = ((c .before .before .before .before .before .before .before .pre .0 .0, c .before .before .before .before .layout-of .ensures), (refl, refl, refl))
 
 loop-holds : tie.Need-loop-holds Inv-loop μ-loop
 loop-holds c =
-    let s = c .before .before .before .before .before .before .before in
+    let s = c .before .before .before .before .before .before .before .before in
     (omega arith, refl, done-at (done-none _ (valid-of _ (s .pre .0 .0)) _ _ (s .pre .1 .parity)) (sym (zero-mul (codeOf (s .args .number) .a))))
 
 put-rows-requires : tie.Need-put-rows-requires Inv-loop μ-loop
 put-rows-requires c κs =
-    let s = c .before .before .before .before .before .before .before .before .before .before .before .before .before .before in
-    let g = c .before .before .before .before .before .before .before .before .before .before .before .layout-of .ensures in
+    let s = c .before .before .before .before .before .before .before .before .before .before .before .before .before .before .before in
+    let g = c .before .before .before .before .before .before .before .before .before .before .before .before .layout-of .ensures in
     let l = c .before .before .before .before .before .before .loop in
-    ((s .pre .0 .0, g, omega (arith, g .q)), ((c .before .before .before .before .before .before .before .lay .ensures .0, c .before .before .before .before .before .before .before .lay .ensures .1, l .inv .1), (s .pre .1 .info, l .inv .2)))
+    ((s .pre .0 .0, g, omega (arith, c .before .before .before .before .before .before .before .before .before .before .before .q .ensures)), ((c .before .before .before .before .before .before .before .lay .ensures .0, c .before .before .before .before .before .before .before .lay .ensures .1, l .inv .1), (s .pre .1 .info, l .inv .2)))
 
 add-s : tie.Need-add-s Inv-loop μ-loop
 add-s c = omega arith
@@ -48,17 +51,17 @@ loop-less c = omega arith
 loop-again : tie.Need-loop-again Inv-loop μ-loop
 loop-again c =
     let l = c .before .before .before .before .before .before .before .before .before .loop in
-    let a = codeOf (c .before .before .before .before .before .before .before .before .before .before .before .before .before .before .before .before .before .args .number) .a in
+    let a = codeOf (c .before .before .before .before .before .before .before .before .before .before .before .before .before .before .before .before .before .before .args .number) .a in
     (omega arith, c .before .before .put-rows .ensures .0, done-at (c .before .before .put-rows .ensures .1) (sym (ap (λ (k : ℕ). k * a) (add-one (l .s)) ∙ suc-mul (l .s) a)))
 
 same-length : tie.Need-same-length Inv-loop μ-loop
-same-length c = c .before .loop .inv .2 .size ∙ sym (c .before .before .before .before .before .before .before .before .before .pre .1 .parity)
+same-length c = c .before .loop .inv .2 .size ∙ sym (c .before .before .before .before .before .before .before .before .before .before .pre .1 .parity)
 
 returns : tie.Need-returns Inv-loop μ-loop
 returns c =
-    let s = c .before .before .before .before .before .before .before .before .before in
+    let s = c .before .before .before .before .before .before .before .before .before .before in
     let v = valid-of _ (s .pre .0 .0) in
-    let e : c .before .loop .s ≡ codeOf (s .args .number) .q = omega (arith, c .before .before .before .before .before .before .layout-of .ensures .q) in
+    let e : c .before .loop .s ≡ codeOf (s .args .number) .q = omega (arith, c .before .before .before .before .before .before .q .ensures) in
     done-all _ v _ _ (s .pre .0 .1) (done-at (c .before .loop .inv .2) (ap (λ (k : ℕ). k * codeOf (s .args .number) .a) e ∙ v .step))
 
 pub encode-sized-spec : {M : Type 1} → statement M
@@ -68,6 +71,7 @@ encode-sized-spec =
     Inv-loop
     μ-loop
     layout-of-requires
+    q-requires
     lay-requires
     loop-holds
     put-rows-requires

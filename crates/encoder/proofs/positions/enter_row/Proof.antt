@@ -7,13 +7,13 @@ use native.Mathlib.Omega.{arith}
 use lib.ListN.{length, getD}
 use Rattle.ccsds.specs.Tables.{codeOf}
 use Rattle.ccsds.proofs.Valid.{valid-of}
-use Rattle.encoder.specs.inner.Positions.{lists, rowEntered, Is}
+use Rattle.encoder.specs.inner.Positions.{classArrays, rowEntered, ArraysAre}
 use Rattle.encoder.proofs.Arrays.{Room, address-fits, address-more, address-all, address-room}
 use Rattle.encoder.proofs.positions.enter_row.Statement.{statement}
 use Rattle.encoder.proofs.positions.enter_row.Tie as tie
 
 abbrev Inv-loop : tie.InvT-loop
-Inv-loop number row firsts₀ ends₀ counts₀ ys n q a i₀ firsts ends counts i = (i ≤ n) × Room firsts ends counts × Is (rowEntered (codeOf number) row i (lists firsts₀ ends₀ counts₀)) firsts ends counts
+Inv-loop number row firsts₀ ends₀ counts₀ ys n q a i₀ firsts ends counts i = (i ≤ n) × Room firsts ends counts × ArraysAre (rowEntered (codeOf number) row i (classArrays firsts₀ ends₀ counts₀)) firsts ends counts
 
 abbrev μ-loop : tie.MeasureT-loop
 μ-loop number row firsts₀ ends₀ counts₀ ys n q a i₀ firsts ends counts i = n - i

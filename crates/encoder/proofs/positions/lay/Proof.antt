@@ -5,13 +5,13 @@ use Prim.Native.Nat.{ℕ, _≤_, _-_}
 use native.Mathlib.Omega.{arith}
 use lib.ListN.{length, length-replicate}
 use Rattle.ccsds.specs.Tables.{codeOf}
-use Rattle.encoder.specs.inner.Positions.{lists, tableEntered, Is}
+use Rattle.encoder.specs.inner.Positions.{classArrays, tableEntered, ArraysAre}
 use Rattle.encoder.proofs.Arrays.{Room, table-none, row-more, row-room, few-classes, blank-laid}
 use Rattle.encoder.proofs.positions.lay.Statement.{statement}
 use Rattle.encoder.proofs.positions.lay.Tie as tie
 
 abbrev Inv-loop : tie.InvT-loop
-Inv-loop number l firsts₀ ends₀ counts₀ rows row₀ firsts ends counts row = (row ≤ rows) × Room firsts ends counts × Is (tableEntered (codeOf number) row (lists firsts₀ ends₀ counts₀)) firsts ends counts
+Inv-loop number l firsts₀ ends₀ counts₀ rows row₀ firsts ends counts row = (row ≤ rows) × Room firsts ends counts × ArraysAre (tableEntered (codeOf number) row (classArrays firsts₀ ends₀ counts₀)) firsts ends counts
 
 abbrev μ-loop : tie.MeasureT-loop
 μ-loop number l firsts₀ ends₀ counts₀ rows row₀ firsts ends counts row = rows - row

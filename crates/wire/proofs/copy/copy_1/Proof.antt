@@ -2,7 +2,7 @@
 -- Assumes nothing.
 use mathlib.Core.Path.{refl}
 use native.Mathlib.Omega.{arith}
-use Rattle.wire.proofs.PutLaws.{put-one, part-one}
+use Rattle.wire.proofs.AppendedLaws.{append-one, part-one}
 use borrow.Author.Needs.{needs}
 use Rattle.wire.proofs.copy.copy_1.Statement.{statement}
 use Rattle.wire.proofs.copy.copy_1.Tie as tie
@@ -22,7 +22,7 @@ same-length c = search needs
 returns : tie.Need-returns
 returns c =
     let a = c .before .args in
-    rw (← part-one (a .s .now) (a .from) (c .before .pre .1)) (put-one _ _ _ _ refl (omega arith))
+    rw (← part-one (a .s .now) (a .from) (c .before .pre .1)) (append-one _ _ _ _ refl (omega arith))
 
 pub copy-1-spec : {M : Type 1} → statement M
 copy-1-spec =

@@ -1,7 +1,7 @@
 -- `ccsds::copy::copy_16` meets its contract: what is read is put, one part after the other.
 -- Assumes nothing.
 use mathlib.Core.Path.{refl}
-use Rattle.wire.proofs.PutLaws.{then-part}
+use Rattle.wire.proofs.AppendedLaws.{then-part}
 use borrow.Author.Needs.{needs}
 use Rattle.wire.proofs.copy.copy_16.Statement.{statement}
 use Rattle.wire.proofs.copy.copy_16.Tie as tie

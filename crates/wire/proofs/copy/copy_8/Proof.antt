@@ -1,6 +1,6 @@
 -- `ccsds::copy::copy_8` meets its contract: what is read is put, one part after the other.
 -- Assumes nothing.
-use Rattle.wire.proofs.PutLaws.{then-part}
+use Rattle.wire.proofs.AppendedLaws.{then-part}
 use borrow.Author.Needs.{needs}
 use Rattle.wire.proofs.copy.copy_8.Statement.{statement}
 use Rattle.wire.proofs.copy.copy_8.Tie as tie

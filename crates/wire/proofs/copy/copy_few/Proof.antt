@@ -1,7 +1,7 @@
 -- `ccsds::copy::copy_few` meets its contract: the last part reaches back over the first.
 -- Assumes nothing.
 use native.Mathlib.Omega.{arith}
-use Rattle.wire.proofs.PutLaws.{copied-first, copied-on, copied-all}
+use Rattle.wire.proofs.AppendedLaws.{copied-first, copied-on, copied-all}
 use borrow.Author.Needs.{needs}
 use Rattle.wire.proofs.copy.copy_few.Statement.{statement}
 use Rattle.wire.proofs.copy.copy_few.Tie as tie

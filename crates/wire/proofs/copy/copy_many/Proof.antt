@@ -4,7 +4,7 @@ use mathlib.Core.Path.{_∙_}
 use Prim.Native.Nat.{_-_, _≤_}
 use native.Mathlib.Omega.{arith}
 use lib.ListN.{length}
-use Rattle.wire.proofs.PutLaws.{Copied, put-since, put-over, copied-first, copied-less, copied-on, copied-all}
+use Rattle.wire.proofs.AppendedLaws.{Copied, appended-since, appended-over, copied-first, copied-less, copied-on, copied-all}
 use Rattle.wire.proofs.copy.copy_many.Statement.{statement}
 use Rattle.wire.proofs.copy.copy_many.Tie as tie
 
@@ -27,7 +27,7 @@ loop-holds : tie.Need-loop-holds Inv-loop μ-loop
 loop-holds c =
     let a = c .before .before .before .before .before .before .before .args in
     let first = copied-first 16 (a .s .now) (c .before .before .before .copy-16 .ensures) (omega arith) in
-    (omega arith, copied-less _ (a .s .now) (put-since first (omega arith)) (omega arith) (omega arith) (omega (arith, c .before .before .before .copy-16 .ensures)))
+    (omega arith, copied-less _ (a .s .now) (appended-since first (omega arith)) (omega arith) (omega arith) (omega (arith, c .before .before .before .copy-16 .ensures)))
 
 add-copy-16 : tie.Need-add-copy-16 Inv-loop μ-loop
 add-copy-16 c = omega (arith, c .before .before .before .before .before .before .copy-16 .ensures)
@@ -59,7 +59,7 @@ returns : tie.Need-returns Inv-loop μ-loop
 returns c =
     let a = c .before .before .before .before .before .before .before .before .before .before .before .before .before .args in
     let rest = copied-all 16 (a .s .now) (c .before .before .before .before .before .loop .inv .1) (c .before .before .copy-163 .ensures) (omega arith) (omega arith) (omega (arith, c .before .before .before .before .before .before .before .before .before .copy-16 .ensures)) in
-    put-over (c .before .before .before .before .before .before .before .before .before .copy-16 .ensures) (omega arith) rest
+    appended-over (c .before .before .before .before .before .before .before .before .before .copy-16 .ensures) (omega arith) rest
 
 pub copy-many-spec : {M : Type 1} → statement M
 copy-many-spec =

@@ -4,7 +4,7 @@ use mathlib.Core.Path.{refl}
 use Prim.Native.Nat.{_+_}
 use native.Mathlib.Omega.{arith}
 use lib.ListN.{length-set}
-use Rattle.wire.proofs.PutLaws.{then-put, put-one}
+use Rattle.wire.proofs.AppendedLaws.{then-appended, append-one}
 use borrow.Author.Needs.{needs}
 use Rattle.wire.proofs.copy.put_four.Statement.{statement}
 use Rattle.wire.proofs.copy.put_four.Tie as tie
@@ -39,10 +39,10 @@ same-length c = search needs
 returns : tie.Need-returns
 returns c =
     let a = c .args in
-    let one = put-one (a .out .now) (a .at) (a .at + 1) (a .x .a) refl (omega arith) in
-    let two = then-put one (put-one _ (a .at + 1) (a .at + 2) (a .x .b) (omega arith) (simp length-set (omega arith))) in
-    let three = then-put two (put-one _ (a .at + 2) (a .at + 3) (a .x .c) (omega arith) (simp length-set (omega arith))) in
-    then-put three (put-one _ (a .at + 3) (a .at + 4) (a .x .d) (omega arith) (simp length-set (omega arith)))
+    let one = append-one (a .out .now) (a .at) (a .at + 1) (a .x .a) refl (omega arith) in
+    let two = then-appended one (append-one _ (a .at + 1) (a .at + 2) (a .x .b) (omega arith) (simp length-set (omega arith))) in
+    let three = then-appended two (append-one _ (a .at + 2) (a .at + 3) (a .x .c) (omega arith) (simp length-set (omega arith))) in
+    then-appended three (append-one _ (a .at + 3) (a .at + 4) (a .x .d) (omega arith) (simp length-set (omega arith)))
 
 pub put-four-spec : {M : Type 1} → statement M
 put-four-spec =

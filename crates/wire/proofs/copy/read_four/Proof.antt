@@ -4,7 +4,7 @@ use mathlib.Core.Path.{_∙_, ap₂}
 use mathlib.Core.List.{List, _++_}
 use Prim.Native.Nat.{ℕ, _+_}
 use native.Mathlib.Omega.{arith}
-use Rattle.wire.proofs.PutLaws.{part-one, joined}
+use Rattle.wire.proofs.AppendedLaws.{part-one, joined}
 use borrow.Author.Needs.{needs}
 use Rattle.wire.proofs.copy.read_four.Statement.{statement}
 use Rattle.wire.proofs.copy.read_four.Tie as tie

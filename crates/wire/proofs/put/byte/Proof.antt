@@ -1,7 +1,7 @@
 -- `ccsds::put::byte` meets its contract: a store is one byte put.
 -- Assumes nothing.
 use mathlib.Core.Path.{refl}
-use Rattle.wire.proofs.PutLaws.{put-one}
+use Rattle.wire.proofs.AppendedLaws.{append-one}
 use borrow.Author.Needs.{needs}
 use Rattle.wire.proofs.put.byte.Statement.{statement}
 use Rattle.wire.proofs.put.byte.Tie as tie
@@ -19,7 +19,7 @@ same-length : tie.Need-same-length
 same-length c = search needs
 
 returns : tie.Need-returns
-returns c = put-one _ _ _ _ refl (c .pre .0)
+returns c = append-one _ _ _ _ refl (c .pre .0)
 
 pub byte-spec : {M : Type 1} → statement M
 byte-spec = tie.close (tie.spec cast-out slice-write-out add-result same-length returns)
