@@ -1,6 +1,6 @@
 -- Tests of whether sums are all zero, in chunks of 16 bytes.
 -- Assumes nothing.
-use mathlib.Core.Path.{_≡_, refl, sym, ap, ap₂, _∙_, subst}
+use mathlib.Core.Path.{_≡_, refl, sym, ap, _∙_, subst}
 use mathlib.Core.Logic.{_≢_}
 use mathlib.Core.Bool.{Bool, true, false, not, false≢true}
 use mathlib.Core.List.{List}
@@ -8,22 +8,22 @@ use Prim.Native.Nat.{ℕ, _+_, _-_, _<_, _≤_}
 use native.Mathlib.Decide.{decLt, ℕ-discrete}
 use native.Mathlib.Omega.{arith}
 use lib.Bits.{bitOr, or-zero-l}
-use lib.ListN.{length, getD}
+use lib.ListN.{getD}
 use Rattle.algebra.specs.Codeword.{byteAt}
 use Rattle.algebra.proofs.Sums as sums
 use Rattle.buffers.specs.AllZero.{AllZeroIs}
 use Rattle.symbol_sums.specs.declared.Chunk64.{Chunk64}
-use Rattle.symbol_sums.specs.Gather.{gathered, summed, Chunk16Is, Chunk64Is, CancelIs, Joined, ZeroIs}
+use Rattle.symbol_sums.specs.Gather.{gathered, summed, Chunk16Is, Chunk64Is, CancelIs, Or16, ZeroIs}
 use Rattle.buffers.proofs.AllZeroLaws.{or-none}
 use Rattle.buffers.proofs.Put.{from-zero}
 
--- t has a zero for zeros of f at from, .., to - 1 only
-record Shows (f : ℕ → ℕ) (from to : ℕ) (t : List ℕ) : Type 0 where
+-- t, of 16 bytes, is all zeros just where f is zero at from, .., to - 1
+record Decides (f : ℕ → ℕ) (from to : ℕ) (t : List ℕ) : Type 0 where
   none : ((i : ℕ) → i < 16 → getD t i 0 ≡ 0) → (b : ℕ) → from ≤ b → b < to → f b ≡ 0
   some : (i : ℕ) → i < 16 → getD t i 0 ≢ 0 → (b : ℕ) × ((from ≤ b) × ((b < to) × (f b ≢ 0)))
 
-shows-chunk : {f : ℕ → ℕ} {c : ℕ} {t : List ℕ} → Chunk16Is f c t → Shows f c (c + 16) t
-shows-chunk {f} {c} {t} h = record {
+decides-chunk : {f : ℕ → ℕ} {c : ℕ} {t : List ℕ} → Chunk16Is f c t → Decides f c (c + 16) t
+decides-chunk {f} {c} {t} h = record {
   none = λ z b l₁ l₂.
       let e : c + (b - c) ≡ b = omega arith in
       let g : b - c < 16 = omega arith in
@@ -31,9 +31,9 @@ shows-chunk {f} {c} {t} h = record {
   some = λ i l d. (c + i, (omega arith, (omega arith, λ q. d (h .each i l ∙ q))));
 }
 
--- two chunks joined
-shows-joined : (f : ℕ → ℕ) (from mid to : ℕ) {t u r : List ℕ} → from ≤ mid → mid ≤ to → Shows f from mid t → Shows f mid to u → Joined t u r → Shows f from to r
-shows-joined f from mid to {t} {u} {r} l₁ l₂ a c j = record { none = none; some = some }
+-- the bitwise or of two
+decides-or : (f : ℕ → ℕ) (from mid to : ℕ) {t u r : List ℕ} → from ≤ mid → mid ≤ to → Decides f from mid t → Decides f mid to u → Or16 t u r → Decides f from to r
+decides-or f from mid to {t} {u} {r} l₁ l₂ a c j = record { none = none; some = some }
   where
     left : (i : ℕ) → i < 16 → getD r i 0 ≡ 0 → getD t i 0 ≡ 0
     left i l e = or-none (getD t i 0) (getD u i 0) (sym (j .each i l) ∙ e)
@@ -56,24 +56,24 @@ shows-joined f from mid to {t} {u} {r} l₁ l₂ a c j = record { none = none; s
         go (no e) = let s = a .some i l e in (s .0, (s .1 .0, (omega (arith, s .1 .1 .0), s .1 .1 .1)))
 
 -- its answer
-shows-is : {f : ℕ → ℕ} {from to : ℕ} {t : List ℕ} → Shows f from to t → (r : Bool) → AllZeroIs t 0 16 r → ZeroIs f from to r
-shows-is {t = t} h true z = h .none (λ i l. sym (from-zero t i) ∙ z i l)
-shows-is {t = t} h false z = h .some (z .0) (z .1 .0) (λ e. z .1 .1 (from-zero t (z .0) ∙ e))
+decides-is : {f : ℕ → ℕ} {from to : ℕ} {t : List ℕ} → Decides f from to t → (r : Bool) → AllZeroIs t 0 16 r → ZeroIs f from to r
+decides-is {t = t} h true z = h .none (λ i l. sym (from-zero t i) ∙ z i l)
+decides-is {t = t} h false z = h .some (z .0) (z .1 .0) (λ e. z .1 .1 (from-zero t (z .0) ∙ e))
 
 pub zero-16 : {f : ℕ → ℕ} {c : ℕ} {t : List ℕ} → Chunk16Is f c t → (r : Bool) → AllZeroIs t 0 16 r → ZeroIs f c (c + 16) r
-zero-16 h r z = shows-is (shows-chunk h) r z
+zero-16 h r z = decides-is (decides-chunk h) r z
 
-pub zero-64 : {f : ℕ → ℕ} {c : ℕ} {s : Chunk64} {x y a : List ℕ} → Chunk64Is f c s → Joined (s .a) (s .b) x → Joined (s .c) (s .d) y → Joined x y a
+pub zero-64 : {f : ℕ → ℕ} {c : ℕ} {s : Chunk64} {x y a : List ℕ} → Chunk64Is f c s → Or16 (s .a) (s .b) x → Or16 (s .c) (s .d) y → Or16 x y a
     → (r : Bool) → AllZeroIs a 0 16 r → ZeroIs f c (c + 64) r
 zero-64 {f} {c} {s} h j₁ j₂ j₃ r q =
-    shows-is
-    (shows-joined f c (c + 32) (c + 64) (omega arith) (omega arith)
-    (shows-joined f c (c + 16) (c + 32) (omega arith) (omega arith) (shows-chunk (h .first)) (at (s .b) (c + 16) (c + 32) (omega arith) (shows-chunk (h .second))) j₁)
-    (shows-joined f (c + 32) (c + 48) (c + 64) (omega arith) (omega arith) (at (s .c) (c + 32) (c + 48) (omega arith) (shows-chunk (h .third)))
-    (at (s .d) (c + 48) (c + 64) (omega arith) (shows-chunk (h .fourth))) j₂) j₃) r q
+    decides-is
+    (decides-or f c (c + 32) (c + 64) (omega arith) (omega arith)
+    (decides-or f c (c + 16) (c + 32) (omega arith) (omega arith) (decides-chunk (h .first)) (at (s .b) (c + 16) (c + 32) (omega arith) (decides-chunk (h .second))) j₁)
+    (decides-or f (c + 32) (c + 48) (c + 64) (omega arith) (omega arith) (at (s .c) (c + 32) (c + 48) (omega arith) (decides-chunk (h .third)))
+    (at (s .d) (c + 48) (c + 64) (omega arith) (decides-chunk (h .fourth))) j₂) j₃) r q
   where
-    at : (l : List ℕ) (from to : ℕ) → from + 16 ≡ to → Shows f from (from + 16) l → Shows f from to l
-    at l from to e s = subst (λ (k : ℕ). Shows f from k l) e s
+    at : (l : List ℕ) (from to : ℕ) → from + 16 ≡ to → Decides f from (from + 16) l → Decides f from to l
+    at l from to e s = subst (λ (k : ℕ). Decides f from k l) e s
 
 -- ---- the turns of a loop: f is zero below c
 

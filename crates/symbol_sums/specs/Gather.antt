@@ -89,8 +89,8 @@ pub record Written (f : ℕ → ℕ) (at c n : ℕ) (p p′ : List ℕ) : Type 0
 abbrev pub SumWritten : ℕ → ℕ → ℕ → List ℕ → List ℕ → ℕ → ℕ → ℕ → List ℕ → List ℕ → Type 0
 SumWritten w j prev src xs n c k p p′ = Written (summed (byteBefore w p prev) w src xs n) (j * w) c k p p′
 
--- t is the bitwise or of s and u
-pub record Joined (s u t : List ℕ) : Type 0 where
+-- t is the bitwise or of s and u, 16 bytes each
+pub record Or16 (s u t : List ℕ) : Type 0 where
   pub size : length t ≡ 16
   pub each : (b : ℕ) → b < 16 → getD t b 0 ≡ bitOr (getD s b 0) (getD u b 0)
 

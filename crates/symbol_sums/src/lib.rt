@@ -6,7 +6,7 @@ ghost use lib.ListN.{length, getD};
 ghost use Rattle.algebra.specs.Sums.{_⊕_};
 ghost use Rattle.algebra.specs.Codeword.{byteAt};
 ghost use Rattle.algebra.specs.Staircase.{before};
-ghost use Rattle.symbol_sums.specs.Gather.{gathered, Inside, Replaced, summed, byteBefore, Chunk16Is, Chunk64Is, Sized64, Sum64, PlusSymbols, put64, SumWritten, CancelIs, Joined, ZeroIs};
+ghost use Rattle.symbol_sums.specs.Gather.{gathered, Inside, Replaced, summed, byteBefore, Chunk16Is, Chunk64Is, Sized64, Sum64, PlusSymbols, put64, SumWritten, CancelIs, Or16, ZeroIs};
 use buffers::all_zero;
 use buffers::part_16;
 use buffers::put_16;
@@ -405,9 +405,9 @@ pub fn restore(w: usize, p: usize, xs: &[usize; 64], n: usize, buf: &mut [u8])
 }
 
 // The bitwise or of two chunks.
-fn join<'a>(t: &'a [u8; 16], u: &'a [u8; 16]) -> [u8; 16]
+fn or_16<'a>(t: &'a [u8; 16], u: &'a [u8; 16]) -> [u8; 16]
     requires { ⌜ (length (now t) ≡ 16) × (length (now u) ≡ 16) ⌝ }
-    ensures { λ r. ⌜ Joined (now (t .entry)) (now (u .entry)) r ⌝ }
+    ensures { λ r. ⌜ Or16 (now (t .entry)) (now (u .entry)) r ⌝ }
 {
     let mut r = [0u8; 16];
     let mut i = 0;
@@ -425,9 +425,9 @@ fn cancels_64(w: usize, c: usize, xs: &[usize; 64], n: usize, src: &[u8]) -> boo
     ensures { λ r. ⌜ ZeroIs (summed (λ b. 0) w (now (src .entry)) (now (xs .entry)) n) c (c + 64) r ⌝ }
 {
     let s = gather_64(w, c, xs, n, src);
-    let x = join(&s.a, &s.b);
-    let y = join(&s.c, &s.d);
-    all_zero(&join(&x, &y), 0, 16)
+    let x = or_16(&s.a, &s.b);
+    let y = or_16(&s.c, &s.d);
+    all_zero(&or_16(&x, &y), 0, 16)
 }
 
 // Bytes c to c + 15.

@@ -8,14 +8,14 @@ use Rattle.symbol_sums.proofs.cancels_64.Tie as tie
 gather-64-requires : tie.Need-gather-64-requires
 gather-64-requires c κs = search needs
 
-join-requires : tie.Need-join-requires
-join-requires c κs = search needs
+or-16-requires : tie.Need-or-16-requires
+or-16-requires c κs = search needs
 
-join-requires-2 : tie.Need-join-requires-2
-join-requires-2 c κs = search needs
+or-16-requires-2 : tie.Need-or-16-requires-2
+or-16-requires-2 c κs = search needs
 
-join-requires-3 : tie.Need-join-requires-3
-join-requires-3 c κs = search needs
+or-16-requires-3 : tie.Need-or-16-requires-3
+or-16-requires-3 c κs = search needs
 
 slice-aggregate-all-zero : tie.Need-slice-aggregate-all-zero
 slice-aggregate-all-zero c = search needs
@@ -24,16 +24,16 @@ all-zero-requires : tie.Need-all-zero-requires
 all-zero-requires c κs = search needs
 
 returns : tie.Need-returns
-returns c = zero-64 (c .before .before .before .before .before .before .before .before .before .before .before .before .before .gather-64 .ensures) (c .before .before .before .before .before .before .before .before .before .join .ensures) (c .before .before .before .before .before .join2 .ensures) (c .before .before .join3 .ensures) (c .all-zero .result) (c .all-zero .ensures)
+returns c = zero-64 (c .before .before .before .before .before .before .before .before .before .before .before .before .before .gather-64 .ensures) (c .before .before .before .before .before .before .before .before .before .or-16 .ensures) (c .before .before .before .before .before .or-162 .ensures) (c .before .before .or-163 .ensures) (c .all-zero .result) (c .all-zero .ensures)
 
 pub cancels-64-spec : {M : Type 1} → statement M
 cancels-64-spec =
     tie.close
     (tie.spec
     gather-64-requires
-    join-requires
-    join-requires-2
-    join-requires-3
+    or-16-requires
+    or-16-requires-2
+    or-16-requires-3
     slice-aggregate-all-zero
     all-zero-requires
     returns)

@@ -30,7 +30,7 @@ loop-holds : tie.Need-loop-holds Inv-loop μ-loop
 loop-holds c =
     let a = c .before .before .before .args in
     let f = summed (λ b. 0) (a .w) (a .src .now) (a .xs .now) (a .n) in
-    (omega arith, zero-more f 0 0 (a .w - a .w % 64) (c .before .cancels-wide .result) (λ b g. absurd (omega arith)) (omega arith) (c .before .cancels-wide .ensures) (c .if1 .left))
+    (omega arith, λ b l. zero-more f 0 0 (a .w - a .w % 64) (c .before .cancels-wide .result) (λ k g. absurd (omega arith)) (omega arith) (c .before .cancels-wide .ensures) (c .if1 .left) b (omega arith))
 
 sub-loop : tie.Need-sub-loop Inv-loop μ-loop
 sub-loop c = omega arith

@@ -1,4 +1,4 @@
--- `symbol_sums::join` meets its contract: after i turns, i elements stand in the array.
+-- `symbol_sums::or_16` meets its contract: after i turns, i elements stand in the array.
 -- Assumes nothing.
 use mathlib.Core.Path.{refl}
 use Prim.Native.Nat.{ℕ, _-_}
@@ -6,8 +6,8 @@ use native.Mathlib.Omega.{arith}
 use lib.Bits.{bitOr}
 use lib.ListN.{getD}
 use Rattle.algebra.proofs.Fronts.{Filled, filled-none, filled-more, filled-all}
-use Rattle.symbol_sums.proofs.join.Statement.{statement}
-use Rattle.symbol_sums.proofs.join.Tie as tie
+use Rattle.symbol_sums.proofs.or_16.Statement.{statement}
+use Rattle.symbol_sums.proofs.or_16.Tie as tie
 
 abbrev Inv-loop : tie.InvT-loop
 Inv-loop t u r₀ i₀ r i = Filled (λ (b : ℕ). bitOr (getD t b 0) (getD u b 0)) 16 i r
@@ -39,8 +39,8 @@ loop-again c = filled-more (c .before .before .before .loop .inv) (omega arith) 
 returns : tie.Need-returns Inv-loop μ-loop
 returns c = record { size = c .before .loop .inv .size; each = filled-all (c .before .loop .inv) (omega arith) }
 
-pub join-spec : {M : Type 1} → statement M
-join-spec =
+pub or-16-spec : {M : Type 1} → statement M
+or-16-spec =
     tie.close
     (tie.spec
     Inv-loop
