@@ -202,12 +202,9 @@ put64-written {f} {at} {c} {p} {p′} {s} h l e =
 pub written-none : {f : ℕ → ℕ} {at : ℕ} {p : List ℕ} → Written f at 0 0 p p
 written-none = record { size = refl; outside = λ t o. refl; each = λ b g. absurd (not-suc-le-zero g) }
 
-pub written-all : {f : ℕ → ℕ} {at c w : ℕ} {p p′ : List ℕ} → Written f at 0 c p p′ → c ≡ w → Written f at 0 w p p′
-written-all {f} {at} {c} {w} {p} {p′} h e = subst (λ (k : ℕ). Written f at 0 k p p′) e h
-
 -- the whole symbol
-pub written-replaced : {f g : ℕ → ℕ} {w j : ℕ} {p p′ : List ℕ} → Written f (j * w) 0 w p p′ → ((b : ℕ) → f b ≡ g b) → Replaced g w j p p′
-written-replaced {f} {g} {w} {j} {p} {p′} h same = record { size = h .size; outside = out; each = each }
+written-replaced : {f g : ℕ → ℕ} {w j c : ℕ} {p p′ : List ℕ} → Written f (j * w) 0 c p p′ → c ≡ w → ((b : ℕ) → f b ≡ g b) → Replaced g w j p p′
+written-replaced {f} {g} {w} {j} {c} {p} {p′} h e same = record { size = h .size; outside = out; each = each }
   where
     out : (t : ℕ) → (t < j * w) ⊎ (j * w + w ≤ t) → getD p′ t 0 ≡ getD p t 0
     out t (inl o) = h .outside t (inl (omega arith))
@@ -216,7 +213,17 @@ written-replaced {f} {g} {w} {j} {p} {p′} h same = record { size = h .size; ou
     each : (b : ℕ) → b < w → byteAt w p′ b j ≡ g b
     each b q =
         let z : 0 + b ≡ b = omega arith in
-        subst (λ (m : ℕ). getD p′ (j * w + m) 0 ≡ f m) z (h .each b q) ∙ same b
+        subst (λ (m : ℕ). getD p′ (j * w + m) 0 ≡ f m) z (h .each b (omega arith)) ∙ same b
+
+pub sum-replaced : (w j prev : ℕ) (src xs : List ℕ) (n : ℕ) {c : ℕ} {p p′ : List ℕ} → SumWritten w j prev src xs n 0 c p p′ → c ≡ w
+    → Replaced (λ b. before (byteAt w p b) prev ⊕ gathered (byteAt w src b) xs n) w j p p′
+unfolding summed
+sum-replaced w j prev src xs n h e = written-replaced h e (λ b. refl)
+
+pub restore-replaced : (w j : ℕ) (xs : List ℕ) (n : ℕ) {c : ℕ} {p p′ : List ℕ} → SumWritten w j 0 p xs n 0 c p p′ → c ≡ w
+    → Replaced (λ b. gathered (byteAt w p b) xs n) w j p p′
+unfolding summed
+restore-replaced w j xs n {p = p} h e = written-replaced h e (λ b. sums.unit-l (gathered (byteAt w p b) xs n))
 
 -- ---- what is written isn't read again
 

@@ -133,7 +133,8 @@ fn before_byte(dst: &[u8], w: usize, prev: usize, c: usize) -> u8
     dst[(prev - 1) * w + c]
 }
 
-// Bytes c to c + 63 of symbol prev - 1 of dst, where prev is not 0, plus those of the n symbols xs of src.
+// Bytes c to c + 63 of symbol prev - 1 of dst, where prev is not 0, plus those of the n symbols xs of src. It has one
+// caller, so that it is inlined; a loop that is handed its start and shared with gather_64 is not.
 fn running_sum_64(
     w: usize,
     prev: usize,
@@ -259,7 +260,7 @@ fn put_sum_chunks(
 )
     requires { ⌜ (16 ≤ w) × (prev ≤ j) × (j * w + w ≤ length (now dst)) ⌝ }
     requires { ⌜ Inside (now xs) n w (length (now src)) ⌝ }
-    ensures { λ _. ⌜ SumWritten w j prev (now (src .entry)) (now (xs .entry)) n 0 w (now (dst .entry)) (now (dst .exit)) ⌝ }
+    ensures { λ _. ⌜ Replaced (λ b. before (byteAt w (now (dst .entry)) b) prev ⊕ gathered (byteAt w (now (src .entry)) b) (now (xs .entry)) n) w j (now (dst .entry)) (now (dst .exit)) ⌝ }
 {
     let mut c = put_sum_wide(w, j, prev, xs, n, src, dst);
     while w - c > 16 {
@@ -284,7 +285,7 @@ fn put_sum_bytes(
 )
     requires { ⌜ (prev ≤ j) × (j * w + w ≤ length (now dst)) ⌝ }
     requires { ⌜ Inside (now xs) n w (length (now src)) ⌝ }
-    ensures { λ _. ⌜ SumWritten w j prev (now (src .entry)) (now (xs .entry)) n 0 w (now (dst .entry)) (now (dst .exit)) ⌝ }
+    ensures { λ _. ⌜ Replaced (λ b. before (byteAt w (now (dst .entry)) b) prev ⊕ gathered (byteAt w (now (src .entry)) b) (now (xs .entry)) n) w j (now (dst .entry)) (now (dst .exit)) ⌝ }
 {
     let mut c = 0;
     while c < w {
@@ -363,7 +364,7 @@ fn restore_chunks(w: usize, p: usize, xs: &[usize; 64], n: usize, buf: &mut [u8]
     requires { ⌜ (16 ≤ w) × (p * w + w ≤ length (now buf)) ⌝ }
     requires { ⌜ Inside (now xs) n w (length (now buf)) ⌝ }
     requires { ⌜ ((i : ℕ) → i < n → getD (now xs) i 0 ≢ p) ⌝ }
-    ensures { λ _. ⌜ SumWritten w p 0 (now (buf .entry)) (now (xs .entry)) n 0 w (now (buf .entry)) (now (buf .exit)) ⌝ }
+    ensures { λ _. ⌜ Replaced (λ b. gathered (byteAt w (now (buf .entry)) b) (now (xs .entry)) n) w p (now (buf .entry)) (now (buf .exit)) ⌝ }
 {
     let mut c = restore_wide(w, p, xs, n, buf);
     while w - c > 16 {
@@ -381,7 +382,7 @@ fn restore_bytes(w: usize, p: usize, xs: &[usize; 64], n: usize, buf: &mut [u8])
     requires { ⌜ p * w + w ≤ length (now buf) ⌝ }
     requires { ⌜ Inside (now xs) n w (length (now buf)) ⌝ }
     requires { ⌜ ((i : ℕ) → i < n → getD (now xs) i 0 ≢ p) ⌝ }
-    ensures { λ _. ⌜ SumWritten w p 0 (now (buf .entry)) (now (xs .entry)) n 0 w (now (buf .entry)) (now (buf .exit)) ⌝ }
+    ensures { λ _. ⌜ Replaced (λ b. gathered (byteAt w (now (buf .entry)) b) (now (xs .entry)) n) w p (now (buf .entry)) (now (buf .exit)) ⌝ }
 {
     let mut c = 0;
     while c < w {

@@ -3,7 +3,7 @@
 use Prim.Native.Nat.{_≤_, _-_}
 use native.Mathlib.Omega.{arith}
 use Rattle.symbol_sums.specs.Gather.{SumWritten}
-use Rattle.symbol_sums.proofs.Symbols.{written-none, sum-join, written-all}
+use Rattle.symbol_sums.proofs.Symbols.{written-none, sum-join, sum-replaced}
 use Rattle.symbol_sums.proofs.put_sum_bytes.Statement.{statement}
 use Rattle.symbol_sums.proofs.put_sum_bytes.Tie as tie
 
@@ -34,7 +34,9 @@ same-length : tie.Need-same-length Inv-loop μ-loop
 same-length c = c .before .loop .inv .1 .size
 
 returns : tie.Need-returns Inv-loop μ-loop
-returns c = written-all (c .before .loop .inv .1) (omega arith)
+returns c =
+    let a = c .before .before .before .before .args in
+    sum-replaced (a .w) (a .j) (a .prev) (a .src .now) (a .xs .now) (a .n) (c .before .loop .inv .1) (omega arith)
 
 pub put-sum-bytes-spec : {M : Type 1} → statement M
 put-sum-bytes-spec =

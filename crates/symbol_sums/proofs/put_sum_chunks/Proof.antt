@@ -6,7 +6,7 @@ use Prim.Native.Nat.{ℕ, _≤_, _-_, _+_}
 use native.Mathlib.Omega.{arith}
 use lib.ListN.{length}
 use Rattle.symbol_sums.specs.Gather.{SumWritten}
-use Rattle.symbol_sums.proofs.Symbols.{sum-join, written-all}
+use Rattle.symbol_sums.proofs.Symbols.{sum-join, sum-replaced}
 use Rattle.symbol_sums.proofs.put_sum_chunks.Statement.{statement}
 use Rattle.symbol_sums.proofs.put_sum_chunks.Tie as tie
 
@@ -47,7 +47,9 @@ same-length : tie.Need-same-length Inv-loop μ-loop
 same-length c = c .before .before .loop .inv .1 ∙ c .before .before .before .before .before .put-sum-wide .ensures .1 .size
 
 returns : tie.Need-returns Inv-loop μ-loop
-returns c = written-all (c .before .before .loop .inv .2 _ (c .before .before .before .before .before .put-sum-wide .ensures .1)) (c .if1 .taken)
+returns c =
+    let a = c .before .before .before .before .before .before .before .before .before .args in
+    sum-replaced (a .w) (a .j) (a .prev) (a .src .now) (a .xs .now) (a .n) (c .before .before .loop .inv .2 _ (c .before .before .before .before .before .put-sum-wide .ensures .1)) (c .if1 .taken)
 
 sub-put-sum-16 : tie.Need-sub-put-sum-16 Inv-loop μ-loop
 sub-put-sum-16 c = omega arith
@@ -64,7 +66,8 @@ returns-2 : tie.Need-returns-2 Inv-loop μ-loop
 returns-2 c =
     let s = (c .before .before .before .before .before .before .before .before .before .before .before .before .before) in
     let e : s .args .w - 16 + 16 ≡ s .args .w = omega (arith, s .pre .0 .0) in
-    written-all (sum-join _ _ _ _ _ _ (c .before .before .before .before .before .before .before .before .before .before .before .before .before .pre .0 .1) (c .before .before .before .before .before .before .loop .inv .2 _ (c .before .before .before .before .before .before .before .before .before .put-sum-wide .ensures .1)) (c .before .before .put-sum-162 .ensures) (omega arith) (omega (arith, e)) (omega (arith, e))) e
+    let a = s .args in
+    sum-replaced (a .w) (a .j) (a .prev) (a .src .now) (a .xs .now) (a .n) (sum-join _ _ _ _ _ _ (c .before .before .before .before .before .before .before .before .before .before .before .before .before .pre .0 .1) (c .before .before .before .before .before .before .loop .inv .2 _ (c .before .before .before .before .before .before .before .before .before .put-sum-wide .ensures .1)) (c .before .before .put-sum-162 .ensures) (omega arith) (omega (arith, e)) (omega (arith, e))) e
 
 pub put-sum-chunks-spec : {M : Type 1} → statement M
 put-sum-chunks-spec =

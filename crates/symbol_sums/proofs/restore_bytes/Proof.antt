@@ -3,7 +3,7 @@
 use Prim.Native.Nat.{_≤_, _-_}
 use native.Mathlib.Omega.{arith}
 use Rattle.symbol_sums.specs.Gather.{SumWritten}
-use Rattle.symbol_sums.proofs.Symbols.{written-none, restore-join, inside-kept, written-all}
+use Rattle.symbol_sums.proofs.Symbols.{written-none, restore-join, inside-kept, restore-replaced}
 use Rattle.symbol_sums.proofs.restore_bytes.Statement.{statement}
 use Rattle.symbol_sums.proofs.restore_bytes.Tie as tie
 
@@ -34,7 +34,9 @@ same-length : tie.Need-same-length Inv-loop μ-loop
 same-length c = c .before .loop .inv .1 .size
 
 returns : tie.Need-returns Inv-loop μ-loop
-returns c = written-all (c .before .loop .inv .1) (omega arith)
+returns c =
+    let a = c .before .before .before .args in
+    restore-replaced (a .w) (a .p) (a .xs .now) (a .n) (c .before .loop .inv .1) (omega arith)
 
 pub restore-bytes-spec : {M : Type 1} → statement M
 restore-bytes-spec =
