@@ -3,14 +3,14 @@
 use mathlib.Core.Path.{_≡_, sym, ap, ap₂, _∙_}
 use mathlib.Core.Logic.{inl, inr, ⊎-elim}
 use mathlib.Core.List.{List}
-use Prim.Native.Nat.{ℕ, _+_, _-_, _<_, _≤_}
+use Prim.Native.Nat.{ℕ, _+_, _<_, _≤_}
 use native.Mathlib.Omega.{arith}
 use lib.Bits.{bitXor}
 use lib.ListN.{getD, set}
 use Rattle.algebra.specs.Sums.{_⊕_}
 use Rattle.buffers.specs.Parts.{added, put, Sum, Apart}
 use Rattle.buffers.proofs.Writes.{writes-same, writes-join}
-use Rattle.buffers.proofs.Added.{added-writes, added-above, added-below, added-more, added-all, added-same}
+use Rattle.buffers.proofs.Added.{added-writes, added-above, added-below, added-more, added-same}
 use Rattle.buffers.proofs.Put.{put-writes, from-zero}
 
 -- the sums, put where they belong
@@ -59,8 +59,3 @@ module _ (d : List ℕ) (at from : ℕ) where
       let c : from + n + b ≡ from + (n + b) = omega arith in
       ap (λ (x : List ℕ). getD x (from + n + b) 0) e ∙ ap (λ (j : ℕ). getD (added d at d from n) j 0) c
       ∙ kept-apart len n h (omega arith) (n + b) (omega arith) ∙ ap (λ (j : ℕ). getD d j 0) (sym c)))
-
-  -- the rest
-  pub within-rest : (len n : ℕ) (l k : List ℕ) → Apart at from len → n ≤ len → l ≡ added d at d from n → k ≡ added l (at + n) l (from + n) (len - n)
-      → k ≡ added d at d from len
-  within-rest len n l k h g e p = added-all d at d from (n + (len - n)) len k (within-chunk len n (len - n) l k h (omega arith) e p) (omega arith)

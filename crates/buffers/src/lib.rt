@@ -1,6 +1,7 @@
 // Sums and copies on parts of lent byte buffers, and clearing. The loops go by index, so that they are compiled to vector instructions.
 ghost use mathlib.Core.Path.{_≡_};
-ghost use Prim.Native.Nat.{_≤_, _+_};
+ghost use mathlib.Core.List.{List};
+ghost use Prim.Native.Nat.{ℕ, _≤_, _+_};
 ghost use lib.ListN.{length, replicate};
 ghost use Rattle.buffers.specs.Parts.{added, put, Sum, Part, Apart};
 ghost use Rattle.buffers.specs.AllZero.{AllZeroIs};
@@ -81,13 +82,14 @@ fn add_chunks_64(buf: &mut [u8], at: usize, from: usize, len: usize) -> usize
     i
 }
 
-// The same with chunks of 16.
-fn add_chunks_16(buf: &mut [u8], at: usize, from: usize, len: usize) -> usize
+// Where `done` of the len bytes are added already, adds as many more as whole chunks of 16 hold; answers how many are added then. It goes on
+// with the same index, so that the loops of add_within keep one.
+fn add_chunks_16(buf: &mut [u8], at: usize, from: usize, done: usize, len: usize) -> usize
     requires { ⌜ Apart at from len ⌝ }
-    requires { ⌜ (at + len ≤ length (now buf)) × (from + len ≤ length (now buf)) ⌝ }
-    ensures { λ r. ⌜ (r ≤ len) × (now (buf .exit) ≡ added (now (buf .entry)) at (now (buf .entry)) from r) ⌝ }
+    requires { ⌜ (done ≤ len) × (at + len ≤ length (now buf)) × (from + len ≤ length (now buf)) ⌝ }
+    ensures { λ r. ⌜ (r ≤ len) × ((d : List ℕ) → now (buf .entry) ≡ added d at d from done → now (buf .exit) ≡ added d at d from r) ⌝ }
 {
-    let mut i = 0;
+    let mut i = done;
     while len - i >= 16 {
         add_within_16(buf, at + i, from + i);
         i += 16;
@@ -95,13 +97,13 @@ fn add_chunks_16(buf: &mut [u8], at: usize, from: usize, len: usize) -> usize
     i
 }
 
-// All of the len bytes, one by one.
-fn add_bytes(buf: &mut [u8], at: usize, from: usize, len: usize)
+// Adds the rest, one by one.
+fn add_bytes(buf: &mut [u8], at: usize, from: usize, done: usize, len: usize)
     requires { ⌜ Apart at from len ⌝ }
-    requires { ⌜ (at + len ≤ length (now buf)) × (from + len ≤ length (now buf)) ⌝ }
-    ensures { λ _. ⌜ now (buf .exit) ≡ added (now (buf .entry)) at (now (buf .entry)) from len ⌝ }
+    requires { ⌜ (done ≤ len) × (at + len ≤ length (now buf)) × (from + len ≤ length (now buf)) ⌝ }
+    ensures { λ _. ⌜ ((d : List ℕ) → now (buf .entry) ≡ added d at d from done → now (buf .exit) ≡ added d at d from len) ⌝ }
 {
-    let mut i = 0;
+    let mut i = done;
     while i < len {
         buf[at + i] = buf[at + i] ^ buf[from + i];
         i += 1;
@@ -115,8 +117,8 @@ pub fn add_within(buf: &mut [u8], at: usize, from: usize, len: usize)
     ensures { λ _. ⌜ now (buf .exit) ≡ added (now (buf .entry)) at (now (buf .entry)) from len ⌝ }
 {
     let wide = add_chunks_64(buf, at, from, len);
-    let done = wide + add_chunks_16(buf, at + wide, from + wide, len - wide);
-    add_bytes(buf, at + done, from + done, len - done);
+    let done = add_chunks_16(buf, at, from, wide, len);
+    add_bytes(buf, at, from, done, len);
 }
 
 // Puts as many of the len bytes of src from index `from` on as whole chunks of 16 hold over those of dst from index `at` on; answers how many.

@@ -1,7 +1,8 @@
 -- `buffers::add_chunks_16` meets its contract: after each turn, i bytes are added.
 -- Assumes nothing.
 use mathlib.Core.Path.{_≡_, refl, _∙_}
-use Prim.Native.Nat.{_+_, _-_, _≤_}
+use mathlib.Core.List.{List}
+use Prim.Native.Nat.{ℕ, _+_, _-_, _≤_}
 use native.Mathlib.Omega.{arith}
 use lib.ListN.{length}
 use Rattle.buffers.specs.Parts.{added}
@@ -10,14 +11,13 @@ use Rattle.buffers.proofs.add_chunks_16.Statement.{statement}
 use Rattle.buffers.proofs.add_chunks_16.Tie as tie
 
 abbrev Inv-loop : tie.InvT-loop
-Inv-loop buf₀ at from len i₀ buf i = (i ≤ len) × (length buf ≡ length buf₀) × (buf ≡ added buf₀ at buf₀ from i)
+Inv-loop buf₀ at from done len i₀ buf i = (i ≤ len) × (length buf ≡ length buf₀) × ((d : List ℕ) → buf₀ ≡ added d at d from done → buf ≡ added d at d from i)
 
 abbrev μ-loop : tie.MeasureT-loop
-μ-loop buf₀ at from len i₀ buf i = len - i
+μ-loop buf₀ at from done len i₀ buf i = len - i
 
 loop-holds : tie.Need-loop-holds Inv-loop μ-loop
-unfolding added
-loop-holds c = (omega arith, refl, refl)
+loop-holds c = (omega arith, refl, λ d e. e)
 
 sub-loop : tie.Need-sub-loop Inv-loop μ-loop
 sub-loop c = omega arith
@@ -42,7 +42,7 @@ loop-again c =
     let turn = c .before .before in
     let l = turn .before .before .before in
     let more : l .loop .i + 16 ≤ l .before .before .args .len = omega arith in
-    (more, turn .add-within-16 .kept .0 ∙ l .loop .inv .1, within-chunk _ _ _ _ _ 16 _ _ (l .before .before .pre .0) more (l .loop .inv .2) (turn .add-within-16 .ensures))
+    (more, turn .add-within-16 .kept .0 ∙ l .loop .inv .1, λ d e. within-chunk d _ _ _ _ 16 _ _ (l .before .before .pre .0) more (l .loop .inv .2 d e) (turn .add-within-16 .ensures))
 
 same-length : tie.Need-same-length Inv-loop μ-loop
 same-length c = c .before .loop .inv .1
