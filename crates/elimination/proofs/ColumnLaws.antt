@@ -19,10 +19,7 @@ use Rattle.buffers.proofs.Added.{added-length, added-out, added-above, added-in
 use Rattle.elimination.specs.Bits.{testBit}
 use Rattle.elimination.proofs.Digits.{testBit-xor}
 use Rattle.elimination.specs.Bits.{rowBit}
-use Rattle.elimination.specs.Column.{addRow, addRowWhere, hasPivot, HasRow, FirstFrom}
-
-pub has-row : (m : ℕ) {a b words width j : ℕ} → j < m → m * (words + 1) ≤ a → m * width ≤ b → HasRow a b words width j
-has-row m {words} {width} {j} h ha hb = record { inRows = omega (arith, slot j m (words + 1) h); inRhs = omega (arith, slot j m width h) }
+use Rattle.elimination.specs.Column.{addRow, addRowWhere, hasPivot, FirstFrom}
 
 -- what holds of either choice holds of the choice
 pub cond-elim {ℓ} : {A : Type ℓ} (P : A → Type 0) (b : Bool) (x y : A) → (b ≡ true → P x) → (b ≡ false → P y) → P (cond b x y)

@@ -1,8 +1,10 @@
 pub mod Order
 pub mod Digits
+pub mod FitsLaws
 pub mod BitsLaws
 pub mod ColumnLaws
 pub mod SystemLaws
+pub mod Kept
 pub mod ReducedLaws
 pub mod PivotStepLaws
 pub mod SharedUnknownsLaws

@@ -60,15 +60,17 @@ module _ (l d l′ d′ : List ℕ) (m words width r : ℕ) (step : PivotStep l 
       ⊎-elim own (λ d. ⊎-elim own (λ ne. pivotSet-reduced l words r 0 m s ne d) (eq-or-ne s r)) w
 
   pub step-where : (f g : List ℕ) → ReducedWhere f l m words → g ≡ set f r 1 → ReducedWhere g l′ m words
-  step-where f g red e s h =
-      ⊎-elim (λ j. inr (rw (step .rows) (step-reduced (step .found) (step .chosen) s h (inl j))))
-      (λ ne. ⊎-elim (λ z. inl (ap (λ (k : List ℕ). getD k s 0) e ∙ getD-set-other f r s 1 0 ne ∙ z)) (λ d. inr (rw (step .rows) (step-reduced (step .found) (step .chosen) s h (inr d)))) (red s h))
-      (eq-or-ne s r)
+  step-where f g red e = record {
+    long = rw e (simp length-set (red .long));
+    rows = λ s h.
+        ⊎-elim (λ j. inr (rw (step .rows) (step-reduced (step .found) (step .chosen) s h (inl j))))
+        (λ ne. ⊎-elim (λ z. inl (ap (λ (k : List ℕ). getD k s 0) e ∙ getD-set-other f r s 1 0 ne ∙ z)) (λ d. inr (rw (step .rows) (step-reduced (step .found) (step .chosen) s h (inr d)))) (red .rows s h))
+        (eq-or-ne s r);
+  }
 
 -- the account of the rows that are reduced
 pub row-marked : (f g : List ℕ) (r : ℕ) → r < length f → g ≡ set f r 1 → RowMarked f g r
 row-marked f g r h e = record {
-  long = ap length e ∙ simp length-set;
   here = λ z. let k : _≡_ {A = ℕ} 1 0 = sym (ap (λ (x : List ℕ). getD x r 0) e ∙ getD-set-same f r 1 0 h) ∙ z in omega arith;
   kept = λ s z. ⊎-elim
       (λ j. let k : _≡_ {A = ℕ} 1 0 = sym (ap (λ (x : List ℕ). getD x r 0) e ∙ getD-set-same f r 1 0 h) ∙ ap (λ (x : ℕ). getD g x 0) (sym j) ∙ z in absurd (omega arith))

@@ -22,11 +22,6 @@ addRowWhere h l r w len (suc j) = addRow (h j) (addRowWhere h l r w len j) r w l
 unfoldable pub hasPivot : List ℕ → ℕ → ℕ → ℕ → ℕ → Bool
 hasPivot l w r p j = not (eqb j r) && rowBit l (j * w) p
 
--- rows of words + 1 words in a list of a, and of width bytes in a list of b: row j is within both
-pub record HasRow (a b words width j : ℕ) : Type 0 where
-  pub inRows : j * (words + 1) + (words + 1) ≤ a
-  pub inRhs : j * width + width ≤ b
-
 -- k is the first number from j on for which h is true, or m
 pub record FirstFrom (h : ℕ → Bool) (m j k : ℕ) : Type 0 where
   pub from : j ≤ k

@@ -1,3 +1,4 @@
+pub mod Fits
 pub mod Bits
 pub mod Column
 pub mod System

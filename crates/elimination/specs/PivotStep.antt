@@ -5,7 +5,7 @@ use mathlib.Core.Path.{_≡_}
 use mathlib.Core.Logic.{_⊎_, _≢_}
 use mathlib.Core.Bool.{Bool, true, false}
 use mathlib.Core.List.{List}
-use Prim.Native.Nat.{ℕ, _+_, _*_, _<_}
+use Prim.Native.Nat.{ℕ, _+_, _*_, _≤_, _<_}
 use lib.ListN.{length, getD, set}
 use Rattle.elimination.specs.declared.bits.Found.{Found}
 use Rattle.elimination.specs.declared.bits.Found.the-variants.{At, Nothing}
@@ -35,12 +35,12 @@ pub record PivotStep (l d l′ d′ : List ℕ) (m words width r : ℕ) : Type 0
   pub rows : l′ ≡ clearedBy found (set l (pivotAt words r) (pivotWordOf found)) (set l (pivotAt words r) (pivotWordOf found)) m words r (words + 1) words
   pub rhs : d′ ≡ clearedBy found (set l (pivotAt words r) (pivotWordOf found)) d m words r width width
 
--- each row for which f has not 0 is reduced
-abbrev pub ReducedWhere : List ℕ → List ℕ → ℕ → ℕ → Type 0
-ReducedWhere f l m words = (s : ℕ) → s < m → (getD f s 0 ≡ 0) ⊎ RowReduced l m words s
+-- f has room for all rows, and each row for which f has not 0 is reduced
+pub record ReducedWhere (f l : List ℕ) (m words : ℕ) : Type 0 where
+  pub long : 1024 ≤ length f
+  pub rows : (s : ℕ) → s < m → (getD f s 0 ≡ 0) ⊎ RowReduced l m words s
 
 -- g has not 0 at r, nor where f has not 0
 pub record RowMarked (f g : List ℕ) (r : ℕ) : Type 0 where
-  pub long : length g ≡ length f
   pub here : getD g r 0 ≢ 0
   pub kept : (s : ℕ) → getD g s 0 ≡ 0 → getD f s 0 ≡ 0

@@ -1,10 +1,12 @@
 // The list of the active rows, in any order: those that the forward pass has not retired. A row that loses its last unknown stays in it.
+use crate::Shape;
 use crate::bits;
 use crate::weights::RETIRED;
 ghost use mathlib.Core.Path.{_≡_};
 ghost use mathlib.Core.Bool.{true};
-ghost use Prim.Native.Nat.{_+_, _*_, _/_, _≤_, _<_};
+ghost use Prim.Native.Nat.{_/_, _≤_, _<_};
 ghost use lib.ListN.{length, getD};
+ghost use Rattle.elimination.specs.Fits.{FitsRows};
 
 // Lists the rows whose weight is not RETIRED; returns how many these are.
 pub fn list_active(weights: &[u16; 1024], active: &mut [u16; 1024], m: usize) -> usize
@@ -23,14 +25,15 @@ pub fn list_active(weights: &[u16; 1024], active: &mut [u16; 1024], m: usize) ->
     count
 }
 
-// Row j is one of the m and has unknown p.
-fn has_unknown(rows: &[u64], m: usize, words: usize, j: u16, p: usize) -> bool
-    requires { ⌜ (p / 64 < words) × (m * (words + 1) ≤ length (now rows)) ⌝ }
-    ensures { λ r. ⌜ (r ≡ true → j < m) ⌝ }
+// Row j is one of the system's and has unknown p.
+fn has_unknown(rows: &[u64], s: Shape, j: u16, p: usize) -> bool
+    requires { ⌜ FitsRows s (length (now rows)) ⌝ }
+    requires { ⌜ p / 64 < s .words ⌝ }
+    ensures { λ r. ⌜ (r ≡ true → j < s .rows) ⌝ }
 {
     let k = j as usize;
-    if k < m {
-        return bits::bit_at(rows, k * (words + 1), p);
+    if k < s.rows {
+        return bits::bit_at(rows, k * (s.words + 1), p);
     }
     false
 }
@@ -40,18 +43,17 @@ pub fn next_active(
     rows: &[u64],
     active: &[u16; 1024],
     count: usize,
-    m: usize,
-    words: usize,
+    s: Shape,
     p: usize,
     i: usize,
 ) -> usize
-    requires { ⌜ (p / 64 < words) × ((i ≤ count) × (count ≤ 1024)) ⌝ }
-    requires { ⌜ m * (words + 1) ≤ length (now rows) ⌝ }
-    ensures { λ k. ⌜ (i ≤ k) × ((k ≤ count) × (k < count → getD (now (active .entry)) k 0 < m)) ⌝ }
+    requires { ⌜ FitsRows s (length (now rows)) ⌝ }
+    requires { ⌜ (p / 64 < s .words) × ((i ≤ count) × (count ≤ 1024)) ⌝ }
+    ensures { λ k. ⌜ (i ≤ k) × ((k ≤ count) × (k < count → getD (now (active .entry)) k 0 < s .rows)) ⌝ }
 {
     let mut k = i;
     while k < count {
-        if has_unknown(rows, m, words, active[k], p) {
+        if has_unknown(rows, s, active[k], p) {
             return k;
         }
         k += 1;

@@ -1,5 +1,6 @@
 // The forward pass: each row in turn is added to the other active rows that have its pivot. It chooses rows and pivots so that few additions are
 // needed in all. Nothing is proved of how well that goes: each addition keeps the solutions.
+use crate::Shape;
 use crate::active::list_active;
 use crate::active::next_active;
 use crate::active::remove_active;
@@ -10,8 +11,9 @@ use crate::weights::RETIRED;
 use crate::weights::lightest_row;
 use crate::weights::row_weights;
 use crate::weights::sum_weight;
-ghost use Prim.Native.Nat.{_+_, _*_, _/_, _≤_, _<_};
+ghost use Prim.Native.Nat.{_/_, _≤_, _<_};
 ghost use lib.ListN.{length};
+ghost use Rattle.elimination.specs.Fits.{Fits};
 ghost use Rattle.elimination.specs.System.{SameSolutions};
 
 // Adds row r to row v, which stands at place i of the list. Returns the place of row r, as far as it is known: i where v is r, else `place`.
@@ -19,23 +21,21 @@ fn add_to_active(
     rows: &mut [u64],
     rhs: &mut [u8],
     weights: &mut [u16; 1024],
-    m: usize,
-    words: usize,
-    width: usize,
+    s: Shape,
     r: usize,
     v: u16,
     i: usize,
     place: usize,
 ) -> usize
-    requires { ⌜ (r < m) × ((m ≤ 1024) × (v < m)) ⌝ }
-    requires { ⌜ (m * (words + 1) ≤ length (now rows)) × (m * width ≤ length (now rhs)) ⌝ }
-    ensures { λ _. ⌜ SameSolutions (now (rows .entry)) (now (rhs .entry)) (now (rows .exit)) (now (rhs .exit)) m words width ⌝ }
+    requires { ⌜ Fits s (length (now rows)) (length (now rhs)) ⌝ }
+    requires { ⌜ (r < s .rows) × (v < s .rows) ⌝ }
+    ensures { λ _. ⌜ SameSolutions (now (rows .entry)) (now (rhs .entry)) (now (rows .exit)) (now (rhs .exit)) (s .rows) (s .words) (s .width) ⌝ }
 {
     let j = v as usize;
     if j == r {
         return i;
     }
-    column::add_row(rows, rhs, words, width, r, j);
+    column::add_row(rows, rhs, s, r, j);
     weights[j] = sum_weight(weights[j], weights[r]);
     place
 }
@@ -47,22 +47,20 @@ fn clear_active(
     weights: &mut [u16; 1024],
     active: &mut [u16; 1024],
     count: usize,
-    m: usize,
-    words: usize,
-    width: usize,
+    s: Shape,
     r: usize,
     p: usize,
 ) -> usize
-    requires { ⌜ (p / 64 < words) × ((r < m) × ((m ≤ 1024) × (count ≤ 1024))) ⌝ }
-    requires { ⌜ (m * (words + 1) ≤ length (now rows)) × (m * width ≤ length (now rhs)) ⌝ }
+    requires { ⌜ Fits s (length (now rows)) (length (now rhs)) ⌝ }
+    requires { ⌜ (p / 64 < s .words) × ((r < s .rows) × (count ≤ 1024)) ⌝ }
     ensures { λ left. ⌜ left ≤ count ⌝ }
-    ensures { λ _. ⌜ SameSolutions (now (rows .entry)) (now (rhs .entry)) (now (rows .exit)) (now (rhs .exit)) m words width ⌝ }
+    ensures { λ _. ⌜ SameSolutions (now (rows .entry)) (now (rhs .entry)) (now (rows .exit)) (now (rhs .exit)) (s .rows) (s .words) (s .width) ⌝ }
 {
     let mut place = count;
-    let mut i = next_active(rows, active, count, m, words, p, 0);
+    let mut i = next_active(rows, active, count, s, p, 0);
     while i < count {
-        place = add_to_active(rows, rhs, weights, m, words, width, r, active[i], i, place);
-        i = next_active(rows, active, count, m, words, p, i + 1);
+        place = add_to_active(rows, rhs, weights, s, r, active[i], i, place);
+        i = next_active(rows, active, count, s, p, i + 1);
     }
     weights[r] = RETIRED;
     remove_active(active, count, place)
@@ -81,20 +79,18 @@ fn forward_step(
     weights: &mut [u16; 1024],
     active: &mut [u16; 1024],
     count: usize,
-    m: usize,
-    words: usize,
-    width: usize,
+    s: Shape,
     r: usize,
 ) -> Step
-    requires { ⌜ (words ≤ 48) × ((r < m) × ((m ≤ 1024) × (count ≤ 1024))) ⌝ }
-    requires { ⌜ (m * (words + 1) ≤ length (now rows)) × (m * width ≤ length (now rhs)) ⌝ }
+    requires { ⌜ Fits s (length (now rows)) (length (now rhs)) ⌝ }
+    requires { ⌜ (r < s .rows) × (count ≤ 1024) ⌝ }
     ensures { λ t. ⌜ t .active ≤ count ⌝ }
-    ensures { λ _. ⌜ SameSolutions (now (rows .entry)) (now (rhs .entry)) (now (rows .exit)) (now (rhs .exit)) m words width ⌝ }
+    ensures { λ _. ⌜ SameSolutions (now (rows .entry)) (now (rhs .entry)) (now (rows .exit)) (now (rhs .exit)) (s .rows) (s .words) (s .width) ⌝ }
 {
-    let f = bits::lowest(rows, r * (words + 1), words);
+    let f = bits::lowest(rows, r * (s.words + 1), s.words);
     match f {
         Found::At(p) => {
-            let left = clear_active(rows, rhs, weights, active, count, m, words, width, r, p);
+            let left = clear_active(rows, rhs, weights, active, count, s, r, p);
             Step {
                 active: left,
                 entry: (p * 1024 + r) as u32,
@@ -110,22 +106,16 @@ fn forward_step(
     }
 }
 
-// At most m steps, each with a row of least weight among the active ones. Returns the number of steps, and in `order` the row and the pivot of each.
-pub fn forward_pass(
-    rows: &mut [u64],
-    rhs: &mut [u8],
-    order: &mut [u32; 1024],
-    m: usize,
-    words: usize,
-    width: usize,
-) -> usize
-    requires { ⌜ (words ≤ 48) × (m ≤ 1024) ⌝ }
-    requires { ⌜ (m * (words + 1) ≤ length (now rows)) × (m * width ≤ length (now rhs)) ⌝ }
-    ensures { λ r. ⌜ r ≤ m ⌝ }
-    ensures { λ _. ⌜ SameSolutions (now (rows .entry)) (now (rhs .entry)) (now (rows .exit)) (now (rhs .exit)) m words width ⌝ }
+// At most one step for each row, each with a row of least weight among the active ones. Returns the number of steps, and in `order` the row and the
+// pivot of each.
+pub fn forward_pass(rows: &mut [u64], rhs: &mut [u8], order: &mut [u32; 1024], s: Shape) -> usize
+    requires { ⌜ Fits s (length (now rows)) (length (now rhs)) ⌝ }
+    ensures { λ r. ⌜ r ≤ s .rows ⌝ }
+    ensures { λ _. ⌜ SameSolutions (now (rows .entry)) (now (rhs .entry)) (now (rows .exit)) (now (rhs .exit)) (s .rows) (s .words) (s .width) ⌝ }
 {
+    let m = s.rows;
     let mut weights = [0u16; 1024];
-    row_weights(rows, &mut weights, m, words);
+    row_weights(rows, &mut weights, s);
     let mut active = [0u16; 1024];
     let mut count = list_active(&weights, &mut active, m);
     let mut from = 0;
@@ -133,22 +123,12 @@ pub fn forward_pass(
     let mut t = 0;
     while t < m {
         let r = lightest_row(&weights, m, from, enough);
-        if r == m {
+        if r >= m {
             return t;
         }
         from = r;
         enough = weights[r];
-        let step = forward_step(
-            rows,
-            rhs,
-            &mut weights,
-            &mut active,
-            count,
-            m,
-            words,
-            width,
-            r,
-        );
+        let step = forward_step(rows, rhs, &mut weights, &mut active, count, s, r);
         count = step.active;
         order[t] = step.entry;
         t += 1;

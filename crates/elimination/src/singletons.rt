@@ -1,16 +1,21 @@
 // Singleton pivots: a pivot from the forward pass that stands in no other row needs no column cleared.
+use crate::Shape;
 use crate::bits;
-ghost use Prim.Native.Nat.{_+_, _*_, _≤_, _<_};
+ghost use Prim.Native.Nat.{_≤_, _<_};
 ghost use lib.ListN.{length};
+ghost use Rattle.elimination.specs.Fits.{FitsRows};
 ghost use Rattle.elimination.specs.System.{SameCoefficients};
 ghost use Rattle.elimination.specs.PivotStep.{ReducedWhere};
 ghost use Rattle.elimination.specs.SharedUnknowns.{SharedMask, SharedMasks};
 
-// A mask of the digits of word i that two of the m rows have.
-fn shared_digits(rows: &[u64], m: usize, words: usize, i: usize) -> u64
-    requires { ⌜ (i < words) × (m * (words + 1) ≤ length (now rows)) ⌝ }
-    ensures { λ v. ⌜ SharedMask v (now (rows .entry)) m words i ⌝ }
+// A mask of the digits of word i that two rows have.
+fn shared_digits(rows: &[u64], s: Shape, i: usize) -> u64
+    requires { ⌜ FitsRows s (length (now rows)) ⌝ }
+    requires { ⌜ i < s .words ⌝ }
+    ensures { λ v. ⌜ SharedMask v (now (rows .entry)) (s .rows) (s .words) i ⌝ }
 {
+    let m = s.rows;
+    let words = s.words;
     let mut seen: u64 = 0;
     let mut shared: u64 = 0;
     let mut j = 0;
@@ -25,48 +30,43 @@ fn shared_digits(rows: &[u64], m: usize, words: usize, i: usize) -> u64
 }
 
 // The same for each word.
-fn shared_unknowns(rows: &[u64], masks: &mut [u64; 48], m: usize, words: usize)
-    requires { ⌜ (words ≤ 48) × ((48 ≤ length (now masks)) × (m * (words + 1) ≤ length (now rows))) ⌝ }
-    ensures { λ _. ⌜ SharedMasks (now (masks .exit)) (now (rows .entry)) m words words ⌝ }
+fn shared_unknowns(rows: &[u64], masks: &mut [u64; 48], s: Shape)
+    requires { ⌜ FitsRows s (length (now rows)) ⌝ }
+    requires { ⌜ 48 ≤ length (now masks) ⌝ }
+    ensures { λ _. ⌜ SharedMasks (now (masks .exit)) (now (rows .entry)) (s .rows) (s .words) (s .words) ⌝ }
 {
+    let words = s.words;
     let mut i = 0;
     while i < words {
-        masks[i] = shared_digits(rows, m, words, i);
+        masks[i] = shared_digits(rows, s, i);
         i += 1;
     }
 }
 
 // Row and pivot as the forward pass has them in v: it becomes the row's pivot where the row has it and no other row has.
-fn set_singleton(
-    rows: &mut [u64],
-    done: &mut [u8; 1024],
-    masks: &[u64; 48],
-    m: usize,
-    words: usize,
-    v: u32,
-)
-    requires { ⌜ (words ≤ 48) × (m ≤ 1024) ⌝ }
-    requires { ⌜ (m * (words + 1) ≤ length (now rows)) × SharedMasks (now masks) (now rows) m words words ⌝ }
-    requires { ⌜ (1024 ≤ length (now done)) × ReducedWhere (now done) (now rows) m words ⌝ }
-    ensures { λ _. ⌜ SameCoefficients (now (rows .entry)) (now (rows .exit)) words ⌝ }
-    ensures { λ _. ⌜ (1024 ≤ length (now (done .exit))) × ReducedWhere (now (done .exit)) (now (rows .exit)) m words ⌝ }
+fn set_singleton(rows: &mut [u64], done: &mut [u8; 1024], masks: &[u64; 48], s: Shape, v: u32)
+    requires { ⌜ FitsRows s (length (now rows)) ⌝ }
+    requires { ⌜ SharedMasks (now masks) (now rows) (s .rows) (s .words) (s .words) ⌝ }
+    requires { ⌜ ReducedWhere (now done) (now rows) (s .rows) (s .words) ⌝ }
+    ensures { λ _. ⌜ SameCoefficients (now (rows .entry)) (now (rows .exit)) (s .words) ⌝ }
+    ensures { λ _. ⌜ ReducedWhere (now (done .exit)) (now (rows .exit)) (s .rows) (s .words) ⌝ }
 {
     let r = (v % 1024) as usize;
     let p = (v / 1024) as usize;
     let i = p / 64;
-    if r >= m {
+    if r >= s.rows {
         return;
     }
-    if i >= words {
+    if i >= s.words {
         return;
     }
     let mask = masks[i];
     if (mask >> (p % 64)) % 2 == 1 {
         return;
     }
-    let base = r * (words + 1);
+    let base = r * (s.words + 1);
     if bits::bit_at(rows, base, p) {
-        let k = base + words;
+        let k = base + s.words;
         rows[k] = (p + 1) as u64;
         done[r] = 1;
     }
@@ -77,21 +77,20 @@ pub fn set_singletons(
     rows: &mut [u64],
     done: &mut [u8; 1024],
     order: &[u32; 1024],
-    m: usize,
-    words: usize,
+    s: Shape,
     count: usize,
 )
-    requires { ⌜ (words ≤ 48) × ((m ≤ 1024) × (count ≤ m)) ⌝ }
-    requires { ⌜ m * (words + 1) ≤ length (now rows) ⌝ }
-    requires { ⌜ (1024 ≤ length (now done)) × ReducedWhere (now done) (now rows) m words ⌝ }
-    ensures { λ _. ⌜ SameCoefficients (now (rows .entry)) (now (rows .exit)) words ⌝ }
-    ensures { λ _. ⌜ (1024 ≤ length (now (done .exit))) × ReducedWhere (now (done .exit)) (now (rows .exit)) m words ⌝ }
+    requires { ⌜ FitsRows s (length (now rows)) ⌝ }
+    requires { ⌜ count ≤ s .rows ⌝ }
+    requires { ⌜ ReducedWhere (now done) (now rows) (s .rows) (s .words) ⌝ }
+    ensures { λ _. ⌜ SameCoefficients (now (rows .entry)) (now (rows .exit)) (s .words) ⌝ }
+    ensures { λ _. ⌜ ReducedWhere (now (done .exit)) (now (rows .exit)) (s .rows) (s .words) ⌝ }
 {
     let mut masks = [0u64; 48];
-    shared_unknowns(rows, &mut masks, m, words);
+    shared_unknowns(rows, &mut masks, s);
     let mut t = 0;
     while t < count {
-        set_singleton(rows, done, &masks, m, words, order[t]);
+        set_singleton(rows, done, &masks, s, order[t]);
         t += 1;
     }
 }

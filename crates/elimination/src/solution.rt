@@ -1,24 +1,27 @@
 // What is read off the reduced form: whether there is a solution.
-ghost use Prim.Native.Nat.{_+_, _*_, _≤_};
+use crate::Shape;
 ghost use lib.ListN.{length};
+ghost use Rattle.elimination.specs.Fits.{Fits};
 ghost use Rattle.elimination.specs.Reduced.{Reduced};
 ghost use Rattle.elimination.specs.Consistency.{ConsistentIs};
 
 // There is a solution: no equation without unknowns fails.
-pub fn consistent(rows: &[u64], rhs: &[u8], m: usize, words: usize, width: usize) -> bool
-    requires { ⌜ (m * (words + 1) ≤ length (now rows)) × (m * width ≤ length (now rhs)) ⌝ }
-    requires { ⌜ Reduced (now rows) m words m ⌝ }
-    ensures { λ r. ⌜ ConsistentIs (now (rows .entry)) (now (rhs .entry)) m words width r ⌝ }
+pub fn consistent(rows: &[u64], rhs: &[u8], s: Shape) -> bool
+    requires { ⌜ Fits s (length (now rows)) (length (now rhs)) ⌝ }
+    requires { ⌜ Reduced (now rows) (s .rows) (s .words) (s .rows) ⌝ }
+    ensures { λ r. ⌜ ConsistentIs (now (rows .entry)) (now (rhs .entry)) (s .rows) (s .words) (s .width) r ⌝ }
 {
-    let mut s = 0;
-    while s < m {
-        let k = s * (words + 1) + words;
+    let m = s.rows;
+    let stride = s.words + 1;
+    let mut j = 0;
+    while j < m {
+        let k = j * stride + s.words;
         if rows[k] == 0 {
-            if buffers::all_zero(rhs, s * width, width) {} else {
+            if buffers::all_zero(rhs, j * s.width, s.width) {} else {
                 return false;
             }
         }
-        s += 1;
+        j += 1;
     }
     true
 }

@@ -1,7 +1,9 @@
 // The weights of the rows, by which the forward pass chooses. Nothing is proved of them, and they choose only which additions are made: after
 // additions a row's weight is an estimate. A row that is no longer active has RETIRED.
-ghost use Prim.Native.Nat.{_+_, _*_, _≤_};
+use crate::Shape;
+ghost use Prim.Native.Nat.{ℕ, _+_, _*_, _≤_};
 ghost use lib.ListN.{length};
+ghost use Rattle.elimination.specs.Fits.{FitsRows};
 
 pub const RETIRED: u16 = 65535;
 
@@ -25,13 +27,14 @@ fn row_weight(rows: &[u64], base: usize, words: usize) -> usize
 }
 
 // The weight of each row, or RETIRED where it is 0.
-pub fn row_weights(rows: &[u64], weights: &mut [u16; 1024], m: usize, words: usize)
-    requires { ⌜ (words ≤ 48) × (m ≤ 1024) ⌝ }
-    requires { ⌜ m * (words + 1) ≤ length (now rows) ⌝ }
+pub fn row_weights(rows: &[u64], weights: &mut [u16; 1024], s: Shape)
+    requires { ⌜ FitsRows s (length (now rows)) ⌝ }
 {
+    let m = s.rows;
+    let stride = s.words + 1;
     let mut j = 0;
     while j < m {
-        let w = row_weight(rows, j * (words + 1), words);
+        let w = row_weight(rows, j * stride, s.words);
         if w == 0 {
             weights[j] = RETIRED;
         } else {
@@ -41,38 +44,63 @@ pub fn row_weights(rows: &[u64], weights: &mut [u16; 1024], m: usize, words: usi
     }
 }
 
+// A row and its weight.
+struct Candidate {
+    row: usize,
+    weight: u16,
+}
+
+// The lighter of `best` and the lightest of the rows from `from` up to `to`. The first of these whose weight is at most `enough` ends the search.
+fn lightest_between(
+    weights: &[u16; 1024],
+    from: usize,
+    to: usize,
+    enough: u16,
+    best: Candidate,
+) -> Candidate
+    requires { ⌜ to ≤ 1024 ⌝ }
+    ensures { λ c. ⌜ ((n : ℕ) → to ≤ n → best .row ≤ n → c .row ≤ n) ⌝ }
+{
+    let mut row = best.row;
+    let mut least = best.weight;
+    let mut j = from;
+    while j < to {
+        let v = weights[j];
+        if v < least {
+            if v <= enough {
+                return Candidate { row: j, weight: v };
+            }
+            row = j;
+            least = v;
+        }
+        j += 1;
+    }
+    Candidate {
+        row: row,
+        weight: least,
+    }
+}
+
 // A row of least weight, or the first from row `from` on, round the end, whose weight is at most `enough`; m where all are RETIRED.
 pub fn lightest_row(weights: &[u16; 1024], m: usize, from: usize, enough: u16) -> usize
     requires { ⌜ (m ≤ 1024) × (from ≤ m) ⌝ }
     ensures { λ r. ⌜ r ≤ m ⌝ }
 {
-    let mut best = m;
-    let mut least = RETIRED;
-    let mut j = from;
-    while j < m {
-        let v = weights[j];
-        if v < least {
-            if v <= enough {
-                return j;
-            }
-            best = j;
-            least = v;
-        }
-        j += 1;
+    let above = lightest_between(
+        weights,
+        from,
+        m,
+        enough,
+        Candidate {
+            row: m,
+            weight: RETIRED,
+        },
+    );
+    if above.weight <= enough {
+        return above.row;
     }
-    let mut k = 0;
-    while k < from {
-        let v = weights[k];
-        if v < least {
-            if v <= enough {
-                return k;
-            }
-            best = k;
-            least = v;
-        }
-        k += 1;
-    }
-    best
+    let all = lightest_between(weights, 0, from, enough, above);
+    all.row
 }
 
 // The weight taken for the sum of rows of weights a and b that have an unknown in common: that one goes, and no other is taken to be in both.

@@ -6,10 +6,12 @@ use Rattle.elimination.proofs.active.next_active.Statement.{statement}
 use Rattle.elimination.proofs.active.next_active.Tie as tie
 
 abbrev Inv-loop : tie.InvT-loop
-Inv-loop rows active count m words p i k₀ k = (i ≤ k) × (k ≤ count)
+Inv-loop rows active count s p i k₀ k =
+    (i ≤ k) × (k ≤ count)
 
 abbrev μ-loop : tie.MeasureT-loop
-μ-loop rows active count m words p i k₀ k = count - k
+μ-loop rows active count s p i k₀ k =
+    count - k
 
 loop-holds : tie.Need-loop-holds Inv-loop μ-loop
 loop-holds c = omega arith
@@ -21,7 +23,7 @@ element-copy-out-has-unknown : tie.Need-element-copy-out-has-unknown Inv-loop μ
 element-copy-out-has-unknown c = omega arith
 
 has-unknown-requires : tie.Need-has-unknown-requires Inv-loop μ-loop
-has-unknown-requires c κs = omega arith
+has-unknown-requires c κs = (c .before .before .before .before .pre .0, c .before .before .before .before .pre .1 .0)
 
 returns : tie.Need-returns Inv-loop μ-loop
 returns c = (omega arith, (omega arith, λ _. c .before .has-unknown .ensures (c .if1 .taken)))

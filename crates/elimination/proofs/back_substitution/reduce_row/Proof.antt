@@ -1,6 +1,5 @@
 -- `elimination::back_substitution::reduce_row` meets its contract.
 -- Assumes nothing.
-use borrow.Author.Needs.{needs}
 use native.Mathlib.Omega.{arith}
 use Prim.Native.Nat.{ℕ}
 use mathlib.Core.List.{List}
@@ -8,6 +7,7 @@ use lib.ListN.{set}
 use mathlib.Core.Path.{refl}
 use Rattle.elimination.proofs.SystemLaws.{same-refl}
 use Rattle.elimination.proofs.PivotStepLaws.{step-same, step-where, row-marked}
+use borrow.Author.Needs.{needs}
 use Rattle.elimination.proofs.back_substitution.reduce_row.Statement.{statement}
 use Rattle.elimination.proofs.back_substitution.reduce_row.Tie as tie
 
@@ -28,19 +28,18 @@ same-length-2 c = search needs
 
 returns : tie.Need-returns
 returns c =
-    let at-step = c .before .before .before .before in
-    let start = at-step .before .before .before .before .before .before .before in
-    let f : List ℕ = start .args .done .now in
-    let inside = start .pre .0 .1 .0 in (
-      step-same _ _ _ _ _ _ _ _ (at-step .pivot-step .ensures) inside (start .pre .1 .0 .0) (start .pre .1 .0 .1),
+    let pre = c .before .before .before .before .before .before .before .before .before .before .before .pre in
+    let f : List ℕ = c .before .before .before .before .before .before .before .before .before .before .before .args .done .now in
+    let step = c .before .before .before .before .pivot-step .ensures in (
+      step-same _ _ _ _ _ _ _ _ step (pre .1 .0) (pre .0 .inRows .within) (pre .0 .inRhs),
       (
-        step-where _ _ _ _ _ _ _ _ (at-step .pivot-step .ensures) inside (start .pre .1 .0 .0) (start .pre .1 .0 .1) f (set f (start .args .r) 1) (start .pre .1 .1 .1) refl,
-        row-marked f (set f (start .args .r) 1) (start .args .r) (omega (arith, start .pre .1 .1 .0)) refl,
+        step-where _ _ _ _ _ _ _ _ step (pre .1 .0) (pre .0 .inRows .within) (pre .0 .inRhs) f (set f (c .before .before .before .before .before .before .before .before .before .before .before .args .r) 1) (pre .1 .1) refl,
+        row-marked f (set f (c .before .before .before .before .before .before .before .before .before .before .before .args .r) 1) (c .before .before .before .before .before .before .before .before .before .before .before .args .r) (omega (arith, c .before .before .before .before .before .before .before .before .before .before .before .pre .1 .0, c .before .before .before .before .before .before .before .before .before .before .before .pre .0 .inRows .few, c .before .before .before .before .before .before .before .before .before .before .before .pre .1 .1 .long)) refl,
       ),
     )
 
 returns-2 : tie.Need-returns-2
-returns-2 c = let start = c .before .before .before .before in (same-refl, (start .pre .1 .1 .1, record { long = refl; here = c .if1 .left; kept = λ s z. z }))
+returns-2 c = (same-refl, (c .before .before .before .before .pre .1 .1, record { here = c .if1 .left; kept = λ s z. z }))
 
 pub reduce-row-spec : {M : Type 1} → statement M
 reduce-row-spec =

@@ -3,48 +3,41 @@
 use mathlib.Core.Path.{_≡_, sym, _∙_}
 use mathlib.Core.Logic.{⊎-elim}
 use mathlib.Core.Bool.{false}
-use Prim.Native.Nat.{ℕ, _+_, _-_, _*_, _≤_, _<_}
-use native.Mathlib.Nat.{le-trans}
+use Prim.Native.Nat.{ℕ, _-_, _≤_, _<_}
 use native.Mathlib.Omega.{arith}
-use lib.ListN.{length}
-use Rattle.algebra.proofs.Codeword.{slot}
 use Rattle.elimination.specs.Column.{hasPivot}
+use Rattle.elimination.proofs.FitsLaws.{row-end}
 use Rattle.elimination.proofs.ColumnLaws.{hasPivot-own, hasPivot-other, between-more}
 use Rattle.elimination.proofs.column.next_with_pivot.Statement.{statement}
 use Rattle.elimination.proofs.column.next_with_pivot.Tie as tie
 
 abbrev Inv-loop : tie.InvT-loop
-Inv-loop rows m words r p j k₀ k = (j ≤ k) × ((k ≤ m) × ((i : ℕ) → j ≤ i → i < k → hasPivot rows (words + 1) r p i ≡ false))
+Inv-loop rows r p j m stride k₀ k =
+    (j ≤ k) × ((k ≤ m) × ((i : ℕ) → j ≤ i → i < k → hasPivot rows stride r p i ≡ false))
 
 abbrev μ-loop : tie.MeasureT-loop
-μ-loop rows m words r p j k₀ k = m - k
+μ-loop rows r p j m stride k₀ k =
+    m - k
+
+add-stride : tie.Need-add-stride Inv-loop μ-loop
+add-stride c = omega (arith, c .before .before .pre .0 .short)
 
 loop-holds : tie.Need-loop-holds Inv-loop μ-loop
 loop-holds c = (omega arith, (omega arith, λ i a b. absurd (omega arith)))
 
--- row k ends within the rows
-ends : (c : tie.In-loop Inv-loop μ-loop)
-    → c .before .loop .k * (c .before .before .before .args .words + 1) + (c .before .before .before .args .words + 1) ≤ length (c .before .before .before .args .rows .now)
-ends c =
-    le-trans (slot (c .before .loop .k) (c .before .before .before .args .m) (c .before .before .before .args .words + 1) (c .loop-test .taken)) (c .before .before .before .pre .1)
-
-add-bit-at : tie.Need-add-bit-at Inv-loop μ-loop
-add-bit-at c = omega (arith, ends (c .before))
-
 mul-bit-at : tie.Need-mul-bit-at Inv-loop μ-loop
-mul-bit-at c = omega (arith, ends (c .before))
+mul-bit-at c = omega (arith, row-end (c .before .before .before .before .before .pre .0) _ (c .before .loop-test .taken))
 
 bit-at-requires : tie.Need-bit-at-requires Inv-loop μ-loop
-bit-at-requires c κs = omega (arith, ends (c .before))
+bit-at-requires c κs = omega (arith, row-end (c .before .before .before .before .before .pre .0) _ (c .before .loop-test .taken))
 
 returns : tie.Need-returns Inv-loop μ-loop
 returns c =
-    let at-loop = c .before .before .before .before in
     record {
-      from = at-loop .loop .inv .0;
-      upTo = at-loop .loop .inv .1 .0;
+      from = c .before .before .before .before .loop .inv .0;
+      upTo = c .before .before .before .before .loop .inv .1 .0;
       here = λ _. hasPivot-other _ _ _ _ _ (c .before .before .if1 .taken) ∙ sym (c .before .bit-at .ensures) ∙ c .if2 .taken;
-      between = at-loop .loop .inv .1 .1;
+      between = c .before .before .before .before .loop .inv .1 .1;
     }
 
 add-k : tie.Need-add-k Inv-loop μ-loop
@@ -66,7 +59,7 @@ loop-again c = (
 returns-2 : tie.Need-returns-2 Inv-loop μ-loop
 returns-2 c =
     let inv = c .before .loop .inv in
-    let e : c .before .loop .k ≡ c .before .before .before .args .m = omega arith in
+    let e : c .before .loop .k ≡ c .before .before .before .before .args .s .rows = omega arith in
     record { from = omega arith; upTo = omega arith; here = λ h. absurd (omega arith); between = λ i a b. inv .1 .1 i a (omega arith) }
 
 pub next-with-pivot-spec : {M : Type 1} → statement M
@@ -75,8 +68,8 @@ next-with-pivot-spec =
     (tie.spec
     Inv-loop
     μ-loop
+    add-stride
     loop-holds
-    add-bit-at
     mul-bit-at
     bit-at-requires
     returns

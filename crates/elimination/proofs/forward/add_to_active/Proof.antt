@@ -1,21 +1,15 @@
--- `elimination::forward::add_to_active` meets its contract: one row goes into another, or nothing changes.
+-- `elimination::forward::add_to_active` meets its contract: one row is added to another, or nothing changes.
 -- Assumes nothing.
-use native.Mathlib.Omega.{arith}
-use Prim.Native.Nat.{ℕ}
-use mathlib.Core.Path.{sym}
-use Rattle.elimination.proofs.ColumnLaws.{has-row}
-use Rattle.elimination.proofs.SystemLaws.{add-same, same-refl}
+use Rattle.elimination.proofs.SystemLaws.{add-same}
 use borrow.Author.Needs.{needs}
 use Rattle.elimination.proofs.forward.add_to_active.Statement.{statement}
 use Rattle.elimination.proofs.forward.add_to_active.Tie as tie
 
 returns : tie.Need-returns
-returns c = same-refl
+returns c = search needs
 
 add-row-requires : tie.Need-add-row-requires
-add-row-requires c κs =
-    let m : ℕ = c .before .before .before .before .before .args .m in
-    (has-row m (omega arith) (omega arith) (omega arith), (has-row m (omega arith) (omega arith) (omega arith), λ e. c .before .before .if1 .left (sym e)))
+add-row-requires c κs = search needs
 
 mul-sum-weight : tie.Need-mul-sum-weight
 mul-sum-weight c = search needs
@@ -46,9 +40,7 @@ same-length-2 c = search needs
 
 returns-2 : tie.Need-returns-2
 returns-2 c =
-    let at-add = c .before .before .before .before .before .before .before in
-    let start = at-add .before .before .before .before .before .before in
-    add-same _ _ _ _ _ _ _ _ _ (start .pre .0 .0) (start .pre .0 .1 .1) (at-add .before .before .before .if1 .left) (start .pre .1 .0) (start .pre .1 .1) (at-add .add-row .ensures .0) (at-add .add-row .ensures .1)
+    add-same _ _ _ _ _ _ _ _ _ (c .before .before .before .before .before .before .before .before .before .before .before .before .before .pre .1 .0) (c .before .before .before .before .before .before .before .before .before .before .before .before .before .pre .1 .1) (c .before .before .before .before .before .before .before .before .before .before .if1 .left) (c .before .before .before .before .before .before .before .before .before .before .before .before .before .pre .0 .inRows .within) (c .before .before .before .before .before .before .before .before .before .before .before .before .before .pre .0 .inRhs) (c .before .before .before .before .before .before .before .add-row .ensures .0) (c .before .before .before .before .before .before .before .add-row .ensures .1)
 
 pub add-to-active-spec : {M : Type 1} → statement M
 add-to-active-spec =

@@ -1,50 +1,43 @@
 -- `elimination::forward::forward_step` meets its contract.
 -- Assumes nothing.
 use native.Mathlib.Omega.{arith}
-use Prim.Native.Nat.{_+_, _*_, _≤_}
-use native.Mathlib.Nat.{le-trans}
+use Prim.Native.Nat.{_+_, _*_}
 use mathlib.Core.Path.{subst}
-use lib.ListN.{length}
-use Rattle.algebra.proofs.Codeword.{slot}
 use Rattle.elimination.specs.declared.bits.Found.the-variants.{At}
 use Rattle.elimination.specs.Bits.{rowBit, LowestIs}
-use Rattle.elimination.proofs.SystemLaws.{same-refl}
+use Rattle.elimination.proofs.FitsLaws.{row-end}
 use borrow.Author.Needs.{needs}
 use Rattle.elimination.proofs.forward.forward_step.Statement.{statement}
 use Rattle.elimination.proofs.forward.forward_step.Tie as tie
 
--- row r ends within the rows
-ends : (c : tie.Start) → c .args .r * (c .args .words + 1) + (c .args .words + 1) ≤ length (c .args .rows .now)
-ends c = le-trans (slot (c .args .r) (c .args .m) (c .args .words + 1) (c .pre .0 .1 .0)) (c .pre .1 .0)
-
 -- what `lowest` ensures where it found p
 low : (c : tie.After-f)
-    → LowestIs (rowBit (c .before .before .before .before .before .before .args .rows .now) (c .before .before .before .before .before .before .args .r * (c .before .before .before .before .before .before .args .words + 1))) (64 * c .before .before .before .before .before .before .args .words) (At (c .f .given .0 .0))
+    → LowestIs (rowBit (c .before .before .before .before .before .before .before .args .rows .now) (c .before .before .before .before .before .before .before .args .r * (c .before .before .before .before .before .before .before .args .s .words + 1))) (64 * c .before .before .before .before .before .before .before .args .s .words) (At (c .f .given .0 .0))
 low c = subst (LowestIs _ _) (c .f .given .1) (c .before .before .lowest .ensures)
 
 add-lowest : tie.Need-add-lowest
 add-lowest c = search needs
 
 mul-lowest : tie.Need-mul-lowest
-mul-lowest c = omega (arith, ends (c .before .before .before))
+mul-lowest c = omega (arith, row-end (c .before .before .before .before .pre .0 .inRows) _ (c .before .before .before .before .pre .1 .0))
 
 lowest-requires : tie.Need-lowest-requires
-lowest-requires c κs = omega (arith, ends (c .before .before .before))
+lowest-requires c κs = (c .before .before .before .before .pre .0 .inRows .short, omega (arith, row-end (c .before .before .before .before .pre .0 .inRows) _ (c .before .before .before .before .pre .1 .0)))
 
 enum-known-f : tie.Need-enum-known-f
 enum-known-f c = search needs
 
 clear-active-requires : tie.Need-clear-active-requires
-clear-active-requires c κs = let h = low (c .before .before .before .before .before) .0 in omega arith
+clear-active-requires c κs = let h = low (c .before .before .before .before .before) .0 in (c .before .before .before .before .before .before .before .before .before .before .before .before .pre .0, (omega arith, c .before .before .before .before .before .before .before .before .before .before .before .before .pre .1))
 
-mul-t24 : tie.Need-mul-t24
-mul-t24 c = let h = low (c .before .before .before .before .before .before .before .before .before .before) .0 in omega arith
+mul-t22 : tie.Need-mul-t22
+mul-t22 c = let h = low (c .before .before .before .before .before .before .before .before .before .before) .0 in omega (arith, c .before .before .before .before .before .before .before .before .before .before .before .before .before .before .before .before .before .pre .0 .inRows .short)
 
-add-t25 : tie.Need-add-t25
-add-t25 c = let h = low (c .before .before .before .before .before .before .before .before .before .before) .0 in omega arith
+add-t23 : tie.Need-add-t23
+add-t23 c = let h = low (c .before .before .before .before .before .before .before .before .before .before) .0 in omega (arith, c .before .before .before .before .before .before .before .before .before .before .before .before .before .before .before .before .before .pre .0 .inRows .short, c .before .before .before .before .before .before .before .before .before .before .before .before .before .before .before .before .before .pre .0 .inRows .few, c .before .before .before .before .before .before .before .before .before .before .before .before .before .before .before .before .before .pre .1 .0)
 
-cast-t26 : tie.Need-cast-t26
-cast-t26 c = let h = low (c .before .before .before .before .before .before .before .before .before .before) .0 in omega (arith, c .before .before .before .before .before .before .before .before .before .before .before .before .before .before .before .before .pre .0 .0, c .before .before .before .before .before .before .before .before .before .before .before .before .before .before .before .before .pre .0 .1 .1 .0, c .before .before .before .before .before .before .before .before .before .before .before .before .before .before .before .before .pre .0 .1 .0)
+cast-t24 : tie.Need-cast-t24
+cast-t24 c = let h = low (c .before .before .before .before .before .before .before .before .before .before) .0 in omega (arith, c .before .before .before .before .before .before .before .before .before .before .before .before .before .before .before .before .before .pre .0 .inRows .short, c .before .before .before .before .before .before .before .before .before .before .before .before .before .before .before .before .before .pre .0 .inRows .few, c .before .before .before .before .before .before .before .before .before .before .before .before .before .before .before .before .before .pre .1 .0)
 
 enum-told : tie.Need-enum-told
 enum-told c = search needs
@@ -55,8 +48,8 @@ mul-weights c = search needs
 element-write-weights : tie.Need-element-write-weights
 element-write-weights c = search needs
 
-cast-t30 : tie.Need-cast-t30
-cast-t30 c = search needs
+cast-t28 : tie.Need-cast-t28
+cast-t28 c = search needs
 
 same-length : tie.Need-same-length
 same-length c = search needs
@@ -82,13 +75,13 @@ forward-step-spec =
     lowest-requires
     enum-known-f
     clear-active-requires
-    mul-t24
-    add-t25
-    cast-t26
+    mul-t22
+    add-t23
+    cast-t24
     enum-told
     mul-weights
     element-write-weights
-    cast-t30
+    cast-t28
     same-length
     same-length-2
     returns

@@ -1,28 +1,26 @@
 -- `elimination::singletons::set_singleton` meets its contract: where it writes, it does what the pivot step would do.
 -- Assumes nothing.
-use borrow.Author.Needs.{needs}
 use native.Mathlib.Omega.{arith}
 use Prim.Native.Nat.{ℕ, _+_, _*_, _/_, _%_, _≤_, _<_}
 use mathlib.Core.Path.{_≡_, refl, sym, _∙_}
 use mathlib.Core.Bool.{false}
 use mathlib.Core.List.{List, []}
-use native.Mathlib.Nat.{le-trans}
-use lib.ListN.{length, getD, set, length-set}
+use lib.ListN.{length, getD, set}
 use borrow.Author.Tests.{ne-eqb}
 use Rattle.elimination.specs.Bits.{testBit}
-use Rattle.algebra.proofs.Codeword.{slot}
 use Rattle.elimination.specs.Reduced.{pivotAt}
+use Rattle.elimination.proofs.FitsLaws.{row-end}
 use Rattle.elimination.proofs.SharedUnknownsLaws.{singleton-step}
 use Rattle.elimination.proofs.SystemLaws.{coefficients-pivotSet}
 use Rattle.elimination.proofs.PivotStepLaws.{step-where}
+use borrow.Author.Needs.{needs}
 use Rattle.elimination.proofs.singletons.set_singleton.Statement.{statement}
 use Rattle.elimination.proofs.singletons.set_singleton.Tie as tie
 
 -- row r ends within the rows
 ends : (c : tie.Else3)
-    → c .before .before .before .before .before .args .v % 1024 * (c .before .before .before .before .before .args .words + 1) + (c .before .before .before .before .before .args .words + 1) ≤ length (c .before .before .before .before .before .args .rows .now)
-ends c =
-    let a = c .before .before .before .before .before .args in le-trans (slot (a .v % 1024) (a .m) (a .words + 1) (omega arith)) (c .before .before .before .before .before .pre .1 .0 .0)
+    → c .before .before .before .before .before .before .before .args .v % 1024 * (c .before .before .before .before .before .before .before .args .s .words + 1) + (c .before .before .before .before .before .before .before .args .s .words + 1) ≤ length (c .before .before .before .before .before .before .before .args .rows .now)
+ends c = row-end (c .before .before .before .before .before .before .before .pre .0) (c .before .before .before .before .before .before .before .args .v % 1024) (omega arith)
 
 cast-r : tie.Need-cast-r
 cast-r c = search needs
@@ -52,22 +50,22 @@ add-base : tie.Need-add-base
 add-base c = search needs
 
 mul-base : tie.Need-mul-base
-mul-base c = omega (arith, ends c)
+mul-base c = omega (arith, ends (c .before))
 
 bit-at-requires : tie.Need-bit-at-requires
-bit-at-requires c κs = omega (arith, ends (c .before))
+bit-at-requires c κs = omega (arith, ends (c .before .before))
 
 add-k : tie.Need-add-k
-add-k c = omega (arith, ends (c .before .before .before))
+add-k c = omega (arith, ends (c .before .before .before .before .before))
 
 add-rows : tie.Need-add-rows
 add-rows c = search needs
 
 mul-rows : tie.Need-mul-rows
-mul-rows c = omega (arith, ends (c .before .before .before))
+mul-rows c = omega (arith, ends (c .before .before .before .before .before))
 
 slice-write-rows : tie.Need-slice-write-rows
-slice-write-rows c = omega (arith, ends (c .before .before .before))
+slice-write-rows c = omega (arith, ends (c .before .before .before .before .before))
 
 element-write-done : tie.Need-element-write-done
 element-write-done c = search needs
@@ -78,20 +76,16 @@ same-length c = search needs
 returns-4 : tie.Need-returns-4
 unfolding testBit
 returns-4 c =
-    let start = c .before .before .before .before .before .before .before .before in
-    let a = start .args in
+    let a = c .before .before .before .before .before .before .before .before .before .before .before .before .args in
     let l : List ℕ = a .rows .now in
     let f : List ℕ = a .done .now in
     let r : ℕ = a .v % 1024 in
     let p : ℕ = a .v / 1024 in
-    let inside : r < a .m = omega arith in
-    let off : testBit (getD (a .masks .now) (p / 64) 0) (p % 64) ≡ false = ne-eqb _ 1 (c .before .before .before .if3 .left) in
-    let step = singleton-step (a .masks .now) l (a .m) (a .words) r p inside (omega arith) (start .pre .1 .0 .1) off (sym (c .before .bit-at .ensures) ∙ c .if4 .taken) [] 0 in (
-      coefficients-pivotSet l (a .words) r (p + 1),
-      (
-        simp length-set (start .pre .1 .1 .0),
-        step-where l [] (set l (pivotAt (a .words) r) (p + 1)) [] (a .m) (a .words) 0 r step inside (start .pre .1 .0 .0) (omega arith) f (set f r 1) (start .pre .1 .1 .1) refl,
-      ),
+    let inside : r < a .s .rows = omega arith in
+    let off : testBit (getD (a .masks .now) (p / 64) 0) (p % 64) ≡ false = ne-eqb _ 1 (c .before .before .before .before .before .if3 .left) in
+    let step = singleton-step (a .masks .now) l (a .s .rows) (a .s .words) r p inside (omega arith) (c .before .before .before .before .before .before .before .before .before .before .before .before .pre .1 .0) off (sym (c .before .before .bit-at .ensures) ∙ c .before .if4 .taken) [] 0 in (
+      coefficients-pivotSet l (a .s .words) r (p + 1),
+      step-where l [] (set l (pivotAt (a .s .words) r) (p + 1)) [] (a .s .rows) (a .s .words) 0 r step inside (c .before .before .before .before .before .before .before .before .before .before .before .before .pre .0 .within) (omega arith) f (set f r 1) (c .before .before .before .before .before .before .before .before .before .before .before .before .pre .1 .1) refl,
     )
 
 same-length-2 : tie.Need-same-length-2
