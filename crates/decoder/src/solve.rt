@@ -9,6 +9,7 @@ use pivot_equations::remaining;
 use encoder::positions;
 use ccsds::tables;
 use ccsds::tables::Layout;
+use elimination::Shape;
 ghost use mathlib.Core.Path.{_≡_};
 ghost use mathlib.Core.Bool.{true};
 ghost use Prim.Native.Nat.{_+_, _*_, _/_, _<_, _≤_};
@@ -95,7 +96,15 @@ fn reduce_from(
     ensures { λ _. ⌜ SameSolutions (drop from (now (words .entry))) (now (bytes .entry)) (drop from (now (words .exit))) (now (bytes .exit)) rest packed w ⌝ }
     ensures { λ _. ⌜ Reduced (drop from (now (words .exit))) rest packed rest ⌝ }
 {
-    elimination::eliminate(&mut words[from..], bytes, rest, packed, w);
+    elimination::eliminate(
+        &mut words[from..],
+        bytes,
+        Shape {
+            rows: rest,
+            words: packed,
+            width: w,
+        },
+    );
 }
 
 // The reduced rows that begin at word `from` have a solution.
@@ -107,11 +116,20 @@ fn consistent_from(
     packed: usize,
     w: usize,
 ) -> bool
+    requires { ⌜ (packed ≤ 48) × (rest ≤ 1024) ⌝ }
     requires { ⌜ (from + rest * (packed + 1) ≤ length (now words)) × (rest * w ≤ length (now bytes)) ⌝ }
     requires { ⌜ Reduced (drop from (now words)) rest packed rest ⌝ }
     ensures { λ r. ⌜ ConsistentIs (drop from (now (words .entry))) (now (bytes .entry)) rest packed w r ⌝ }
 {
-    elimination::solution::consistent(&words[from..], bytes, rest, packed, w)
+    elimination::solution::consistent(
+        &words[from..],
+        bytes,
+        Shape {
+            rows: rest,
+            words: packed,
+            width: w,
+        },
+    )
 }
 
 // The equations of the pivots, reduced, in the rows behind the steps; answers how many.

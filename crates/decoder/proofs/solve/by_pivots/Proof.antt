@@ -5,7 +5,7 @@ use Prim.Native.Nat.{ℕ, _+_, _*_, _/_}
 use native.Mathlib.Omega.{arith}
 use Rattle.elimination.specs.Consistency.{ConsistentIs}
 use Rattle.decoder.specs.Equations.{behind}
-use Rattle.decoder.proofs.Assembly.{room-of, from-room, rest-fits, rest-bytes, by-rows-no}
+use Rattle.decoder.proofs.Assembly.{room-of, from-room, free-rows, rest-fits, rest-bytes, by-rows-no}
 use borrow.Author.Needs.{needs}
 use Rattle.decoder.proofs.solve.by_pivots.Statement.{statement}
 use Rattle.decoder.proofs.solve.by_pivots.Tie as tie
@@ -56,7 +56,7 @@ consistent-from-requires c κs =
     let block = s .pre .1 .1 .1 .1 .1 in
     let room = room-of (s .args .number) (s .pre .0 .known) (made .0) (sizes .0) in
     let e = c .before .before .before .before .before .before .reduce .ensures .1 in
-    ((omega (arith, rest-fits (made .0) (e .count) ((s .args .pivots + 63) / 64) (room .fit), c .before .before .before .before .before .before .reduce .kept .1 .1 .1 .1 .1 .1 .1 .1 .1 .1 .1 .1 .1 .1 .0), omega (arith, rest-bytes (made .0) (e .count) (s .args .w) (sizes .1), c .before .before .before .before .before .before .reduce .kept .1 .1 .1 .1 .1 .1 .1 .1 .1 .1 .1 .1 .1 .1 .1 .0)), e .reduced)
+    ((room .few, omega (arith, free-rows (made .0) (e .count), made .0 .rows)), ((omega (arith, rest-fits (made .0) (e .count) ((s .args .pivots + 63) / 64) (room .fit), c .before .before .before .before .before .before .reduce .kept .1 .1 .1 .1 .1 .1 .1 .1 .1 .1 .1 .1 .1 .1 .0), omega (arith, rest-bytes (made .0) (e .count) (s .args .w) (sizes .1), c .before .before .before .before .before .before .reduce .kept .1 .1 .1 .1 .1 .1 .1 .1 .1 .1 .1 .1 .1 .1 .1 .0)), e .reduced))
 
 -- src/solve.rt:209:9
 fill-requires : tie.Need-fill-requires

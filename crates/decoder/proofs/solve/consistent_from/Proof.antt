@@ -37,7 +37,7 @@ consistent-requires c κs =
     let a = c .before .before .before .args in
     let p = c .before .before .before .pre in
     let e = part-all (a .from) (a .words .now) in
-    ((omega (arith, ap length e, length-drop (a .from) (a .words .now), p .0 .0), p .0 .1), subst (λ (l : List ℕ). Reduced l (a .rest) (a .packed) (a .rest)) (sym e) (p .1))
+    (record { inRows = record { few = p .0 .1; short = p .0 .0; within = omega (arith, ap length e, length-drop (a .from) (a .words .now), p .1 .0 .0) }; inRhs = p .1 .0 .1 }, subst (λ (l : List ℕ). Reduced l (a .rest) (a .packed) (a .rest)) (sym e) (p .1 .1))
 
 -- src/solve.rt:64:1
 returns : tie.Need-returns
