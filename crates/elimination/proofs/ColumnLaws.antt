@@ -16,9 +16,8 @@ use Rattle.elimination.proofs.Order.{lt-or-le}
 use Rattle.algebra.proofs.Codeword.{slot}
 use Rattle.buffers.specs.Parts.{added, Apart}
 use Rattle.buffers.proofs.Added.{added-length, added-out, added-above, added-in}
-use Rattle.elimination.specs.Bits.{testBit}
+use Rattle.elimination.specs.Bits.{testBit, rowBit}
 use Rattle.elimination.proofs.Digits.{testBit-xor}
-use Rattle.elimination.specs.Bits.{rowBit}
 use Rattle.elimination.specs.Column.{addRow, addRowWhere, hasPivot, FirstFrom}
 
 -- what holds of either choice holds of the choice

@@ -2,7 +2,7 @@
 -- Assumes nothing.
 use mathlib.Core.Path.{_≡_, refl, sym, ap, _∙_, subst}
 use mathlib.Core.Logic.{_≢_, _⊎_, inl, inr}
-use mathlib.Core.Bool.{true, false, true≢false, false≢true, xor, _||_, _&&_}
+use mathlib.Core.Bool.{Bool, true, false, true≢false, false≢true, xor, _||_, _&&_}
 use Prim.Native.Nat.{ℕ, zero, suc, _+_, _/_, _%_, _^_, _<_, suc-le-suc}
 use native.Mathlib.Nat.{zero-div, mod-lt, zero-lt-suc, not-suc-le-zero, le-of-suc-le-suc, pow-suc, mul-mod-left, mul-div-cancel, div-lt-iff-lt-mul}
 use native.Mathlib.Omega.{arith}
@@ -30,45 +30,31 @@ testBit-half a i = let e : suc i ≡ 1 + i = omega arith in ap (λ (x : ℕ). eq
 
 -- ---- the operations, digit by digit
 
-xor-digit : (x y : ℕ) → x < 2 → y < 2 → eqb (bitXor x y) 1 ≡ xor (eqb x 1) (eqb y 1)
-unfolding xor
-xor-digit x y hx hy =
-    digit (λ (u : ℕ). eqb (bitXor u y) 1 ≡ xor (eqb u 1) (eqb y 1)) (digit (λ (v : ℕ). eqb (bitXor 0 v) 1 ≡ xor (eqb 0 1) (eqb v 1)) refl refl y hy)
-    (digit (λ (v : ℕ). eqb (bitXor 1 v) 1 ≡ xor (eqb 1 1) (eqb v 1)) refl refl y hy) x hx
+-- an operation that goes digit by digit, told by what it makes of two digits
+digitwise : (op : ℕ → ℕ → ℕ) (f : Bool → Bool → Bool) → ((x y : ℕ) → x < 2 → y < 2 → eqb (op x y) 1 ≡ f (eqb x 1) (eqb y 1))
+    → ((a b k : ℕ) → op a b / 2 ^ k ≡ op (a / 2 ^ k) (b / 2 ^ k)) → ((a b k : ℕ) → op a b % 2 ^ k ≡ op (a % 2 ^ k) (b % 2 ^ k))
+    → (a b i : ℕ) → testBit (op a b) i ≡ f (testBit a i) (testBit b i)
+unfolding testBit
+digitwise op f here quotient rest a b i =
+    ap (λ (n : ℕ). eqb (n % 2) 1) (quotient a b i) ∙ ap (λ (n : ℕ). eqb n 1) (rest (a / 2 ^ i) (b / 2 ^ i) 1)
+    ∙ here (a / 2 ^ i % 2) (b / 2 ^ i % 2) (mod-lt (a / 2 ^ i) (zero-lt-suc 1)) (mod-lt (b / 2 ^ i) (zero-lt-suc 1))
 
-or-digit : (x y : ℕ) → x < 2 → y < 2 → eqb (bitOr x y) 1 ≡ (eqb x 1 || eqb y 1)
-or-digit x y hx hy =
-    digit (λ (u : ℕ). eqb (bitOr u y) 1 ≡ (eqb u 1 || eqb y 1)) (digit (λ (v : ℕ). eqb (bitOr 0 v) 1 ≡ (eqb 0 1 || eqb v 1)) refl refl y hy)
-    (digit (λ (v : ℕ). eqb (bitOr 1 v) 1 ≡ (eqb 1 1 || eqb v 1)) refl refl y hy) x hx
-
-and-digit : (x y : ℕ) → x < 2 → y < 2 → eqb (bitAnd x y) 1 ≡ (eqb x 1 && eqb y 1)
-and-digit x y hx hy =
-    digit (λ (u : ℕ). eqb (bitAnd u y) 1 ≡ (eqb u 1 && eqb y 1)) (digit (λ (v : ℕ). eqb (bitAnd 0 v) 1 ≡ (eqb 0 1 && eqb v 1)) refl refl y hy)
-    (digit (λ (v : ℕ). eqb (bitAnd 1 v) 1 ≡ (eqb 1 1 && eqb v 1)) refl refl y hy) x hx
+-- what holds of each pair of digits
+digits : (P : ℕ → ℕ → Type 0) → P 0 0 → P 0 1 → P 1 0 → P 1 1 → (x y : ℕ) → x < 2 → y < 2 → P x y
+digits P a b c d x y hx hy = digit (λ (u : ℕ). P u y) (digit (P 0) a b y hy) (digit (P 1) c d y hy) x hx
 
 digit-eqb : (x y : ℕ) → x < 2 → y < 2 → eqb x 1 ≡ eqb y 1 → x ≡ y
-digit-eqb x y hx hy =
-    digit (λ (u : ℕ). eqb u 1 ≡ eqb y 1 → u ≡ y) (digit (λ (v : ℕ). eqb 0 1 ≡ eqb v 1 → 0 ≡ v) (λ _. refl) (λ e. absurd (false≢true e)) y hy)
-    (digit (λ (v : ℕ). eqb 1 1 ≡ eqb v 1 → 1 ≡ v) (λ e. absurd (true≢false e)) (λ _. refl) y hy) x hx
+digit-eqb = digits (λ (x y : ℕ). eqb x 1 ≡ eqb y 1 → x ≡ y) (λ _. refl) (λ e. absurd (false≢true e)) (λ e. absurd (true≢false e)) (λ _. refl)
 
-module _ (a b i : ℕ) where
-  pub testBit-xor : testBit (a ⊕ b) i ≡ xor (testBit a i) (testBit b i)
-  unfolding testBit _⊕_
-  testBit-xor =
-      ap (λ (n : ℕ). eqb (n % 2) 1) (xor-shr a b i) ∙ ap (λ (n : ℕ). eqb n 1) (xor-mod (a / 2 ^ i) (b / 2 ^ i) 1)
-      ∙ xor-digit (a / 2 ^ i % 2) (b / 2 ^ i % 2) (mod-lt (a / 2 ^ i) (zero-lt-suc 1)) (mod-lt (b / 2 ^ i) (zero-lt-suc 1))
+pub testBit-xor : (a b i : ℕ) → testBit (a ⊕ b) i ≡ xor (testBit a i) (testBit b i)
+unfolding _⊕_ xor
+testBit-xor = digitwise bitXor xor (digits (λ (x y : ℕ). eqb (bitXor x y) 1 ≡ xor (eqb x 1) (eqb y 1)) refl refl refl refl) xor-shr xor-mod
 
-  pub testBit-or : testBit (bitOr a b) i ≡ (testBit a i || testBit b i)
-  unfolding testBit
-  testBit-or =
-      ap (λ (n : ℕ). eqb (n % 2) 1) (or-shr a b i) ∙ ap (λ (n : ℕ). eqb n 1) (or-mod (a / 2 ^ i) (b / 2 ^ i) 1)
-      ∙ or-digit (a / 2 ^ i % 2) (b / 2 ^ i % 2) (mod-lt (a / 2 ^ i) (zero-lt-suc 1)) (mod-lt (b / 2 ^ i) (zero-lt-suc 1))
+pub testBit-or : (a b i : ℕ) → testBit (bitOr a b) i ≡ (testBit a i || testBit b i)
+testBit-or = digitwise bitOr _||_ (digits (λ (x y : ℕ). eqb (bitOr x y) 1 ≡ (eqb x 1 || eqb y 1)) refl refl refl refl) or-shr or-mod
 
-  pub testBit-and : testBit (bitAnd a b) i ≡ (testBit a i && testBit b i)
-  unfolding testBit
-  testBit-and =
-      ap (λ (n : ℕ). eqb (n % 2) 1) (and-shr a b i) ∙ ap (λ (n : ℕ). eqb n 1) (and-mod (a / 2 ^ i) (b / 2 ^ i) 1)
-      ∙ and-digit (a / 2 ^ i % 2) (b / 2 ^ i % 2) (mod-lt (a / 2 ^ i) (zero-lt-suc 1)) (mod-lt (b / 2 ^ i) (zero-lt-suc 1))
+pub testBit-and : (a b i : ℕ) → testBit (bitAnd a b) i ≡ (testBit a i && testBit b i)
+testBit-and = digitwise bitAnd _&&_ (digits (λ (x y : ℕ). eqb (bitAnd x y) 1 ≡ (eqb x 1 && eqb y 1)) refl refl refl refl) and-shr and-mod
 
 -- a power of two has one digit set
 pub testBit-pow : (k i : ℕ) → testBit (2 ^ k) i ≡ eqb i k
@@ -87,15 +73,16 @@ pub record LowestSet (a k t : ℕ) : Type 0 where
   pub here : testBit a t ≡ true
   pub below : (j : ℕ) → j < t → testBit a j ≡ false
 
+-- the half of a number of k + 1 digits has k
+half : (k c : ℕ) → c < 2 ^ suc k → c / 2 < 2 ^ k
+half k c h = div-lt-iff-lt-mul (zero-lt-suc 1) .1 (subst (λ (x : ℕ). c < x) (pow-suc 2 k) h)
+
 -- of a number of k digits that is not 0, the count of trailing zeros is the place of the lowest set digit
 pub trailing-lowest : (k a : ℕ) → 0 < a → a < 2 ^ k → LowestSet a k (trailingZeros k a)
 unfolding trailingZeros
 trailing-lowest zero a p h = absurd (let e : a ≡ 0 = lt-one h in omega arith)
-trailing-lowest (suc k) a p h = go (λ q. trailing-lowest k (a / 2) q half) (a % 2) refl
+trailing-lowest (suc k) a p h = go (λ q. trailing-lowest k (a / 2) q (half k a h)) (a % 2) refl
   where
-    half : a / 2 < 2 ^ k
-    half = div-lt-iff-lt-mul (zero-lt-suc 1) .1 (subst (λ (x : ℕ). a < x) (pow-suc 2 k) h)
-
     low : a % 2 ≡ 0 → LowestSet (a / 2) k (trailingZeros k (a / 2)) → (j : ℕ) → j < suc (trailingZeros k (a / 2)) → testBit a j ≡ false
     low e ih zero l = testBit-low a ∙ ap (λ (x : ℕ). eqb x 1) e
     low e ih (suc j) l = testBit-half a j ∙ ih .below j (le-of-suc-le-suc l)
@@ -114,11 +101,8 @@ trailing-lowest (suc k) a p h = go (λ q. trailing-lowest k (a / 2) q half) (a %
 -- two numbers of k digits that are not equal differ in a digit
 pub testBit-differ : (k a b : ℕ) → a < 2 ^ k → b < 2 ^ k → a ≢ b → (i : ℕ) × ((i < k) × (testBit a i ≡ testBit b i → ⊥))
 testBit-differ zero a b ha hb ne = absurd (ne (lt-one ha ∙ sym (lt-one hb)))
-testBit-differ (suc k) a b ha hb ne = go (λ h. testBit-differ k (a / 2) (b / 2) (half a ha) (half b hb) h) (eq-or-ne (a % 2) (b % 2))
+testBit-differ (suc k) a b ha hb ne = go (λ h. testBit-differ k (a / 2) (b / 2) (half k a ha) (half k b hb) h) (eq-or-ne (a % 2) (b % 2))
   where
-    half : (c : ℕ) → c < 2 ^ suc k → c / 2 < 2 ^ k
-    half c h = div-lt-iff-lt-mul (zero-lt-suc 1) .1 (subst (λ (x : ℕ). c < x) (pow-suc 2 k) h)
-
     low : (a % 2 ≡ b % 2 → ⊥) → testBit a 0 ≡ testBit b 0 → ⊥
     low h e = h (digit-eqb (a % 2) (b % 2) (mod-lt a (zero-lt-suc 1)) (mod-lt b (zero-lt-suc 1)) (sym (testBit-low a) ∙ e ∙ testBit-low b))
 

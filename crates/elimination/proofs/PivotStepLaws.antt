@@ -1,7 +1,7 @@
 -- Laws of specs/PivotStep.antt.
 -- Assumes nothing.
 use mathlib.Core.Path.{_≡_, refl, sym, ap, _∙_}
-use mathlib.Core.Logic.{_⊎_, inl, inr, ⊎-elim}
+use mathlib.Core.Logic.{_≢_, _⊎_, inl, inr, ⊎-elim}
 use mathlib.Core.Bool.{Bool, true}
 use mathlib.Core.List.{List}
 use Prim.Native.Nat.{ℕ, _+_, _*_, _≤_, _<_}
@@ -49,7 +49,7 @@ module _ (l d l′ d′ : List ℕ) (m words width r : ℕ) (step : PivotStep l 
       let own : (e : s ≡ r) → RowReduced (addRowWhere (hasPivot l₂ (words + 1) r p) l₂ r (words + 1) words m) m words s =
       λ e. rw e (cleared-own l₂ m words r p inside rows₂ (low .0) there (getD-set-same l (pivotAt words r) (p + 1) 0 (omega arith))) in
       ⊎-elim own
-      (λ d. ⊎-elim own (λ ne. cleared-reduced l₂ m words r p inside rows₂ (low .0) there s h ne (pivotSet-reduced l words r (p + 1) m s ne d)) (eq-or-ne s r)) w
+      (λ d. ⊎-elim own (λ ne. cleared-reduced l₂ m words r p inside rows₂ (low .0) there s h ne (pivotSet-reduced l words r (p + 1) m s h ne d)) (eq-or-ne s r)) w
   step-reduced Nothing low s h w =
       let end : r * (words + 1) + (words + 1) ≤ m * (words + 1) = slot r m (words + 1) inside in
       let own : (e : s ≡ r) → RowReduced (set l (pivotAt words r) 0) m words s =
@@ -57,25 +57,22 @@ module _ (l d l′ d′ : List ℕ) (m words width r : ℕ) (step : PivotStep l 
         word = getD-set-same l (pivotAt words r) 0 0 (omega arith);
         clear = λ q hq. pivotSet-bit l words r 0 r q hq ∙ low q hq;
       })) in
-      ⊎-elim own (λ d. ⊎-elim own (λ ne. pivotSet-reduced l words r 0 m s ne d) (eq-or-ne s r)) w
+      ⊎-elim own (λ d. ⊎-elim own (λ ne. pivotSet-reduced l words r 0 m s h ne d) (eq-or-ne s r)) w
 
-  pub step-where : (f g : List ℕ) → ReducedWhere f l m words → g ≡ set f r 1 → ReducedWhere g l′ m words
-  step-where f g red e = record {
-    long = rw e (simp length-set (red .long));
-    rows = λ s h.
-        ⊎-elim (λ j. inr (rw (step .rows) (step-reduced (step .found) (step .chosen) s h (inl j))))
-        (λ ne. ⊎-elim (λ z. inl (ap (λ (k : List ℕ). getD k s 0) e ∙ getD-set-other f r s 1 0 ne ∙ z)) (λ d. inr (rw (step .rows) (step-reduced (step .found) (step .chosen) s h (inr d)))) (red .rows s h))
+  pub step-where : (f : List ℕ) → ReducedWhere f l m words → ReducedWhere (set f r 1) l′ m words
+  step-where f red = record {
+    long = simp length-set (red .long);
+    rows = λ s h. ⊎-elim (λ e. inr (rw (step .rows) (step-reduced (step .found) (step .chosen) s h (inl e))))
+        (λ ne. ⊎-elim (λ z. inl (getD-set-other f r s 1 0 ne ∙ z)) (λ d. inr (rw (step .rows) (step-reduced (step .found) (step .chosen) s h (inr d)))) (red .rows s h))
         (eq-or-ne s r);
   }
 
 -- the account of the rows that are reduced
-pub row-marked : (f g : List ℕ) (r : ℕ) → r < length f → g ≡ set f r 1 → RowMarked f g r
-row-marked f g r h e = record {
-  here = λ z. let k : _≡_ {A = ℕ} 1 0 = sym (ap (λ (x : List ℕ). getD x r 0) e ∙ getD-set-same f r 1 0 h) ∙ z in omega arith;
-  kept = λ s z. ⊎-elim
-      (λ j. let k : _≡_ {A = ℕ} 1 0 = sym (ap (λ (x : List ℕ). getD x r 0) e ∙ getD-set-same f r 1 0 h) ∙ ap (λ (x : ℕ). getD g x 0) (sym j) ∙ z in absurd (omega arith))
-      (λ ne. sym (ap (λ (x : List ℕ). getD x s 0) e ∙ getD-set-other f r s 1 0 ne) ∙ z) (eq-or-ne s r);
-}
+pub row-marked : (f : List ℕ) (r : ℕ) → r < length f → RowMarked f (set f r 1) r
+row-marked f r h = record { here = one; kept = λ s z. ⊎-elim (λ e. absurd (one (ap (λ (x : ℕ). getD (set f r 1) x 0) (sym e) ∙ z))) (λ ne. sym (getD-set-other f r s 1 0 ne) ∙ z) (eq-or-ne s r) }
+  where
+    one : getD (set f r 1) r 0 ≢ 0
+    one z = let k : _≡_ {A = ℕ} 1 0 = sym (getD-set-same f r 1 0 h) ∙ z in omega arith
 
 -- the lowest unknown is one
 pub pivot-lowest : (b : ℕ → Bool) (n : ℕ) (f : Found) → LowestIs b n f → PivotIs b n f

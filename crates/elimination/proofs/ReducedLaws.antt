@@ -12,7 +12,22 @@ use Rattle.elimination.specs.Bits.{rowBit}
 use Rattle.elimination.specs.Column.{addRowWhere, hasPivot}
 use Rattle.elimination.proofs.ColumnLaws.{hasPivot-own, hasPivot-other, rows-apart, addRowWhere-rest, addRowWhere-bit}
 use Rattle.elimination.proofs.SystemLaws.{coefficients-pivotSet, coefficients-bit}
-use Rattle.elimination.specs.Reduced.{pivotWord, pivotAt, RowReduced}
+use Rattle.elimination.specs.Reduced.{pivotWord, pivotAt, ZeroRow, Pivot, RowReduced}
+
+-- ---- a row stays reduced where its pivot word stays, and its unknowns, if it has none, or its pivot's column, if it has one
+
+carry : (l l′ : List ℕ) (m words s : ℕ) → s < m → pivotWord l′ words s ≡ pivotWord l words s
+    → (ZeroRow l words s → (q : ℕ) → q < 64 * words → rowBit l′ (s * (words + 1)) q ≡ rowBit l (s * (words + 1)) q)
+    → ((p : Pivot l m words s) (j : ℕ) → j < m → rowBit l′ (j * (words + 1)) (p .at) ≡ rowBit l (j * (words + 1)) (p .at))
+    → RowReduced l m words s → RowReduced l′ m words s
+carry l l′ m words s hs word row column (inl e) = inl (record { word = word ∙ e .word; clear = λ q h. row e q h ∙ e .clear q h })
+carry l l′ m words s hs word row column (inr p) = inr (record {
+  at = p .at;
+  word = word ∙ p .word;
+  within = p .within;
+  here = column p s hs ∙ p .here;
+  others = λ j hj ne. column p j hj ∙ p .others j hj ne;
+})
 
 -- ---- a pivot word changes no unknown, and no other pivot word
 
@@ -26,15 +41,9 @@ module _ (l : List ℕ) (words r v : ℕ) where
   pivotSet-else : (s : ℕ) → s ≢ r → pivotWord pivotSet words s ≡ pivotWord l words s
   pivotSet-else s ne = getD-set-other l (pivotAt words r) (pivotAt words s) v 0 (λ e. rows-apart s r (words + 1) ne words words (omega arith) (omega arith) e)
 
-  pub pivotSet-reduced : (m s : ℕ) → s ≢ r → RowReduced l m words s → RowReduced pivotSet m words s
-  pivotSet-reduced m s ne (inl e) = inl (record { word = pivotSet-else s ne ∙ e .word; clear = λ q h. pivotSet-bit s q h ∙ e .clear q h })
-  pivotSet-reduced m s ne (inr p) = inr (record {
-    at = p .at;
-    word = pivotSet-else s ne ∙ p .word;
-    within = p .within;
-    here = pivotSet-bit s (p .at) (p .within) ∙ p .here;
-    others = λ j hj hs. pivotSet-bit j (p .at) (p .within) ∙ p .others j hj hs;
-  })
+  pub pivotSet-reduced : (m s : ℕ) → s < m → s ≢ r → RowReduced l m words s → RowReduced pivotSet m words s
+  pivotSet-reduced m s hs ne =
+      carry l pivotSet m words s hs (pivotSet-else s ne) (λ e q h. pivotSet-bit s q h) (λ p j hj. pivotSet-bit j (p .at) (p .within))
 
 -- ---- the column of an unknown p of row r, cleared
 
@@ -89,16 +98,6 @@ module _ (l : List ℕ) (m words r p : ℕ) (inside : r < m) (rows : m * (words 
   })
 
   pub cleared-reduced : (s : ℕ) → s < m → s ≢ r → RowReduced l m words s → RowReduced cleared m words s
-  cleared-reduced s hs ne (inl e) = inl (record {
-    word = cleared-word s ∙ e .word;
-    clear = λ q h. cleared-miss s q hs h (hasPivot-other l w r p s ne ∙ e .clear p within) ∙ e .clear q h;
-  })
-  cleared-reduced s hs ne (inr v) =
-      let off : rowBit l (r * w) (v .at) ≡ false = v .others r inside (λ e. ne (sym e)) in
-      inr (record {
-        at = v .at;
-        word = cleared-word s ∙ v .word;
-        within = v .within;
-        here = cleared-off s (v .at) hs (v .within) off ∙ v .here;
-        others = λ j hj nj. cleared-off j (v .at) hj (v .within) off ∙ v .others j hj nj;
-      })
+  cleared-reduced s hs ne =
+      carry l cleared m words s hs (cleared-word s) (λ e q h. cleared-miss s q hs h (hasPivot-other l w r p s ne ∙ e .clear p within))
+      (λ v j hj. cleared-off j (v .at) hj (v .within) (v .others r inside (λ e. ne (sym e))))

@@ -11,8 +11,7 @@ use lib.ListN.{length, getD, set}
 use lib.Seq.{getD-set-same, getD-set-other}
 use lib.Bits.{bitOr, bitAnd}
 use Rattle.elimination.proofs.Order.{eq-or-ne}
-use Rattle.elimination.specs.Bits.{testBit}
-use Rattle.elimination.specs.Bits.{rowBit}
+use Rattle.elimination.specs.Bits.{testBit, rowBit}
 use Rattle.elimination.proofs.Digits.{testBit-or, testBit-and}
 use Rattle.elimination.specs.Column.{hasPivot}
 use Rattle.elimination.specs.declared.bits.Found.the-variants.{At}

@@ -1,10 +1,8 @@
 -- `elimination::back_substitution::reduce_row` meets its contract.
 -- Assumes nothing.
-use native.Mathlib.Omega.{arith}
+use native.Mathlib.Nat.{le-trans}
 use Prim.Native.Nat.{ℕ}
 use mathlib.Core.List.{List}
-use lib.ListN.{set}
-use mathlib.Core.Path.{refl}
 use Rattle.elimination.proofs.SystemLaws.{same-refl}
 use Rattle.elimination.proofs.PivotStepLaws.{step-same, step-where, row-marked}
 use borrow.Author.Needs.{needs}
@@ -33,8 +31,8 @@ returns c =
     let step = c .before .before .before .before .pivot-step .ensures in (
       step-same _ _ _ _ _ _ _ _ step (pre .1 .0) (pre .0 .inRows .within) (pre .0 .inRhs),
       (
-        step-where _ _ _ _ _ _ _ _ step (pre .1 .0) (pre .0 .inRows .within) (pre .0 .inRhs) f (set f (c .before .before .before .before .before .before .before .before .before .before .before .args .r) 1) (pre .1 .1) refl,
-        row-marked f (set f (c .before .before .before .before .before .before .before .before .before .before .before .args .r) 1) (c .before .before .before .before .before .before .before .before .before .before .before .args .r) (omega (arith, c .before .before .before .before .before .before .before .before .before .before .before .pre .1 .0, c .before .before .before .before .before .before .before .before .before .before .before .pre .0 .inRows .few, c .before .before .before .before .before .before .before .before .before .before .before .pre .1 .1 .long)) refl,
+        step-where _ _ _ _ _ _ _ _ step (pre .1 .0) (pre .0 .inRows .within) (pre .0 .inRhs) f (pre .1 .1),
+        row-marked f _ (le-trans (pre .1 .0) (le-trans (pre .0 .inRows .few) (pre .1 .1 .long))),
       ),
     )
 

@@ -1,8 +1,7 @@
 -- `elimination::bits::bit_at` meets its contract: `rowBit` is what the code computes.
 -- Assumes nothing.
 use mathlib.Core.Path.{refl}
-use Rattle.elimination.specs.Bits.{testBit}
-use Rattle.elimination.specs.Bits.{rowBit}
+use Rattle.elimination.specs.Bits.{testBit, rowBit}
 use borrow.Author.Needs.{needs}
 use Rattle.elimination.proofs.bits.bit_at.Statement.{statement}
 use Rattle.elimination.proofs.bits.bit_at.Tie as tie

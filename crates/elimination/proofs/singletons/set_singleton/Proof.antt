@@ -2,7 +2,7 @@
 -- Assumes nothing.
 use native.Mathlib.Omega.{arith}
 use Prim.Native.Nat.{ℕ, _+_, _*_, _/_, _%_, _≤_, _<_}
-use mathlib.Core.Path.{_≡_, refl, sym, _∙_}
+use mathlib.Core.Path.{_≡_, sym, _∙_}
 use mathlib.Core.Bool.{false}
 use mathlib.Core.List.{List, []}
 use lib.ListN.{length, getD, set}
@@ -85,7 +85,7 @@ returns-4 c =
     let off : testBit (getD (a .masks .now) (p / 64) 0) (p % 64) ≡ false = ne-eqb _ 1 (c .before .before .before .before .before .if3 .left) in
     let step = singleton-step (a .masks .now) l (a .s .rows) (a .s .words) r p inside (omega arith) (c .before .before .before .before .before .before .before .before .before .before .before .before .pre .1 .0) off (sym (c .before .before .bit-at .ensures) ∙ c .before .if4 .taken) [] 0 in (
       coefficients-pivotSet l (a .s .words) r (p + 1),
-      step-where l [] (set l (pivotAt (a .s .words) r) (p + 1)) [] (a .s .rows) (a .s .words) 0 r step inside (c .before .before .before .before .before .before .before .before .before .before .before .before .pre .0 .within) (omega arith) f (set f r 1) (c .before .before .before .before .before .before .before .before .before .before .before .before .pre .1 .1) refl,
+      step-where l [] (set l (pivotAt (a .s .words) r) (p + 1)) [] (a .s .rows) (a .s .words) 0 r step inside (c .before .before .before .before .before .before .before .before .before .before .before .before .pre .0 .within) (omega arith) f (c .before .before .before .before .before .before .before .before .before .before .before .before .pre .1 .1),
     )
 
 same-length-2 : tie.Need-same-length-2
