@@ -1,25 +1,21 @@
-// How the programs print what the calls on a block answer.
+// What the programs on blocks share: the steps of a pass, and how the answers are printed.
+pub mod pass;
+
 use block::close::Closed;
+use block::close::Report;
 use block::close::Verdict;
 use block::take::Taken;
-
-// Prints the number of a refusal.
-pub fn print_refusal(number: u8) {
-    report::print(b"refused ");
-    report::print_number(number as usize);
-}
 
 // Prints take's answer.
 pub fn print_taken(answer: Taken) {
     match answer {
         Taken::Kept => report::print(b"kept"),
         Taken::Repeated => report::print(b"repeated"),
-        Taken::Refused(number) => print_refusal(number),
+        Taken::Refused(number) => report::print_refusal(number),
     }
 }
 
-// Prints a verdict.
-pub fn print_verdict(verdict: Verdict) {
+fn print_verdict(verdict: Verdict) {
     match verdict {
         Verdict::Whole => report::print(b"whole"),
         Verdict::Ambiguous => report::print(b"ambiguous"),
@@ -27,23 +23,22 @@ pub fn print_verdict(verdict: Verdict) {
     }
 }
 
-// Prints a count after its name.
-pub fn print_count(name: &[u8], count: usize) {
-    report::print(name);
-    report::print_number(count);
+// Prints the verdict and how many positions are heard; with `all`, how many are filled and left too.
+fn print_report(told: Report, all: bool) {
+    let verdict = told.verdict;
+    print_verdict(verdict);
+    report::print_count(b" heard ", told.heard);
+    if all {
+        report::print_count(b" filled ", told.filled);
+        report::print_count(b" left ", told.left);
+    }
 }
 
-// Prints close's answer: the verdict and the three counts.
-pub fn print_closed(answer: Closed) {
+// Prints close's answer: a report with or without all its counts, or the refusal.
+pub fn print_closed(answer: Closed, all: bool) {
     match answer {
-        Closed::Reported(told) => {
-            let verdict = told.verdict;
-            print_verdict(verdict);
-            print_count(b" heard ", told.heard);
-            print_count(b" filled ", told.filled);
-            print_count(b" left ", told.left);
-        }
-        Closed::Refused(number) => print_refusal(number),
+        Closed::Reported(told) => print_report(told, all),
+        Closed::Refused(number) => report::print_refusal(number),
     }
 }
 

@@ -1,14 +1,44 @@
 // The sample blocks of document 01 that are tests. Each prints a line: close's answer, and whether one position is filled.
-// C1 has W = 4 and C2 has W = 1, so that 3,072 symbol bytes and 1,024 parity bytes serve both.
+// C1 has W = 4 and C2 has W = 1, so that the buffers of C2 serve both.
 use block::Block;
-use block::open::Opened;
+use block_report::pass;
 use ccsds::code::Code;
-ghost use mathlib.Core.Path.{_≡_};
-ghost use Prim.Native.Nat.{_<_};
-ghost use lib.ListN.{length};
 
-// u_0, and the 79 parity symbols of the first C1 sample.
-fn first_sample(p: usize) -> bool {
+// The block of a sample.
+fn block_of(sample: usize) -> Block {
+    if sample < 4 {
+        Block {
+            code: 1,
+            w: 4,
+            protocol: 1,
+            lsc: 7,
+        }
+    } else {
+        Block {
+            code: 2,
+            w: 1,
+            protocol: 7,
+            lsc: 65534,
+        }
+    }
+}
+
+// The position of which a sample's line tells whether it is filled.
+fn told_position(sample: usize) -> usize {
+    match sample {
+        1 | 2 => 0,
+        3 => 572,
+        _ => Code::C2_N - 1,
+    }
+}
+
+// Bytes of a unit of C2.
+const UNIT: usize = 15;
+
+const UNITS: usize = Code::C2_N * UNIT;
+
+// The positions that samples 2 and 3 miss: u_0 and 79 parity symbols.
+fn missing(p: usize) -> bool {
     match p {
         0 | 553..=571 | 584..=609 | 734..=767 => true,
         _ => false,
@@ -22,53 +52,29 @@ fn hears(sample: usize, p: usize) -> bool {
             1..=511 | 767 => true,
             _ => false,
         },
-        2 => !first_sample(p),
+        2 => !missing(p),
         3 => {
             if p == 572 {
                 return false;
             }
-            !first_sample(p)
+            !missing(p)
         }
-        5 => p == 3071,
+        5 => p == Code::C2_N - 1,
         _ => false,
     }
 }
 
-// Where the sample hears position p: its unit is written and taken.
-fn hear<'a>(
-    sample: usize,
-    b: Block,
-    info: &'a [u8],
-    parity: &'a [u8],
-    p: usize,
-    unit: &mut [u8],
-    symbols: &mut [u8],
-    marks: &mut [u8],
-)
-    requires { ⌜ p < 18446744073709551615 ⌝ }
-{
-    if !hears(sample, p) {
-        return;
+// Takes the unit of position p where the sample hears it.
+fn hear(sample: usize, units: &[u8], p: usize, symbols: &mut [u8], marks: &mut [u8]) {
+    if hears(sample, p) {
+        pass::receive(block_of(sample), units, p, symbols, marks);
     }
-    let symbol = ccsds::show::show(b.code, b.w, info, parity, p + 1);
-    ccsds::writer::write(b.code, b.w, b.protocol, b.lsc, p + 1, symbol, unit);
-    block::take::take(b, symbols, marks, unit);
 }
 
-fn hear_all<'a>(
-    sample: usize,
-    b: Block,
-    info: &'a [u8],
-    parity: &'a [u8],
-    unit: &mut [u8],
-    symbols: &mut [u8],
-    marks: &mut [u8],
-) {
-    let code = Code { number: b.code };
-    let n = code.n();
+fn hear_all(sample: usize, units: &[u8], symbols: &mut [u8], marks: &mut [u8]) {
     let mut p = 0;
-    while p < n {
-        hear(sample, b, info, parity, p, unit, symbols, marks);
+    while p < marks.len() {
+        hear(sample, units, p, symbols, marks);
         p += 1;
     }
 }
@@ -86,7 +92,7 @@ fn print_name(sample: usize) {
 
 // Prints whether position p is filled.
 fn print_position(marks: &[u8], p: usize) {
-    block_report::print_count(b", position ", p);
+    report::print_count(b", position ", p);
     if p >= marks.len() {
         return;
     }
@@ -96,167 +102,88 @@ fn print_position(marks: &[u8], p: usize) {
     report::print(b" filled");
 }
 
-// Closes the block, and prints.
-fn close(
-    sample: usize,
-    b: Block,
-    symbols: &mut [u8],
-    marks: &mut [u8],
-    words: &mut [u64],
-    bytes: &mut [u8],
-) {
+// Opens the block, hears what the sample hears, closes, and prints.
+fn run(sample: usize, units: &[u8], symbols: &mut [u8], marks: &mut [u8]) {
+    let b = block_of(sample);
     print_name(sample);
-    let answer = block::close::close(b, symbols, marks, words, bytes);
-    block_report::print_closed(answer);
-}
-
-// Opens the block, hears what the sample hears, and closes.
-fn run<'a>(
-    sample: usize,
-    b: Block,
-    info: &'a [u8],
-    parity: &'a [u8],
-    unit: &mut [u8],
-    symbols: &mut [u8],
-    marks: &mut [u8],
-    words: &mut [u64],
-    bytes: &mut [u8],
-) {
-    let Opened::Record(fresh) = block::open::open(b, symbols, marks) else {
+    if !pass::open(b, symbols, marks) {
         report::print(b"open refused");
         return;
-    };
-    hear_all(sample, fresh, info, parity, unit, symbols, marks);
-    close(sample, fresh, symbols, marks, words, bytes);
+    }
+    hear_all(sample, units, symbols, marks);
+    block_report::print_closed(pass::close(b, symbols, marks), true);
+    print_position(marks, told_position(sample));
 }
 
-// Runs a sample, and prints its line: whether a place is filled, and for the first sample whether the block is as sent.
-fn print_line<'a>(
-    sample: usize,
-    b: Block,
-    place: usize,
-    info: &'a [u8],
-    parity: &'a [u8],
-    unit: &mut [u8],
-    symbols: &mut [u8],
-    marks: &mut [u8],
-    words: &mut [u64],
-    bytes: &mut [u8],
-) {
-    run(sample, b, info, parity, unit, symbols, marks, words, bytes);
-    print_position(marks, place);
+// Buffers that hold something before they are used.
+fn old_symbols() -> [u8; Code::C2_N] {
+    [165; Code::C2_N]
+}
+
+// Runs a sample with marks of its code's size.
+fn run_marked(sample: usize, units: &[u8], symbols: &mut [u8]) {
+    let code = Code {
+        number: block_of(sample).code,
+    };
+    let n = code.n();
+    let mut marks = old_symbols();
+    if n > Code::C2_N {
+        return;
+    }
+    run(sample, units, symbols, &mut marks[0..n]);
+}
+
+fn all_units() -> [u8; UNITS] {
+    [0; UNITS]
+}
+
+// Sends and runs a sample, and prints its line; that of the first sample also tells whether the block is as sent.
+fn print_line<'a>(sample: usize, info: &'a [u8], parity: &'a [u8]) {
+    let mut units = all_units();
+    let mut symbols = old_symbols();
+    pass::send_all(block_of(sample), info, parity, &mut units);
+    run_marked(sample, &units, &mut symbols);
     if sample == 1 {
-        block_report::print_compared(symbols, info, parity);
+        block_report::print_compared(&symbols, info, parity);
     }
     report::print(b"\n");
 }
 
-// Buffers that hold something before they are used.
-fn old_bytes() -> [u8; 1024]
-    ensures { λ r. ⌜ 1024 ≡ length r ⌝ }
-{
-    [90; 1024]
+fn information() -> [u8; Code::C2_K] {
+    [0; Code::C2_K]
 }
 
-fn old_symbols() -> [u8; 3072]
-    ensures { λ r. ⌜ 3072 ≡ length r ⌝ }
-{
-    [165; 3072]
+fn parity_symbols() -> [u8; Code::C2_M] {
+    [0; Code::C2_M]
 }
 
-fn old_words() -> [u64; 50176]
-    ensures { λ r. ⌜ 50176 ≡ length r ⌝ }
-{
-    [12297829382473034411; 50176]
+fn pattern_sample() {
+    let b = block_of(1);
+    let mut info = information();
+    let mut parity = parity_symbols();
+    report::fill(&mut info, 1);
+    encoder::encode::encode(b.code, b.w, &info, &mut parity);
+    print_line(1, &info, &parity);
 }
 
-// Runs a sample with buffers of its code's sizes.
-fn sample<'a>(number: usize, b: Block, place: usize, info: &'a [u8], parity: &'a [u8]) {
-    let code = Code { number: b.code };
-    let n = code.n();
-    let m = code.work_words();
-    let u = code.unit_bytes(b.w);
-    let mut unit = [0u8; 18];
-    let mut symbols = old_symbols();
-    let mut marks = old_symbols();
-    let mut words = old_words();
-    let mut bytes = old_bytes();
-    if n > 3072 {
-        return;
-    }
-    if m > 50176 {
-        return;
-    }
-    if u > 18 {
-        return;
-    }
-    print_line(
-        number,
-        b,
-        place,
-        info,
-        parity,
-        &mut unit[0..u],
-        &mut symbols,
-        &mut marks[0..n],
-        &mut words[0..m],
-        &mut bytes,
-    );
+fn zero_samples() {
+    let info = information();
+    let parity = parity_symbols();
+    print_line(2, &info, &parity);
+    print_line(3, &info, &parity);
+    print_line(4, &info, &parity);
 }
 
-fn information() -> [u8; 2048]
-    ensures { λ r. ⌜ 2048 ≡ length r ⌝ }
-{
-    [0; 2048]
-}
-
-fn parity_symbols() -> [u8; 1024]
-    ensures { λ r. ⌜ 1024 ≡ length r ⌝ }
-{
-    [0; 1024]
-}
-
-// The information of the first sample.
-fn fill(info: &mut [u8]) {
-    let mut i = 0;
-    while i < info.len() {
-        info[i] = (i % 251) as u8;
-        i += 1;
-    }
-}
-
-// The symbol of LWC n in the last sample.
-fn set_last(parity: &mut [u8]) {
-    let n = parity.len();
-    if n == 0 {
-        return;
-    }
-    parity[n - 1] = 1;
+// The symbol of LWC n is 01, and all others are zero.
+fn last_sample() {
+    let info = information();
+    let mut parity = parity_symbols();
+    parity[Code::C2_M - 1] = 1;
+    print_line(5, &info, &parity);
 }
 
 fn main() {
-    let c1 = Block {
-        code: 1,
-        w: 4,
-        protocol: 1,
-        lsc: 7,
-    };
-    let c2 = Block {
-        code: 2,
-        w: 1,
-        protocol: 7,
-        lsc: 65534,
-    };
-    let mut info = information();
-    let mut parity = parity_symbols();
-    fill(&mut info);
-    encoder::encode::encode(1, 4, &info, &mut parity);
-    sample(1, c1, 0, &info, &parity);
-    let zero = information();
-    let mut last = parity_symbols();
-    sample(2, c1, 0, &zero, &last);
-    sample(3, c1, 572, &zero, &last);
-    sample(4, c2, 3071, &zero, &last);
-    set_last(&mut last);
-    sample(5, c2, 3071, &zero, &last);
+    pattern_sample();
+    zero_samples();
+    last_sample();
 }

@@ -2,67 +2,55 @@
 // made by tests/vectors/encode.py, which shares no code with this repository's encoder.
 use ccsds::code::Code;
 use encoder::encode::Encoded;
-ghost use Prim.Native.Nat.{_<_};
-
-// The generator x → (1,103,515,245 x + 12,345) mod 2,147,483,648 from x = seed, a byte of x for each byte of the buffer.
-fn fill(p: &mut [u8], seed: u64)
-    requires { ⌜ seed < 2147483648 ⌝ }
-{
-    let mut x = seed;
-    let mut i = 0;
-    while i < p.len() {
-        x = (x * 1103515245 + 12345) % 2147483648;
-        p[i] = (x / 65536 % 256) as u8;
-        i += 1;
-    }
-}
 
 // Encodes a pattern, and prints a line. The parity buffer holds another pattern before.
-fn one(code: usize, w: usize, info: &mut [u8], parity: &mut [u8]) {
-    fill(info, 1);
-    fill(parity, 2);
-    report::print(b"C");
-    report::print_number(code);
-    report::print(b" W ");
-    report::print_number(w);
+fn encode(code: usize, w: usize, info: &mut [u8], parity: &mut [u8]) {
+    report::fill(info, 1);
+    report::fill(parity, 2);
     let answer = encoder::encode::encode(code, w, info, parity);
+    report::print_count(b"C", code);
+    report::print_count(b" W ", w);
     match answer {
         Encoded::Done => report::print(b" parity"),
-        Encoded::Refused(r) => {
-            report::print(b" refused ");
-            report::print_number(r as usize);
+        Encoded::Refused(number) => {
+            report::print(b" ");
+            report::print_refusal(number);
         }
     }
-    report::print_buffer(parity);
+    report::print_buffer(parity, 8);
 }
 
-// The same with parts of the buffers that have the right sizes.
-fn run(code: usize, w: usize, info: &mut [u8], parity: &mut [u8]) {
-    let c = Code { number: code };
-    let n = c.information_bytes(w);
-    let m = c.parity_bytes(w);
+// The same with the parts of the buffers that code and width ask for.
+fn run(number: usize, w: usize, info: &mut [u8], parity: &mut [u8]) {
+    let code = Code { number };
+    let n = code.information_bytes(w);
+    let m = code.parity_bytes(w);
     if n > info.len() {
         return;
     }
     if m > parity.len() {
         return;
     }
-    one(code, w, &mut info[..n], &mut parity[..m]);
-}
-
-// The information and the parity of the largest block.
-fn information() -> [u8; 2097152] {
-    [0u8; 2097152]
-}
-
-fn parity_symbols() -> [u8; 1048576] {
-    [0u8; 1048576]
+    encode(number, w, &mut info[0..n], &mut parity[0..m]);
 }
 
 // One width for both codes.
 fn both(w: usize, info: &mut [u8], parity: &mut [u8]) {
     run(1, w, info, parity);
     run(2, w, info, parity);
+}
+
+const INFORMATION: usize = Code::C2_K * Code::MAX_WIDTH;
+
+const PARITY: usize = Code::C2_M * Code::MAX_WIDTH;
+
+// The information and the parity of the largest block.
+fn information() -> [u8; INFORMATION] {
+    [0; INFORMATION]
+}
+
+fn parity_symbols() -> [u8; PARITY] {
+    [0; PARITY]
 }
 
 fn main() {

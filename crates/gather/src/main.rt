@@ -1,11 +1,9 @@
 // The program gather of document 01: gathers the units of standard input into a block of C1, W up to 16, and closes it.
 use block::Block;
-use block::close::Closed;
-use block::open::Opened;
-use wire::big_endian;
+use block_report::pass;
+use ccsds::code::Code;
 use libc::STDIN_FILENO;
-ghost use mathlib.Core.Path.{_≡_};
-ghost use lib.ListN.{length};
+use wire::big_endian;
 
 fn bad_input() {
     report::print(b"bad input\n");
@@ -19,13 +17,10 @@ fn read_unit(buffer: &mut [u8], n: usize) -> bool {
     io::read_full(STDIN_FILENO, &mut buffer[0..n]) == n
 }
 
-// Takes the unit of n bytes at the start of the buffer, and prints its line.
-fn gather(b: Block, symbols: &mut [u8], marks: &mut [u8], buffer: &[u8], n: usize, number: usize) {
-    if n > buffer.len() {
-        return;
-    }
-    let answer = block::take::take(b, symbols, marks, &buffer[0..n]);
-    report::print_number(number);
+// Takes a unit, and prints its line.
+fn take(b: Block, symbols: &mut [u8], marks: &mut [u8], unit: &[u8], number: usize) {
+    let answer = block::take::take(b, symbols, marks, unit);
+    report::print_count(b"", number);
     report::print(b" ");
     block_report::print_taken(answer);
     report::print(b"\n");
@@ -42,7 +37,10 @@ fn next(b: Block, symbols: &mut [u8], marks: &mut [u8], number: usize) -> bool {
     if !read_unit(&mut buffer, n) {
         return false;
     }
-    gather(b, symbols, marks, &buffer, n, number);
+    if n > buffer.len() {
+        return false;
+    }
+    take(b, symbols, marks, &buffer[0..n], number);
     true
 }
 
@@ -61,65 +59,41 @@ fn gather_all(b: Block, symbols: &mut [u8], marks: &mut [u8]) {
     }
 }
 
-// Prints the last line.
-fn print_last(answer: Closed) {
-    match answer {
-        Closed::Reported(told) => {
-            let verdict = told.verdict;
-            block_report::print_verdict(verdict);
-            block_report::print_count(b" heard ", told.heard);
-        }
-        Closed::Refused(number) => block_report::print_refusal(number),
+// Opens the block, gathers, and closes.
+fn run(b: Block, symbols: &mut [u8], marks: &mut [u8]) {
+    if !pass::open(b, symbols, marks) {
+        bad_input();
+        return;
     }
+    gather_all(b, symbols, marks);
+    block_report::print_closed(pass::close(b, symbols, marks), false);
     report::print(b"\n");
 }
 
-// Opens the block, gathers, and closes.
-fn run(b: Block, symbols: &mut [u8], marks: &mut [u8], words: &mut [u64], bytes: &mut [u8]) {
-    let Opened::Record(fresh) = block::open::open(b, symbols, marks) else {
-        bad_input();
-        return;
-    };
-    gather_all(fresh, symbols, marks);
-    let answer = block::close::close(fresh, symbols, marks, words, bytes);
-    print_last(answer);
+// Bytes of the longest symbol.
+const WIDTH: usize = 16;
+
+const SYMBOLS: usize = Code::C1_N * WIDTH;
+
+fn symbol_bytes() -> [u8; SYMBOLS] {
+    [0; SYMBOLS]
 }
 
-// The buffers of C1 with W = 16: 768 symbols, and 256 rows of 13 words.
-fn symbol_bytes() -> [u8; 12288]
-    ensures { λ r. ⌜ 12288 ≡ length r ⌝ }
-{
-    [0; 12288]
+fn block_marks() -> [u8; Code::C1_N] {
+    [0; Code::C1_N]
 }
 
-fn work_words() -> [u64; 3328]
-    ensures { λ r. ⌜ 3328 ≡ length r ⌝ }
-{
-    [0; 3328]
-}
-
-// Lends the parts of the buffers that W asks for. The last is 256 symbols.
+// Lends the symbols that W asks for. A block of C2 has more marks, and is refused.
 fn start(b: Block) {
-    let w = b.w;
-    if b.code != 1 {
-        bad_input();
-        return;
-    }
-    if w > 16 {
-        bad_input();
-        return;
-    }
+    let code = Code { number: b.code };
+    let n = code.block_bytes(b.w);
     let mut symbols = symbol_bytes();
-    let mut marks = [0u8; 768];
-    let mut words = work_words();
-    let mut bytes = io::buffer();
-    run(
-        b,
-        &mut symbols[0..768 * w],
-        &mut marks,
-        &mut words,
-        &mut bytes[0..256 * w],
-    );
+    let mut marks = block_marks();
+    if n > SYMBOLS {
+        bad_input();
+        return;
+    }
+    run(b, &mut symbols[0..n], &mut marks);
 }
 
 fn main() {

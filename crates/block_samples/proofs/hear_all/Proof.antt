@@ -8,13 +8,10 @@ use Rattle.block_samples.proofs.hear_all.Statement.{statement}
 use Rattle.block_samples.proofs.hear_all.Tie as tie
 
 abbrev Inv-loop : tie.InvT-loop
-Inv-loop sample b info parity unit₀ symbols₀ marks₀ n p₀ unit symbols marks p = (p ≤ n) × (length unit ≡ length unit₀) × (length symbols ≡ length symbols₀) × (length marks ≡ length marks₀)
+Inv-loop sample units symbols₀ marks₀ p₀ symbols marks p = (p ≤ length marks₀) × (length symbols ≡ length symbols₀) × (length marks ≡ length marks₀)
 
 abbrev μ-loop : tie.MeasureT-loop
-μ-loop sample b info parity unit₀ symbols₀ marks₀ n p₀ unit symbols marks p = n - p
-
-n-requires : tie.Need-n-requires Inv-loop μ-loop
-n-requires c κs = search needs
+μ-loop sample units symbols₀ marks₀ p₀ symbols marks p = length marks₀ - p
 
 loop-holds : tie.Need-loop-holds Inv-loop μ-loop
 loop-holds c = search needs
@@ -37,9 +34,6 @@ same-length c = search needs
 same-length-2 : tie.Need-same-length-2 Inv-loop μ-loop
 same-length-2 c = search needs
 
-same-length-3 : tie.Need-same-length-3 Inv-loop μ-loop
-same-length-3 c = search needs
-
 returns : tie.Need-returns Inv-loop μ-loop
 returns c = search needs
 
@@ -49,7 +43,6 @@ hear-all-spec =
     (tie.spec
     Inv-loop
     μ-loop
-    n-requires
     loop-holds
     hear-requires
     add-p
@@ -57,5 +50,4 @@ hear-all-spec =
     loop-again
     same-length
     same-length-2
-    same-length-3
     returns)

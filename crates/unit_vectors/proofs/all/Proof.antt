@@ -7,10 +7,10 @@ use Rattle.unit_vectors.proofs.all.Statement.{statement}
 use Rattle.unit_vectors.proofs.all.Tie as tie
 
 abbrev Inv-loop : tie.InvT-loop
-Inv-loop body₀ out₀ left₀ body out left = (length body ≡ length body₀) × (length out ≡ length out₀)
+Inv-loop buffer₀ left₀ buffer left = length buffer ≡ length buffer₀
 
 abbrev μ-loop : tie.MeasureT-loop
-μ-loop body₀ out₀ left₀ body out left = left
+μ-loop buffer₀ left₀ buffer left = left
 
 loop-holds : tie.Need-loop-holds Inv-loop μ-loop
 loop-holds c = search needs
@@ -36,9 +36,6 @@ loop-again-2 c = search needs
 same-length : tie.Need-same-length Inv-loop μ-loop
 same-length c = search needs
 
-same-length-2 : tie.Need-same-length-2 Inv-loop μ-loop
-same-length-2 c = search needs
-
 returns : tie.Need-returns Inv-loop μ-loop
 returns c = search needs
 
@@ -56,5 +53,4 @@ all-spec =
     loop-less-2
     loop-again-2
     same-length
-    same-length-2
     returns)

@@ -1,17 +1,20 @@
--- `demo::send_all` meets its contract.
+-- `block_report::pass::send_all` meets its contract.
 -- Assumes nothing.
 use mathlib.Core.Path.{_≡_}
 use Prim.Native.Nat.{_≤_, _-_}
 use lib.ListN.{length}
 use borrow.Author.Needs.{needs}
-use Rattle.demo.proofs.send_all.Statement.{statement}
-use Rattle.demo.proofs.send_all.Tie as tie
+use Rattle.block_report.proofs.pass.send_all.Statement.{statement}
+use Rattle.block_report.proofs.pass.send_all.Tie as tie
 
 abbrev Inv-loop : tie.InvT-loop
-Inv-loop b info parity units₀ written₀ p₀ units written p = (p ≤ 768) × (written ≤ p) × (length units ≡ length units₀)
+Inv-loop b info parity units₀ n written₀ p₀ units written p = (p ≤ n) × (written ≤ p) × (length units ≡ length units₀)
 
 abbrev μ-loop : tie.MeasureT-loop
-μ-loop b info parity units₀ written₀ p₀ units written p = 768 - p
+μ-loop b info parity units₀ n written₀ p₀ units written p = n - p
+
+n-requires : tie.Need-n-requires Inv-loop μ-loop
+n-requires c κs = search needs
 
 loop-holds : tie.Need-loop-holds Inv-loop μ-loop
 loop-holds c = search needs
@@ -43,6 +46,7 @@ send-all-spec =
     (tie.spec
     Inv-loop
     μ-loop
+    n-requires
     loop-holds
     send-requires
     add-written
