@@ -64,7 +64,7 @@ pub fn send_all<'a>(b: Block, info: &'a [u8], parity: &'a [u8], units: &mut [u8]
 pub fn open(b: Block, symbols: &mut [u8], marks: &mut [u8]) -> bool {
     let answer = block::open::open(b, symbols, marks);
     match answer {
-        Opened::Fresh(_) => true,
+        Opened::Record(_) => true,
         Opened::Refused(_) => false,
     }
 }
