@@ -45,7 +45,7 @@ fn wrong_parameters(b: Block, x: Extension) -> bool
 }
 
 // 8, foreign.
-fn wrong_label(b: Block, p: UnitParts) -> bool
+fn is_foreign(b: Block, p: UnitParts) -> bool
     ensures { λ r. ⌜ r ≡ foreign b (partsAs p) ⌝ }
 {
     if p.lsc != b.lsc {
@@ -64,7 +64,7 @@ fn check_unit(b: Block, p: UnitParts, len: usize) -> u8
     if wrong_parameters(b, x) {
         return refusal::PARAMETERS;
     }
-    if wrong_label(b, p) {
+    if is_foreign(b, p) {
         return refusal::FOREIGN;
     }
     if ccsds::checks::wrong_position(code.n(), p.lwc) {

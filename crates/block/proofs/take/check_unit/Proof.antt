@@ -15,7 +15,7 @@ parameters : (c : tie.Else1) → wrongParameters (c .before .before .args .b) (p
 parameters c = sym (c .before .wrong-parameters .ensures) ∙ c .if1 .left
 
 own : (c : tie.Else2) → foreign (c .before .before .before .before .args .b) (partsAs (c .before .before .before .before .args .p)) ≡ false
-own c = sym (c .before .wrong-label .ensures) ∙ c .if2 .left
+own c = sym (c .before .is-foreign .ensures) ∙ c .if2 .left
 
 wrong-parameters-requires : tie.Need-wrong-parameters-requires
 wrong-parameters-requires c κs = search needs
@@ -23,11 +23,11 @@ wrong-parameters-requires c κs = search needs
 returns : tie.Need-returns
 returns c = parameters-refused _ _ _ (sym (c .before .wrong-parameters .ensures) ∙ c .if1 .taken)
 
-wrong-label-requires : tie.Need-wrong-label-requires
-wrong-label-requires c κs = search needs
+is-foreign-requires : tie.Need-is-foreign-requires
+is-foreign-requires c κs = search needs
 
 returns-2 : tie.Need-returns-2
-returns-2 c = foreign-refused _ _ _ (parameters (c .before .before)) (sym (c .before .wrong-label .ensures) ∙ c .if2 .taken)
+returns-2 c = foreign-refused _ _ _ (parameters (c .before .before)) (sym (c .before .is-foreign .ensures) ∙ c .if2 .taken)
 
 n-requires : tie.Need-n-requires
 n-requires c κs = search needs
@@ -61,7 +61,7 @@ check-unit-spec =
     (tie.spec
     wrong-parameters-requires
     returns
-    wrong-label-requires
+    is-foreign-requires
     returns-2
     n-requires
     wrong-position-requires
