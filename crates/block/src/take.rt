@@ -67,7 +67,7 @@ fn check_unit(b: Block, p: UnitParts, len: usize) -> u8
     if is_foreign(b, p) {
         return refusal::FOREIGN;
     }
-    if ccsds::checks::wrong_position(code.n(), p.lwc) {
+    if code.wrong_position(p.lwc) {
         return refusal::POSITION;
     }
     if len - p.symbol != b.w {

@@ -62,10 +62,6 @@ pub position-is-right : (n lwc : ℕ) → 0 < lwc → lwc ≤ n → wrongPositio
 unfolding wrongPosition
 position-is-right n lwc h l = rw (ne-eqb lwc 0 (λ e. omega arith), le-ltb n lwc l)
 
--- as a test of it finds it, by the number of symbols that was computed
-pub position-found : (lwc : ℕ) {m n : ℕ} {t : Bool} → n ≡ m → t ≡ wrongPosition n lwc → wrongPosition m lwc ≡ t
-position-found lwc e f = ap (λ (k : ℕ). wrongPosition k lwc) (sym e) ∙ sym f
-
 pub length-right : (have size : ℕ) → wrongLength have size ≡ false → have ≡ size
 unfolding wrongLength
 length-right have size e = eqb-true have size (not-false (eqb have size) e)

@@ -5,7 +5,7 @@ ghost use mathlib.Core.Path.{_≡_};
 ghost use Prim.Native.Nat.{_+_, _*_, _/_, _≤_};
 ghost use Rattle.ccsds.specs.Codes.{nOf};
 ghost use Rattle.ccsds.specs.Tables.{codeOf, isCode};
-ghost use Rattle.ccsds.specs.Refusals.{wrongWidth, bytesOf};
+ghost use Rattle.ccsds.specs.Refusals.{wrongWidth, wrongPosition, bytesOf};
 
 pub struct Code {
     pub number: usize,
@@ -91,6 +91,17 @@ impl Code {
         ensures { λ r. ⌜ r ≡ codeOf (self .number) .a ⌝ }
     {
         tables::layout_of(self.number).a
+    }
+
+    // An LWC that is refused.
+    pub fn wrong_position(self, lwc: usize) -> bool
+        ensures { λ r. ⌜ r ≡ wrongPosition (nOf (codeOf (self .number))) lwc ⌝ }
+    {
+        let n = self.n();
+        if lwc == 0 {
+            return true;
+        }
+        lwc > n
     }
 
     // Bytes of the information buffer.

@@ -14,7 +14,7 @@ fn check_show(number: usize, w: usize, infoLength: usize, parityLength: usize, l
         return earlier;
     }
     let code = Code { number };
-    if checks::wrong_position(code.n(), lwc) {
+    if code.wrong_position(lwc) {
         return refusal::POSITION;
     }
     0

@@ -61,7 +61,7 @@ fn check_write(
     }
     let code = Code { number };
     let size = code.unit_bytes(w);
-    let misplaced = checks::wrong_position(code.n(), lwc);
+    let misplaced = code.wrong_position(lwc);
     if outLength != size {
         return refusal::LENGTH;
     }

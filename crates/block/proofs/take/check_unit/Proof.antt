@@ -3,7 +3,6 @@
 use mathlib.Core.Path.{_≡_, sym, _∙_}
 use mathlib.Core.Bool.{false}
 use borrow.Author.Needs.{needs}
-use Rattle.ccsds.proofs.Refusals.{position-found}
 use Rattle.block.specs.Take.{wrongParameters, foreign}
 use Rattle.block.specs.inner.Steps.{partsAs}
 use Rattle.block.proofs.Taking.{parameters-refused, foreign-refused, position-refused, symbol-refused, unit-admitted}
@@ -29,16 +28,13 @@ is-foreign-requires c κs = search needs
 returns-2 : tie.Need-returns-2
 returns-2 c = foreign-refused _ _ _ (parameters (c .before .before)) (sym (c .before .is-foreign .ensures) ∙ c .if2 .taken)
 
-n-requires : tie.Need-n-requires
-n-requires c κs = search needs
-
 wrong-position-requires : tie.Need-wrong-position-requires
 wrong-position-requires c κs = search needs
 
 returns-3 : tie.Need-returns-3
 returns-3 c =
-    let e = c .before .before .before in
-    position-refused _ _ _ (parameters (e .before .before)) (own e) (position-found _ (c .before .before .n .ensures) (c .before .wrong-position .ensures) ∙ c .if3 .taken)
+    let e = c .before .before in
+    position-refused _ _ _ (parameters (e .before .before)) (own e) (sym (c .before .wrong-position .ensures) ∙ c .if3 .taken)
 
 sub-if4 : tie.Need-sub-if4
 sub-if4 c = search needs
@@ -46,14 +42,14 @@ sub-if4 c = search needs
 returns-4 : tie.Need-returns-4
 returns-4 c =
     let g = c .before .before .before in
-    let e = g .before .before .before in
-    symbol-refused _ _ _ (parameters (e .before .before)) (own e) (position-found _ (g .before .before .n .ensures) (g .before .wrong-position .ensures) ∙ g .if3 .left) (c .if4 .taken)
+    let e = g .before .before in
+    symbol-refused _ _ _ (parameters (e .before .before)) (own e) (sym (g .before .wrong-position .ensures) ∙ g .if3 .left) (c .if4 .taken)
 
 returns-5 : tie.Need-returns-5
 returns-5 c =
     let g = c .before .before .before in
-    let e = g .before .before .before in
-    unit-admitted _ _ _ (parameters (e .before .before)) (own e) (position-found _ (g .before .before .n .ensures) (g .before .wrong-position .ensures) ∙ g .if3 .left) (c .if4 .left)
+    let e = g .before .before in
+    unit-admitted _ _ _ (parameters (e .before .before)) (own e) (sym (g .before .wrong-position .ensures) ∙ g .if3 .left) (c .if4 .left)
 
 pub check-unit-spec : {M : Type 1} → statement M
 check-unit-spec =
@@ -63,7 +59,6 @@ check-unit-spec =
     returns
     is-foreign-requires
     returns-2
-    n-requires
     wrong-position-requires
     returns-3
     sub-if4

@@ -10,7 +10,7 @@ use Rattle.ccsds.specs.RefusalTable as refusal
 use Rattle.ccsds.specs.Refusals.{labelConditions, wrongLength, wrongPosition}
 use Rattle.ccsds.specs.Writer.{unitLength, writeRefusal}
 use Rattle.ccsds.proofs.RefusalOrder.{chain, in-order, part-refuses, part-passed, first-is, first-on, first-end}
-use Rattle.ccsds.proofs.Refusals.{label-none, position-found, length-same, length-wrong}
+use Rattle.ccsds.proofs.Refusals.{label-none, length-same, length-wrong}
 use Rattle.ccsds.proofs.UnitLaws.{unit-right}
 use Rattle.ccsds.proofs.writer.check_write.Statement.{statement}
 use Rattle.ccsds.proofs.writer.check_write.Tie as tie
@@ -29,23 +29,19 @@ passed c =
     let a = c .before .before .args in
     part-passed (labelConditions (a .number) (a .w) (a .protocol) (a .lsc)) _ refl refl _ (c .before .check-label .ensures) (c .if1 .left)
 
--- each of the three numbers, as it is found
-output : (c : tie.After-wrong-position) → let a = c .before .before .before .before .before .args in
-    c .before .before .unit-bytes .result ≡ unitLength (codeOf (a .number)) (a .w)
+-- each of the two that are found first, and the tests that they pass
+output : (c : tie.After-wrong-position) → let a = c .before .before .before .before .args in
+    c .before .unit-bytes .result ≡ unitLength (codeOf (a .number)) (a .w)
 output c =
-    let e = c .before .before .before in
+    let e = c .before .before in
     let n = label-none _ _ _ _ (sym (in-order _ refl) ∙ sym (e .before .check-label .ensures) ∙ e .if1 .left) in
-    c .before .before .unit-bytes .ensures ∙ unit-right _ _ (n .0) (n .1)
+    c .before .unit-bytes .ensures ∙ unit-right _ _ (n .0) (n .1)
 
-size : (c : tie.Else2) → let a = c .before .before .before .before .before .before .args in wrongLength (a .outLength) (unitLength (codeOf (a .number)) (a .w)) ≡ false
+size : (c : tie.Else2) → let a = c .before .before .before .before .before .args in wrongLength (a .outLength) (unitLength (codeOf (a .number)) (a .w)) ≡ false
 size c = length-same _ _ (c .if2 .left ∙ output (c .before))
 
-position : (c : tie.After-wrong-position) → let a = c .before .before .before .before .before .args in
-    wrongPosition (nOf (codeOf (a .number))) (a .lwc) ≡ c .wrong-position .result
-position c = position-found _ (c .before .n .ensures) (c .wrong-position .ensures)
-
-placed : (c : tie.Else3) → let a = c .before .before .before .before .before .before .before .args in wrongPosition (nOf (codeOf (a .number))) (a .lwc) ≡ false
-placed c = position (c .before .before) ∙ c .if3 .left
+placed : (c : tie.Else3) → let a = c .before .before .before .before .before .before .args in wrongPosition (nOf (codeOf (a .number))) (a .lwc) ≡ false
+placed c = sym (c .before .before .wrong-position .ensures) ∙ c .if3 .left
 
 check-label-requires : tie.Need-check-label-requires
 check-label-requires c κs = search needs
@@ -59,31 +55,28 @@ returns c =
 unit-bytes-requires : tie.Need-unit-bytes-requires
 unit-bytes-requires c κs = search needs
 
-n-requires : tie.Need-n-requires
-n-requires c κs = search needs
-
 wrong-position-requires : tie.Need-wrong-position-requires
 wrong-position-requires c κs = search needs
 
 returns-2 : tie.Need-returns-2
-returns-2 c = let p = c .before in sym (passed (p .before .before .before) ∙ first-is _ _ _ (length-wrong _ _ (λ e. c .if2 .taken (e ∙ sym (output p)))))
+returns-2 c = let p = c .before in sym (passed (p .before .before) ∙ first-is _ _ _ (length-wrong _ _ (λ e. c .if2 .taken (e ∙ sym (output p)))))
 
 returns-3 : tie.Need-returns-3
 returns-3 c =
     let p = c .before .before in
-    sym (passed (p .before .before .before) ∙ first-on _ _ _ (size (c .before)) ∙ first-is _ _ _ (position p ∙ c .if3 .taken))
+    sym (passed (p .before .before) ∙ first-on _ _ _ (size (c .before)) ∙ first-is _ _ _ (sym (p .wrong-position .ensures) ∙ c .if3 .taken))
 
 returns-4 : tie.Need-returns-4
 returns-4 c =
     let e = c .before in
     let p = e .before .before in
-    sym (passed (p .before .before .before) ∙ first-on _ _ _ (size (e .before)) ∙ first-on _ _ _ (placed e) ∙ first-is _ _ _ (length-wrong _ _ (c .if4 .taken)))
+    sym (passed (p .before .before) ∙ first-on _ _ _ (size (e .before)) ∙ first-on _ _ _ (placed e) ∙ first-is _ _ _ (length-wrong _ _ (c .if4 .taken)))
 
 returns-5 : tie.Need-returns-5
 returns-5 c =
     let e = c .before in
     let p = e .before .before in
-    sym (passed (p .before .before .before) ∙ first-on _ _ _ (size (e .before)) ∙ first-on _ _ _ (placed e) ∙ first-on _ _ _ (length-same _ _ (c .if4 .left)) ∙ first-end)
+    sym (passed (p .before .before) ∙ first-on _ _ _ (size (e .before)) ∙ first-on _ _ _ (placed e) ∙ first-on _ _ _ (length-same _ _ (c .if4 .left)) ∙ first-end)
 
 pub check-write-spec : {M : Type 1} → statement M
 check-write-spec =
@@ -92,7 +85,6 @@ check-write-spec =
     check-label-requires
     returns
     unit-bytes-requires
-    n-requires
     wrong-position-requires
     returns-2
     returns-3

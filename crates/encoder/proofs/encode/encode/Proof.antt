@@ -1,4 +1,4 @@
--- `ccsds::encode::encode` meets its contract.
+-- `encoder::encode::encode` meets its contract.
 -- Assumes nothing.
 use mathlib.Core.Path.{_≡_, _∙_}
 use native.Mathlib.Omega.{arith}

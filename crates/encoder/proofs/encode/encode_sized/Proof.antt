@@ -1,4 +1,4 @@
--- `ccsds::encode::encode_sized` meets its contract: after s turns, s * a parity symbols are there.
+-- `encoder::encode::encode_sized` meets its contract: after s turns, s * a parity symbols are there.
 -- Assumes nothing.
 use mathlib.Core.Path.{_≡_, refl, sym, ap, _∙_}
 use Prim.Native.Nat.{ℕ, _≤_, _*_, _-_}

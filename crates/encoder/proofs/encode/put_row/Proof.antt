@@ -1,4 +1,4 @@
--- `ccsds::encode::put_row` meets its contract.
+-- `encoder::encode::put_row` meets its contract.
 -- Assumes nothing.
 use mathlib.Core.Path.{_≡_, ap}
 use Prim.Native.Nat.{ℕ, _+_, _*_, _<_}

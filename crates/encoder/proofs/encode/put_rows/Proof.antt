@@ -1,4 +1,4 @@
--- `ccsds::encode::put_rows` meets its contract: after r turns, r of the symbols are there.
+-- `encoder::encode::put_rows` meets its contract: after r turns, r of the symbols are there.
 -- Assumes nothing.
 use mathlib.Core.Path.{_≡_, sym, ap, _∙_}
 use Prim.Native.Nat.{ℕ, _≤_, _+_, _*_, _-_}

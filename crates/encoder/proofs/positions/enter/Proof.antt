@@ -1,4 +1,4 @@
--- `ccsds::positions::enter` meets its contract.
+-- `encoder::positions::enter` meets its contract.
 -- Assumes nothing.
 use Prim.Native.Nat.{_%_, _<_}
 use native.Mathlib.Omega.{arith}

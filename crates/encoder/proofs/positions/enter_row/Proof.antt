@@ -1,4 +1,4 @@
--- `ccsds::positions::enter_row` meets its contract: i addresses are entered.
+-- `encoder::positions::enter_row` meets its contract: i addresses are entered.
 -- Assumes nothing.
 use mathlib.Core.Path.{_≡_, refl}
 use mathlib.Core.List.{[]}

@@ -1,4 +1,4 @@
--- `ccsds::positions::further` meets its contract: one subtraction does for the remainder.
+-- `encoder::positions::further` meets its contract: one subtraction does for the remainder.
 -- Assumes nothing.
 use native.Mathlib.Omega.{arith}
 use borrow.Author.Needs.{needs}

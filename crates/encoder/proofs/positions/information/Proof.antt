@@ -1,4 +1,4 @@
--- `ccsds::positions::information` meets its contract: after i turns, i positions stand in the array.
+-- `encoder::positions::information` meets its contract: after i turns, i positions stand in the array.
 -- Assumes nothing.
 use mathlib.Core.Path.{_≡_, sym, ap, _∙_}
 use Prim.Native.Nat.{ℕ, _+_, _-_, _*_, _%_, _<_, _≤_}

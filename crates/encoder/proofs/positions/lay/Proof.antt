@@ -1,4 +1,4 @@
--- `ccsds::positions::lay` meets its contract: the addresses of `row` table rows are entered.
+-- `encoder::positions::lay` meets its contract: the addresses of `row` table rows are entered.
 -- Assumes nothing.
 use mathlib.Core.Path.{_≡_, ap, _∙_}
 use Prim.Native.Nat.{ℕ, _≤_, _-_}

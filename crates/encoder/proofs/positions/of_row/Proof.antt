@@ -1,4 +1,4 @@
--- `ccsds::positions::of_row` meets its contract: the information positions, and then those of the parity symbols.
+-- `encoder::positions::of_row` meets its contract: the information positions, and then those of the parity symbols.
 -- Assumes nothing.
 use mathlib.Core.Path.{_≡_, subst, subst⁻¹}
 use Prim.Native.Nat.{ℕ, _+_, _*_, _/_, _%_, _<_}

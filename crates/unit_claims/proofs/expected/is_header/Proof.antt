@@ -1,4 +1,4 @@
--- `ccsds::expected::is_header` meets its contract: two pairs of bytes say the header.
+-- `unit_claims::expected::is_header` meets its contract: two pairs of bytes say the header.
 -- Assumes nothing.
 use mathlib.Core.Path.{_∙_, sym}
 use mathlib.Core.Bool.{false≢true}

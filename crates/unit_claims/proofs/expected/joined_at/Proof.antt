@@ -1,4 +1,4 @@
--- `ccsds::expected::joined_at` meets its contract.
+-- `unit_claims::expected::joined_at` meets its contract.
 -- Assumes nothing.
 use mathlib.Core.Path.{_≡_}
 use Prim.Native.Nat.{ℕ, _+_}

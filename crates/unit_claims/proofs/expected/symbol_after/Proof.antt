@@ -1,4 +1,4 @@
--- `ccsds::expected::symbol_after` meets its contract, by the two shapes: W in one byte and in two.
+-- `unit_claims::expected::symbol_after` meets its contract, by the two shapes: W in one byte and in two.
 -- Assumes nothing.
 use mathlib.Core.Path.{_∙_, sym}
 use native.Mathlib.Omega.{arith}

@@ -1,4 +1,4 @@
--- `ccsds::copy::copy_1` meets its contract: a store is one byte put.
+-- `wire::copy::copy_1` meets its contract: a store is one byte put.
 -- Assumes nothing.
 use mathlib.Core.Path.{refl}
 use native.Mathlib.Omega.{arith}

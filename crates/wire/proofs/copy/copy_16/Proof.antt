@@ -1,4 +1,4 @@
--- `ccsds::copy::copy_16` meets its contract: what is read is put, one part after the other.
+-- `wire::copy::copy_16` meets its contract: what is read is put, one part after the other.
 -- Assumes nothing.
 use mathlib.Core.Path.{refl}
 use Rattle.wire.proofs.AppendedLaws.{then-part}

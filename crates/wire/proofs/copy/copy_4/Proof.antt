@@ -1,4 +1,4 @@
--- `ccsds::copy::copy_4` meets its contract: what is read is put.
+-- `wire::copy::copy_4` meets its contract: what is read is put.
 -- Assumes nothing.
 use borrow.Author.Needs.{needs}
 use Rattle.wire.proofs.copy.copy_4.Statement.{statement}

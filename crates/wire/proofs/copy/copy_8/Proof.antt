@@ -1,4 +1,4 @@
--- `ccsds::copy::copy_8` meets its contract: what is read is put, one part after the other.
+-- `wire::copy::copy_8` meets its contract: what is read is put, one part after the other.
 -- Assumes nothing.
 use Rattle.wire.proofs.AppendedLaws.{then-part}
 use borrow.Author.Needs.{needs}

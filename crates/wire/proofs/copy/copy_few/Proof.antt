@@ -1,4 +1,4 @@
--- `ccsds::copy::copy_few` meets its contract: the last part reaches back over the first.
+-- `wire::copy::copy_few` meets its contract: the last part reaches back over the first.
 -- Assumes nothing.
 use native.Mathlib.Omega.{arith}
 use Rattle.wire.proofs.AppendedLaws.{copied-first, copied-on, copied-all}

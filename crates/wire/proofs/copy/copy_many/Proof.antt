@@ -1,4 +1,4 @@
--- `ccsds::copy::copy_many` meets its contract: at the loop the first i bytes stand, and after it all but 16 at most.
+-- `wire::copy::copy_many` meets its contract: at the loop the first i bytes stand, and after it all but 16 at most.
 -- Assumes nothing.
 use mathlib.Core.Path.{_∙_}
 use Prim.Native.Nat.{_-_, _≤_}

@@ -1,4 +1,4 @@
--- `ccsds::copy::put_four` meets its contract: four stores, one after the other.
+-- `wire::copy::put_four` meets its contract: four stores, one after the other.
 -- Assumes nothing.
 use mathlib.Core.Path.{refl}
 use Prim.Native.Nat.{_+_}

@@ -1,4 +1,4 @@
--- `ccsds::copy::read_four` meets its contract: four parts of one byte each.
+-- `wire::copy::read_four` meets its contract: four parts of one byte each.
 -- Assumes nothing.
 use mathlib.Core.Path.{_∙_, ap₂}
 use mathlib.Core.List.{List, _++_}

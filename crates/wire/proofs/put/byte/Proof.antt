@@ -1,4 +1,4 @@
--- `ccsds::put::byte` meets its contract: a store is one byte put.
+-- `wire::put::byte` meets its contract: a store is one byte put.
 -- Assumes nothing.
 use mathlib.Core.Path.{refl}
 use Rattle.wire.proofs.AppendedLaws.{append-one}

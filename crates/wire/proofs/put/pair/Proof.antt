@@ -1,4 +1,4 @@
--- `ccsds::put::pair` meets its contract: one byte after the other.
+-- `wire::put::pair` meets its contract: one byte after the other.
 -- Assumes nothing.
 use Rattle.wire.proofs.AppendedLaws.{then-appended}
 use borrow.Author.Needs.{needs}

@@ -1,4 +1,4 @@
--- `ccsds::put::sdnv` meets its contract: two bytes for a number from 128 on, else one.
+-- `wire::put::sdnv` meets its contract: two bytes for a number from 128 on, else one.
 -- Assumes nothing.
 use mathlib.Core.Path.{ap}
 use native.Mathlib.Omega.{arith}

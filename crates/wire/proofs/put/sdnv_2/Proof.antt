@@ -1,4 +1,4 @@
--- `ccsds::put::sdnv_2` meets its contract: the high group, then the low one.
+-- `wire::put::sdnv_2` meets its contract: the high group, then the low one.
 -- Assumes nothing.
 use Rattle.wire.proofs.AppendedLaws.{then-appended}
 use Rattle.wire.proofs.SdnvRound.{in-two}

@@ -1,4 +1,4 @@
--- `ccsds::put::sdnv_bytes` meets its contract: one byte for a number below 128, else two.
+-- `wire::put::sdnv_bytes` meets its contract: one byte for a number below 128, else two.
 -- Assumes nothing.
 use mathlib.Core.Path.{ap, sym}
 use lib.ListN.{length}

@@ -1,4 +1,4 @@
--- `ccsds::sdnv::number_at` meets its contract: what is still to be read says the same as the whole; the measure is how many bytes more
+-- `wire::sdnv::number_at` meets its contract: what is still to be read says the same as the whole; the measure is how many bytes more
 -- may come.
 -- Assumes nothing.
 use mathlib.Core.Path.{_≡_, _∙_, sym, ap}
