@@ -1,4 +1,4 @@
-//! Packed equations and elimination in plain Rust: the steps of `rows`.
+//! Packed equations and elimination in plain Rust: the steps of `elimination`.
 const CLOSED: u16 = 65535;
 
 /// Counts row additions, or doesn't.
@@ -174,13 +174,7 @@ fn push<T: Tally>(system: &mut System, hints: &mut [u16], open: &mut Open, r: us
     }
 }
 
-/// The lowest position of the row's last word that is not 0.
-fn latest(row: &[u64]) -> Option<usize> {
-    let i = row.iter().rposition(|&word| word != 0)?;
-    Some(i * 64 + row[i].trailing_zeros() as usize)
-}
-
-/// The first part of elimination. Answers how many turns it took; `order` has each turn's row and position.
+/// The forward pass. Answers how many turns it took; `order` has each turn's row and position.
 fn prepare<T: Tally>(system: &mut System, order: &mut [(u16, u16)], m: usize, tally: &mut T) -> usize {
     let mut hints = [0; 1024];
     let hints = &mut hints[..m];
@@ -194,7 +188,7 @@ fn prepare<T: Tally>(system: &mut System, order: &mut [(u16, u16)], m: usize, ta
         };
         from = r;
         enough = hints[r];
-        *place = match latest(system.row(r)) {
+        *place = match lowest(system.row(r)) {
             Some(p) => {
                 push(system, hints, &mut open, r, p, tally);
                 (r as u16, p as u16)
