@@ -13,23 +13,27 @@ use Rattle.algebra.specs.Sums.{pick}
 use Rattle.algebra.specs.Codeword.{Checks, byteAt}
 use Rattle.algebra.specs.Staircase.{staircase}
 use Rattle.peeling.specs.States.{isKnown}
-use Rattle.ccsds.specs.Codes.{nOf, checksOf}
+use Rattle.ccsds.specs.Codes.{nOf}
 use Rattle.ccsds.specs.Tables.{codeOf, Known}
 use Rattle.ccsds.proofs.Valid.{valid-of}
 use Rattle.algebra.specs.Unique.{Some, Common}
 use Rattle.decoder.specs.Outcome.{AgreesWith}
 use Rattle.elimination.specs.Consistency.{Consistent, ConsistentIs}
-use Rattle.peeling.specs.Plan.{free, Plan, Closed, Unsolved}
-use Rattle.peeling.specs.Values.{Values, HoldIs}
-use Rattle.decoder.specs.Pivots.{AllSolvedIs, DeterminedIs}
-use Rattle.pivot_equations.specs.Express.{StepsExpressed, SameFrom}
-use Rattle.decoder.specs.Equations.{behind, Equations, PutIn, Room}
-use Rattle.decoder.specs.MissingPositions.{missing, Cleared, FilledMissing, FilledDetermined, Settles, Hangs}
+use Rattle.elimination.specs.Reduced.{pivotWord}
+use Rattle.peeling.specs.Table.{checks}
+use Rattle.peeling.specs.Plan.{free, pivotOf, Plan, Unsolved}
+use Rattle.peeling.specs.Values.{Peeled, HoldIs, StepsHold}
+use Rattle.peeling.specs.declared.peel.Shape.{Shape}
+use Rattle.decoder.specs.Pivots.{Put, AllSolvedIs, DeterminedIs, Readable}
+use Rattle.pivot_equations.specs.Express.{Planned, Room, Places, StepsExpressed, SameFrom}
+use Rattle.pivot_equations.specs.declared.express.Rows.{Rows}
+use Rattle.decoder.specs.Equations.{behind, RowsRoom, Solvable, PutIn}
+use Rattle.decoder.specs.MissingPositions.{missing, Cleared, FilledMissing, FillRoom, FilledDetermined, Settles, Hangs}
 use Rattle.decoder.specs.Outcome.{Stays, Fills, Leaves, Differs, Outcome}
 use Rattle.decoder.proofs.Wholly.{wholly-common, wholly-agrees, wholly-refuted}
 use Rattle.decoder.proofs.Behind.{behind-at, behind-bit}
-use Rattle.decoder.proofs.ReadOff.{Setting, Behind, refuted, all-common, confirmed}
-use Rattle.decoder.proofs.InCommon.{determined, undetermined}
+use Rattle.decoder.proofs.ReadOff.{Setting, Behind, refuted, behind-below, plan-put, early-holds, places, all-common, confirmed}
+use Rattle.decoder.proofs.InCommon.{reads, reads-here, determined, undetermined}
 
 known-state : (states : List ℕ) (i : ℕ) → isKnown states i ≡ true → getD states i 0 ≡ 1
 unfolding isKnown
@@ -74,9 +78,15 @@ module _ (c : Checks) (w : ℕ) (block y states : List ℕ) (same : (p b : ℕ) 
         go i (inl F) = inl (record { state = F .state; bytes = F .bytes; common = common i (F .common) })
         go i (inr (L, D)) = inr (L, (D .0, (to (D .1 .0), D .1 .1)))
 
--- the symbols along a plan are a block's of their own
-pub values-here : {c : Checks} {w : ℕ} {block states plan y : List ℕ} {steps pivots : ℕ} → Values c w block states plan y steps pivots → Values c w y states plan y steps pivots
-values-here L = record { size = L .size; known-byte = λ p b h k e. refl; pivot-byte = L .pivot-byte; holds = L .holds }
+-- what peeling leaves is the same for the symbols that it leaves
+pub peeled-here : {c : Checks} {w : ℕ} {block states plan y : List ℕ} {early steps pivots : ℕ} → Peeled c w block states plan y early steps pivots → Peeled c w y states plan y early steps pivots
+peeled-here L = record {
+  made = L .made;
+  closed = L .closed;
+  unsolved = L .unsolved;
+  values = record { size = L .values .size; known-byte = λ p b h k e. refl; pivot-byte = L .values .pivot-byte; holds = L .values .holds };
+  begun = L .begun;
+}
 
 -- ---- the cases
 
@@ -136,100 +146,146 @@ module _ (c : Checks) (w : ℕ) (y states s′ m′ : List ℕ) (sy : length y �
 
 -- ---- without pivots
 
-module _ {c : Checks} {w : ℕ} {states plan y : List ℕ} {early steps pivots : ℕ} (none : pivots ≡ 0) (P : Plan c states plan early steps pivots) (closed : Closed c plan)
-    (Y : Values c w y states plan y steps pivots) (sm : length states ≡ c .n) where
+module _ {c : Checks} {w : ℕ} {states plan y : List ℕ} {early steps pivots : ℕ} (none : pivots ≡ 0) (L : Peeled c w y states plan y early steps pivots) (sm : length states ≡ c .n) where
   pub by-steps-no : (r : Bool) → HoldIs c w plan y r → r ≡ false → (s′ m′ : List ℕ) → Cleared w y states s′ m′ (length states) → length s′ ≡ length y → length m′ ≡ length states → Outcome c w y states s′ m′ false
   by-steps-no r H e s′ m′ C es em =
-      outcome-no c w y states s′ m′ (Y .size) sm (wholly-refuted c w y states plan y early steps pivots none P closed Y (subst (HoldIs c w plan y) e H)) C es em
+      outcome-no c w y states s′ m′ (L .values .size) sm
+      (wholly-refuted c w y states plan y early steps pivots none (L .made) (L .closed) (L .values) (subst (HoldIs c w plan y) e H)) C es em
 
   pub by-steps-yes : (r : Bool) → HoldIs c w plan y r → r ≡ true → ((t : ℕ) → getD y t 0 < 256) → (m′ : List ℕ) → FilledMissing states m′ → Outcome c w y states y m′ true
   by-steps-yes r H e bytes m′ F =
-      outcome-all c w y states m′ m′ (Y .size) sm y (wholly-agrees c w y states plan y early steps pivots none P closed Y bytes (subst (HoldIs c w plan y) e H))
-      (wholly-common c w y states plan y early steps pivots none P closed Y) (Y .size) F
+      outcome-all c w y states m′ m′ (L .values .size) sm y
+      (wholly-agrees c w y states plan y early steps pivots none (L .made) (L .closed) (L .values) bytes (subst (HoldIs c w plan y) e H))
+      (wholly-common c w y states plan y early steps pivots none (L .made) (L .closed) (L .values)) (L .values .size) F
 
--- ---- with pivots
+-- ---- with pivots: where the rows stand
 
--- the rows' places, by the plan alone
-module _ {c : Checks} {states plan : List ℕ} {early steps pivots : ℕ} (P : Plan c states plan early steps pivots) where
-  steps-below : steps ≤ c .m
-  steps-below = omega (arith, P .steps-free)
+-- words for all pivots, within those that the caller lends
+pub room-of : (s : Shape) → Known (s .number) → {states plan : List ℕ} {early steps pivots size : ℕ} → Plan (checks s) states plan early steps pivots
+    → size ≡ checks s .m * (checks s .n / 64 + 1) → (rest : ℕ)
+    → Room (checks s) (record { early = early; steps = steps; rest = rest; pivots = pivots; packed = (pivots + 63) / 64 }) size
+unfolding staircase
+room-of s k {pivots = pivots} {size = size} P e rest =
+    let v = valid-of (s .number) k in
+    let n : nOf (codeOf (s .number)) ≡ 64 * (nOf (codeOf (s .number)) / 64) = sym (v .packed) in
+    let p : pivots ≤ nOf (codeOf (s .number)) = P .pivots-few in
+    let f : (pivots + 63) / 64 ≤ nOf (codeOf (s .number)) / 64 = omega arith in
+    let h : (pivots + 63) / 64 + 1 ≤ nOf (codeOf (s .number)) / 64 + 1 = omega arith in
+    record {
+      few = omega (arith, v .few);
+      fit = subst (λ (t : ℕ). codeOf (s .number) .m * ((pivots + 63) / 64 + 1) ≤ t) (sym e) (mul-le-mul-left (codeOf (s .number) .m) h);
+      enough = omega arith;
+    }
 
-  -- where the rows behind the steps begin
-  pub from-room : {words size : ℕ} → words ≤ 48 → c .m * (words + 1) ≤ size → (steps * (words + 1) ≤ 50176) × (steps * (words + 1) ≤ size)
-  from-room {words} {size} few fit =
-      let a : steps * (words + 1) ≤ 1024 * (words + 1) = mul-le-mul-right (words + 1) (omega (arith, steps-below, P .rows)) in
-      let b : steps * (words + 1) ≤ c .m * (words + 1) = mul-le-mul-right (words + 1) steps-below in
-      (omega arith, omega arith)
+pub room-at : {c : Checks} {r : Rows} {size size′ : ℕ} → size′ ≡ size → Room c r size → Room c r size′
+room-at e R = record { few = R .few; fit = omega (arith, R .fit); enough = R .enough }
 
-  module _ {rest : ℕ} (count : rest ≡ free plan (c .m)) where
-    -- the steps' rows and those behind them are all
-    pub free-rows : steps + rest ≡ c .m
-    free-rows = omega (arith, P .steps-free)
+pub rows-room : {c : Checks} {w size bytes : ℕ} {r : Rows} → c .m ≤ 1024 → r .steps + r .rest ≡ c .m → Room c r size → bytes ≡ c .m * w → RowsRoom r w size bytes
+rows-room {c} {w} {size} {bytes} {r} few all room e =
+    let f : (r .steps + r .rest) * (r .packed + 1) ≤ size = subst (λ (k : ℕ). k * (r .packed + 1) ≤ size) (sym all) (room .fit) in
+    let h : r .rest * w ≤ c .m * w = mul-le-mul-right w (omega arith) in
+    record { few = room .few; count = omega arith; fit = omega (arith, add-mul (r .steps) (r .rest) (r .packed + 1)); sides = omega arith }
 
-    pub rest-fits : (words : ℕ) {size : ℕ} → c .m * (words + 1) ≤ size → steps * (words + 1) + rest * (words + 1) ≤ size
-    rest-fits words {size} f = subst (λ (k : ℕ). k ≤ size) (ap (λ (m : ℕ). m * (words + 1)) (sym free-rows) ∙ add-mul steps rest (words + 1)) f
+-- ---- with pivots: what each function asks, and the outcome
 
-    pub rest-bytes : (w : ℕ) {bytes : ℕ} → bytes ≡ c .m * w → rest * w ≤ bytes
-    rest-bytes w {bytes} e =
-        let h : rest * w ≤ c .m * w = mul-le-mul-right w (omega (arith, free-rows)) in
-        omega arith
-
-module _ {c : Checks} {w : ℕ} {states plan y : List ℕ} {words early steps pivots rest : ℕ} {l d : List ℕ} (P : Plan c states plan early steps pivots) (closed : Closed c plan)
-    (U : Unsolved plan pivots) (Y : Values c w y states plan y steps pivots) (E : Equations c w plan y words early steps rest l d) (room : pivots ≤ 64 * words) (some : 0 < w) where
-  pub setting : Setting c w y states plan y (E .rows) (behind words steps (E .rows)) (E .sides) (behind words steps l) d words early steps pivots rest
-  setting = record {
-    made = P;
-    closed = closed;
-    unsolved = U;
-    values = Y;
-    step-rows = E .step-rows;
-    system = record { count = E .count; bits = λ j i h u g. ap (λ (b : Bool). pick b 1) (behind-bit (E .rows) words steps (free plan j) i) ∙ E .rest-rows j i h u g; sides = E .sums };
-    room = room;
-    same = E .same;
-    reduced = E .reduced;
-    some = some;
-  }
+module _ {c : Checks} {w : ℕ} {states plan y : List ℕ} {r : Rows} {l d : List ℕ} (G : Solvable c w states plan y r l d) where
+  setting : Setting c w y states plan y (G .equations .rows) (behind (r .packed) (r .steps) (G .equations .rows)) (G .equations .sides) (behind (r .packed) (r .steps) l) d
+      (r .packed) (r .early) (r .steps) (r .pivots) (r .rest)
+  setting =
+      let E = G .equations in
+      record {
+        made = G .peeled .made;
+        closed = G .peeled .closed;
+        unsolved = G .peeled .unsolved;
+        values = G .peeled .values;
+        step-rows = E .step-rows;
+        system =
+            record {
+              count = E .count;
+              bits = λ j i h u g. ap (λ (b : Bool). pick b 1) (behind-bit (E .rows) (r .packed) (r .steps) (free plan j) i) ∙ E .rest-rows j i h u g;
+              sides = E .sums;
+            };
+        room = G .room .enough;
+        same = E .same;
+        reduced = E .reduced;
+        some = G .some;
+      }
 
   -- the reduced rows stand behind the steps
-  pub back : Behind (behind words steps l) l words steps rest
-  back = record { rows = λ i k h g. sym (behind-at l words steps i k) }
+  back : Behind (behind (r .packed) (r .steps) l) l (r .packed) (r .steps) (r .rest)
+  back = record { rows = λ i k h g. sym (behind-at l (r .packed) (r .steps) i k) }
+
+  all-rows : r .steps + r .rest ≡ c .m
+  all-rows = omega (arith, G .peeled .made .steps-free, G .equations .count)
+
+  pub put-asks : (Planned c plan r × Unsolved plan (r .pivots))
+      × (((r .packed ≤ 48) × ((r .steps + r .rest ≤ 1024) × ((r .steps + r .rest) * (r .packed + 1) ≤ length l)))
+      × (((length y ≡ c .n * w) × (r .rest * w ≤ length d)) × ((i : ℕ) → i < r .rest → pivotWord l (r .packed) (r .steps + i) ≤ r .pivots)))
+  put-asks =
+      let L = G .peeled in
+      let R = rows-room {w = w} {r = r} (L .made .rows) all-rows (G .room) (G .sides) in (
+        (record { states = states; made = L .made; closed = L .closed }, L .unsolved),
+        (
+          (R .few, (omega (arith, all-rows, L .made .rows), omega (arith, R .fit, add-mul (r .steps) (r .rest) (r .packed + 1)))),
+          ((L .values .size, R .sides), behind-below setting back),
+        ),
+      )
+
+  module _ {plan′ between : List ℕ} (Q : Put c w (r .packed) (r .steps) (r .rest) (r .pivots) l d plan y plan′ between) where
+    planned : Planned c plan′ r
+    planned = record { states = states; made = plan-put setting back Q .0; closed = plan-put setting back Q .1 }
+
+    pub again-asks : Planned c plan′ r × ((length between ≡ c .n * w) × StepsHold c w plan′ between (r .early))
+    again-asks = (planned, (Q .symbols-size ∙ G .peeled .values .size, early-holds setting back Q))
 
   module _ (sm : length states ≡ c .n) where
     -- no codeword agrees
-    pub by-rows-no : (r : Bool) → ConsistentIs (behind words steps l) d rest words w r → r ≡ false → (s′ m′ : List ℕ) → Cleared w y states s′ m′ (length states) → length s′ ≡ length y → length m′ ≡ length states
-        → Outcome c w y states s′ m′ false
-    by-rows-no r A e s′ m′ C es em =
-        outcome-no c w y states s′ m′ (Y .size) sm (refuted setting (subst (ConsistentIs (behind words steps l) d rest words w) e A)) C es em
+    pub by-rows-no : (h : Bool) → ConsistentIs (behind (r .packed) (r .steps) l) d (r .rest) (r .packed) w h → h ≡ false → (s′ m′ : List ℕ) → Cleared w y states s′ m′ (length states)
+        → length s′ ≡ length y → length m′ ≡ length states → Outcome c w y states s′ m′ false
+    by-rows-no h A e s′ m′ C es em =
+        outcome-no c w y states s′ m′ (G .peeled .values .size) sm (refuted setting (subst (ConsistentIs (behind (r .packed) (r .steps) l) d (r .rest) (r .packed) w) e A)) C es em
 
-    module _ (K : Consistent (behind words steps l) d rest words w) (plan′ x : List ℕ) (I : PutIn c w words early steps rest pivots l d plan y plan′ x)
-        (bytes : (t : ℕ) → getD x t 0 < 256) where
-      agrees : AgreesWith c w y states x
-      agrees = confirmed setting back (I .put) (I .again) bytes K
+    module _ {plan′ x : List ℕ} (I : PutIn c w (r .packed) (r .early) (r .steps) (r .rest) (r .pivots) l d plan y plan′ x) where
+      pub solved-asks : ((r .pivots ≤ 3072) × (length plan′ ≡ 9216)) × ((u : ℕ) → u < r .pivots → pivotOf plan′ u < 3072)
+      solved-asks =
+          let p = plan-put setting back (I .put) .0 in
+          ((omega (arith, p .pivots-few, p .positions), p .size), λ u h. omega (arith, p .pivot u h .position, p .positions))
 
-      -- every pivot is solved
-      pub by-rows-all : (r : Bool) → AllSolvedIs plan′ pivots r → r ≡ true → (m′ : List ℕ) → FilledMissing states m′ → Outcome c w y states x m′ true
-      by-rows-all r A e m′ F =
-          outcome-all c w y states m′ m′ (Y .size) sm x agrees (all-common setting back (I .put) (subst (AllSolvedIs plan′ pivots) e A)) (agrees .size) F
+      pub steps-asks : Planned c plan′ r × (Room c r (length l) × Places c plan′ l (r .packed) (r .steps) (c .m))
+      steps-asks = (planned (I .put), (G .room, places setting back (I .put)))
 
-      -- some are free: l″ says what hangs on them
-      pub by-rows-some : (l″ : List ℕ) → StepsExpressed c plan′ l″ words early steps → SameFrom l l″ words steps → (s′ m′ : List ℕ)
-          → FilledDetermined w early words l″ plan′ x states s′ m′ → Outcome c w y states s′ m′ true
-      by-rows-some l″ X F s′ m′ D =
-          outcome-some c w y states s′ m′ (Y .size) sm x agrees words early l″ plan′ (agrees .size)
-          (λ p h e. determined setting back (I .put) (I .again) X F p h) (λ p h e. undetermined setting back (I .put) (I .again) X F bytes K p h) D
+      module _ {l″ : List ℕ} (X : StepsExpressed c plan′ l″ (r .packed) (r .early) (r .steps)) (F : SameFrom l l″ (r .packed) (r .steps)) where
+        pub fill-asks : FillRoom (r .packed) (r .steps + r .rest) (length plan′) (length l″) (length states)
+            × ((length x ≡ length states * w) × ((p : ℕ) → p < length states → isKnown states p ≡ false → Readable l″ plan′ (r .packed) (r .early) (r .steps + r .rest) p))
+        fill-asks =
+            let p = plan-put setting back (I .put) .0 in (
+              record {
+                few = G .room .few;
+                fit = subst (λ (k : ℕ). k * (r .packed + 1) ≤ length l″) (sym all-rows) (omega (arith, G .room .fit, F .size));
+                plan-size = p .size;
+                positions = omega (arith, sm, p .positions);
+              },
+              (
+                I .again .size ∙ I .put .symbols-size ∙ G .peeled .values .size ∙ ap (λ (n : ℕ). n * w) (sym sm),
+                λ q h e.
+                    let k : q < c .n = subst (λ (n : ℕ). q < n) sm h in
+                    subst (λ (n : ℕ). Readable l″ plan′ (r .packed) (r .early) n q) (sym all-rows)
+                    (record { reads = reads setting back (I .put) (I .again) X F q k; here = reads-here setting back (I .put) (I .again) X F q k }),
+              ),
+            )
 
--- a row of words for all pivots, within the words that the caller lends
-pub room-of : (number : ℕ) → Known number → {states plan : List ℕ} {early steps pivots size : ℕ} → Plan (checksOf (codeOf number)) states plan early steps pivots
-    → size ≡ checksOf (codeOf number) .m * (checksOf (codeOf number) .n / 64 + 1) → Room (checksOf (codeOf number)) ((pivots + 63) / 64) pivots size
-unfolding staircase
-room-of number k {pivots = pivots} {size = size} P e =
-    let v = valid-of number k in
-    let n : nOf (codeOf number) ≡ 64 * (nOf (codeOf number) / 64) = sym (v .packed) in
-    let p : pivots ≤ nOf (codeOf number) = P .pivots-few in
-    let f : (pivots + 63) / 64 ≤ nOf (codeOf number) / 64 = omega arith in
-    let h : (pivots + 63) / 64 + 1 ≤ nOf (codeOf number) / 64 + 1 = omega arith in
-    record {
-      few = omega (arith, v .few);
-      fit = subst (λ (t : ℕ). codeOf number .m * ((pivots + 63) / 64 + 1) ≤ t) (sym e) (mul-le-mul-left (codeOf number .m) h);
-      enough = omega arith;
-    }
+      module _ (K : Consistent (behind (r .packed) (r .steps) l) d (r .rest) (r .packed) w) (bytes : (t : ℕ) → getD x t 0 < 256) where
+        agrees : AgreesWith c w y states x
+        agrees = confirmed setting back (I .put) (I .again) bytes K
+
+        -- every pivot is solved
+        pub by-rows-all : (h : Bool) → AllSolvedIs plan′ (r .pivots) h → h ≡ true → (m′ : List ℕ) → FilledMissing states m′ → Outcome c w y states x m′ true
+        by-rows-all h A e m′ F =
+            outcome-all c w y states m′ m′ (G .peeled .values .size) sm x agrees (all-common setting back (I .put) (subst (AllSolvedIs plan′ (r .pivots)) e A)) (agrees .size) F
+
+        -- some are free: l″ says what hangs on them
+        pub by-rows-some : {l″ : List ℕ} → StepsExpressed c plan′ l″ (r .packed) (r .early) (r .steps) → SameFrom l l″ (r .packed) (r .steps) → (s′ m′ : List ℕ)
+            → FilledDetermined w (r .early) (r .packed) l″ plan′ x states s′ m′ → Outcome c w y states s′ m′ true
+        by-rows-some {l″} X F s′ m′ D =
+            outcome-some c w y states s′ m′ (G .peeled .values .size) sm x agrees (r .packed) (r .early) l″ plan′ (agrees .size)
+            (λ p h e. determined setting back (I .put) (I .again) X F p h) (λ p h e. undetermined setting back (I .put) (I .again) X F bytes K p h) D

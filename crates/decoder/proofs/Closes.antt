@@ -73,7 +73,7 @@ module _ (c : Checks) (w : ℕ) (s states : List ℕ) where
       same-verdict v₁ refl,
       ext-byteAt (c .n) w s₁ s₂ pos (P .length-bytes) (Q .length-bytes) (λ i b h l. same-byte i b h l (isKnown states i) refl),
       ext-getD 0 states₁ states₂ (P .length-states ∙ sym (Q .length-states))
-      (λ i h. same-state i (subst (λ (u : ℕ). i < u) (P .length-states) h) (isKnown states i) refl),
+          (λ i h. same-state i (subst (λ (u : ℕ). i < u) (P .length-states) h) (isKnown states i) refl),
     )
 
 -- ---- the outcome by `agreeing`

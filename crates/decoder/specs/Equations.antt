@@ -3,13 +3,14 @@
 use mathlib.Core.Path.{_≡_}
 use mathlib.Core.List.{List}
 use Prim.Native.Nat.{ℕ, _+_, _*_, _<_, _≤_}
-use lib.ListN.{drop}
+use lib.ListN.{length, drop}
 use Rattle.algebra.specs.Codeword.{Checks}
 use Rattle.elimination.specs.System.{SameSolutions}
 use Rattle.elimination.specs.Reduced.{Reduced}
 use Rattle.peeling.specs.Plan.{free}
-use Rattle.peeling.specs.Values.{Sides, Again}
-use Rattle.pivot_equations.specs.Express.{StepsExpressed, RestExpressed}
+use Rattle.peeling.specs.Values.{Sides, Again, Peeled}
+use Rattle.pivot_equations.specs.Express.{StepsExpressed, RestExpressed, Room}
+use Rattle.pivot_equations.specs.declared.express.Rows.{Rows}
 use Rattle.decoder.specs.Pivots.{Put}
 
 -- where the rows of the check rows that no step used begin
@@ -33,8 +34,17 @@ pub record PutIn (c : Checks) (w words early steps rest pivots : ℕ) (l d plan 
   pub put : Put c w words steps rest pivots l d plan symbols plan′ between
   pub again : Again c w plan′ between symbols′ early steps
 
--- rows of words + 1 words for all check rows fit into so many words, and a row has room for each pivot
-pub record Room (c : Checks) (words pivots size : ℕ) : Type 0 where
-  pub few : words ≤ 48
-  pub fit : c .m * (words + 1) ≤ size
-  pub enough : pivots ≤ 64 * words
+-- the rows and their right-hand sides are within words and bytes of these lengths
+pub record RowsRoom (r : Rows) (w words bytes : ℕ) : Type 0 where
+  pub few : r .packed ≤ 48
+  pub count : r .rest ≤ 1024
+  pub fit : r .steps * (r .packed + 1) + r .rest * (r .packed + 1) ≤ words
+  pub sides : r .rest * w ≤ bytes
+
+-- what peeling leaves of a block, and the equations of its pivots
+pub record Solvable (c : Checks) (w : ℕ) (states plan symbols : List ℕ) (r : Rows) (l d : List ℕ) : Type 0 where
+  pub peeled : Peeled c w symbols states plan symbols (r .early) (r .steps) (r .pivots)
+  pub equations : Equations c w plan symbols (r .packed) (r .early) (r .steps) (r .rest) l d
+  pub room : Room c r (length l)
+  pub sides : length d ≡ c .m * w
+  pub some : 0 < w

@@ -3,6 +3,7 @@ use crate::pivots;
 use peeling::states::DETERMINED;
 use peeling::states::KNOWN;
 use peeling::states::LEFT;
+use pivot_equations::express::Rows;
 ghost use mathlib.Core.Path.{_≡_};
 ghost use mathlib.Core.Bool.{cond, false};
 ghost use Prim.Native.Nat.{ℕ, _+_, _*_, _<_, _≤_};
@@ -63,24 +64,22 @@ pub fn fill_missing(states: &mut [u8])
 // Where position p is not known, it gets state 2 if it hangs on no free pivot, and else zero bytes and state 0.
 fn fill_at(
     w: usize,
-    early: usize,
-    packed: usize,
-    rows: usize,
+    r: Rows,
     p: usize,
     plan: &[u16],
     words: &[u64],
     symbols: &mut [u8],
     states: &mut [u8],
 )
-    requires { ⌜ FillRoom packed rows (length (now plan)) (length (now words)) (length (now states)) ⌝ }
+    requires { ⌜ FillRoom (r .packed) (r .steps + r .rest) (length (now plan)) (length (now words)) (length (now states)) ⌝ }
     requires { ⌜ (p < length (now states)) × (length (now symbols) ≡ length (now states) * w) ⌝ }
-    requires { ⌜ (isKnown (now states) p ≡ false → Readable (now words) (now plan) packed early rows p) ⌝ }
-    ensures { λ _. ⌜ FilledOne w early packed (now (words .entry)) (now (plan .entry)) (now (symbols .entry)) (now (states .entry)) (now (symbols .exit)) (now (states .exit)) p ⌝ }
+    requires { ⌜ (isKnown (now states) p ≡ false → Readable (now words) (now plan) (r .packed) (r .early) (r .steps + r .rest) p) ⌝ }
+    ensures { λ _. ⌜ FilledOne w (r .early) (r .packed) (now (words .entry)) (now (plan .entry)) (now (symbols .entry)) (now (states .entry)) (now (symbols .exit)) (now (states .exit)) p ⌝ }
 {
     if states[p] == KNOWN {
         return;
     }
-    if pivots::determined(early, packed, rows, p, plan, words) {
+    if pivots::determined(r, p, plan, words) {
         states[p] = DETERMINED;
         return;
     }
@@ -90,22 +89,20 @@ fn fill_at(
 // The same at every position.
 pub fn fill_determined(
     w: usize,
-    early: usize,
-    packed: usize,
-    rows: usize,
+    r: Rows,
     plan: &[u16],
     words: &[u64],
     symbols: &mut [u8],
     states: &mut [u8],
 )
-    requires { ⌜ FillRoom packed rows (length (now plan)) (length (now words)) (length (now states)) ⌝ }
+    requires { ⌜ FillRoom (r .packed) (r .steps + r .rest) (length (now plan)) (length (now words)) (length (now states)) ⌝ }
     requires { ⌜ length (now symbols) ≡ length (now states) * w ⌝ }
-    requires { ⌜ ((p : ℕ) → p < length (now states) → isKnown (now states) p ≡ false → Readable (now words) (now plan) packed early rows p) ⌝ }
-    ensures { λ _. ⌜ FilledDetermined w early packed (now (words .entry)) (now (plan .entry)) (now (symbols .entry)) (now (states .entry)) (now (symbols .exit)) (now (states .exit)) ⌝ }
+    requires { ⌜ ((p : ℕ) → p < length (now states) → isKnown (now states) p ≡ false → Readable (now words) (now plan) (r .packed) (r .early) (r .steps + r .rest) p) ⌝ }
+    ensures { λ _. ⌜ FilledDetermined w (r .early) (r .packed) (now (words .entry)) (now (plan .entry)) (now (symbols .entry)) (now (states .entry)) (now (symbols .exit)) (now (states .exit)) ⌝ }
 {
     let mut i = 0;
     while i < states.len() {
-        fill_at(w, early, packed, rows, i, plan, words, symbols, states);
+        fill_at(w, r, i, plan, words, symbols, states);
         i += 1;
     }
 }

@@ -15,7 +15,8 @@ use Rattle.encoder.specs.inner.Positions.{RowOf}
 use Rattle.ccsds.specs.inner.Layout.{LayoutOf}
 use Rattle.ccsds.specs.declared.tables.Layout.{Layout}
 use Rattle.ccsds.proofs.Valid.{valid-of, few-of}
-use Rattle.peeling.specs.Table.{Table}
+use Rattle.peeling.specs.Table.{checks, Table}
+use Rattle.peeling.specs.declared.peel.Shape.{Shape}
 
 -- its check rows are its parameter m
 pub row-count : (number : ℕ) → checksOf (codeOf number) .m ≡ codeOf number .m
@@ -31,15 +32,15 @@ pub symbols-of : (number : ℕ) (l : Layout) → LayoutOf (codeOf number) l → 
 unfolding staircase
 symbols-of number l g = omega (arith, g .k, g .m)
 
-module _ {number : ℕ} {l : Layout} {firsts ends classes : List ℕ} (t : Table number l firsts ends classes) where
-  pub few-rows : checksOf (codeOf number) .m ≤ 1024
-  few-rows = omega (arith, row-count number, valid-of number (t .known) .few-rows)
+module _ {s : Shape} {firsts ends classes : List ℕ} (t : Table s firsts ends classes) where
+  pub few-rows : checks s .m ≤ 1024
+  few-rows = omega (arith, row-count (s .number), valid-of (s .number) (t .known) .few-rows)
 
-  pub row-known : (j : ℕ) → j < checksOf (codeOf number) .m → j < codeOf number .m
-  row-known j h = omega (arith, row-count number)
+  pub row-known : (j : ℕ) → j < checks s .m → j < codeOf (s .number) .m
+  row-known j h = omega (arith, row-count (s .number))
 
-  pub layout-rows : l .m ≡ checksOf (codeOf number) .m
-  layout-rows = omega (arith, t .given .m, row-count number)
+  pub layout-rows : s .layout .m ≡ checks s .m
+  layout-rows = omega (arith, t .given .m, row-count (s .number))
 
 -- a row's positions lie within the symbols
 pub row-inside : {c : Checks} {j n w bytes : ℕ} {xs : List ℕ} → RowOf c j n xs → bytes ≡ c .n * w → Inside xs n w bytes

@@ -27,47 +27,6 @@ use Rattle.peeling.proofs.UnusedRows.{free-all, free-same, free-settled
 use Rattle.peeling.proofs.RowRest.{sum-rest, rest-inside, rest-ne, row-has}
 use Rattle.peeling.proofs.SymbolLaws.{replaced-other}
 
--- ---- two parts of a peeling
-
-module _ {c : Checks} {w : ℕ} {b₁ states plan symbols : List ℕ} {g : Progress} (S : State c w b₁ states plan symbols g) where
-  -- from the symbols as they are
-  pub state-here : State c w symbols states plan symbols g
-  state-here =
-      record {
-        made = S .made;
-        unsolved = S .unsolved;
-        values =
-            record {
-              size = S .values .size;
-              known-byte = λ p b hp hb h. refl;
-              pivot-byte = S .values .pivot-byte;
-              holds = S .values .holds;
-            };
-        begun = S .begun;
-        cursor-below = S .cursor-below;
-        pivots-below = S .pivots-below;
-        closed = S .closed;
-      }
-
-  -- one after the other
-  pub state-then : {plan′ symbols′ : List ℕ} {h : Progress} → State c w symbols states plan′ symbols′ h → State c w b₁ states plan′ symbols′ h
-  state-then T =
-      record {
-        made = T .made;
-        unsolved = T .unsolved;
-        values =
-            record {
-              size = T .values .size;
-              known-byte = λ p b hp hb h. T .values .known-byte p b hp hb h ∙ S .values .known-byte p b hp hb h;
-              pivot-byte = T .values .pivot-byte;
-              holds = T .values .holds;
-            };
-        begun = T .begun;
-        cursor-below = T .cursor-below;
-        pivots-below = T .pivots-below;
-        closed = T .closed;
-      }
-
 -- ---- one open position x is closed
 
 -- what closing x leaves as it was

@@ -40,6 +40,17 @@ pub record State (c : Checks) (w : ℕ) (block states plan symbols : List ℕ) (
   pub pivots-below : g .pivots ≤ g .cursor
   pub closed : (p : ℕ) → p < g .cursor → kindOf plan p ≢ 65535
 
--- what is left to do: it falls with each turn
+-- so far for some block and some states
+pub record Reached (c : Checks) (w : ℕ) (plan symbols : List ℕ) (g : Progress) : Type 0 where
+  pub block : List ℕ
+  pub states : List ℕ
+  pub state : State c w block states plan symbols g
+
+-- what is left to do
 abbrev pub left : ℕ → Progress → ℕ
 left n g = g .fuel + (n - g .cursor)
+
+-- and one turn further: less is left to do
+pub record Continued (c : Checks) (w : ℕ) (plan symbols : List ℕ) (g : Progress) (plan′ symbols′ : List ℕ) (h : Progress) : Type 0 where
+  pub state : (block states : List ℕ) → State c w block states plan symbols g → State c w block states plan′ symbols′ h
+  pub less : left (c .n) h < left (c .n) g

@@ -9,7 +9,7 @@ use lib.ListN.{length, getD}
 use Rattle.algebra.specs.Sums.{sum}
 use Rattle.algebra.specs.Codeword.{Checks, byteAt}
 use Rattle.peeling.specs.States.{isKnown}
-use Rattle.peeling.specs.Plan.{kindOf, pivotOf, rowOf, usedBy, free}
+use Rattle.peeling.specs.Plan.{kindOf, pivotOf, rowOf, usedBy, free, Plan, Closed, Unsolved}
 
 -- check row j's sum over the symbols, in byte b of each
 abbrev pub rowSum : Checks → ℕ → List ℕ → ℕ → ℕ → ℕ
@@ -25,6 +25,14 @@ pub record Values (c : Checks) (w : ℕ) (block states plan symbols : List ℕ) 
   pub known-byte : (p b : ℕ) → p < c .n → b < w → isKnown states p ≡ true → byteAt w symbols b p ≡ byteAt w block b p
   pub pivot-byte : (u b : ℕ) → u < pivots → b < w → byteAt w symbols b (pivotOf plan u) ≡ 0
   pub holds : StepsHold c w plan symbols steps
+
+-- what peeling leaves of a block: every missing position is settled, or put off as a pivot that is zero
+pub record Peeled (c : Checks) (w : ℕ) (block states plan symbols : List ℕ) (early steps pivots : ℕ) : Type 0 where
+  pub made : Plan c states plan early steps pivots
+  pub closed : Closed c plan
+  pub unsolved : Unsolved plan pivots
+  pub values : Values c w block states plan symbols steps pivots
+  pub begun : pivots ≡ 0 → early ≡ steps
 
 -- the positions of the steps from `early` on have new symbols, so that all steps' rows hold
 pub record Again (c : Checks) (w : ℕ) (plan symbols symbols′ : List ℕ) (early steps : ℕ) : Type 0 where

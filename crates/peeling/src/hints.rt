@@ -20,6 +20,20 @@ fn narrow(x: usize) -> u16 {
     (x % 65536) as u16
 }
 
+// No open symbol in any row.
+pub fn no_counts() -> [u8; 1024]
+    ensures { λ r. ⌜ length r ≡ 1024 ⌝ }
+{
+    [0u8; 1024]
+}
+
+// No row that is ready.
+pub fn no_rows() -> [u64; 16]
+    ensures { λ r. ⌜ length r ≡ 16 ⌝ }
+{
+    [0u64; 16]
+}
+
 // The addresses of a table row, from index row * 8 on.
 fn put_addresses(ys: &[usize; 8], row: usize, t: &mut [u16; 512])
     requires { ⌜ (length (now ys) ≡ 8) × (row < 64) × (length (now t) ≡ 512) ⌝ }

@@ -1,6 +1,12 @@
 // Peeling: a check row with just one open symbol settles it, as the sum of the row's other symbols; where no row is ready, the lowest open position is
 // put off as a pivot, with zero for its symbol. The plan (specs/Plan.antt) says of each position what became of it.
 use crate::hints;
+use crate::plan::FIRST_PIVOT;
+use crate::plan::OPEN;
+use crate::plan::PIVOTS;
+use crate::plan::STEP_POSITIONS;
+use crate::plan::STEP_ROWS;
+use crate::plan::USED;
 use crate::states::KNOWN;
 use ccsds::tables::Layout;
 use encoder::positions;
@@ -12,17 +18,19 @@ ghost use lib.Dec.{eqb};
 ghost use lib.ListN.{length, getD, set, replicate};
 ghost use Rattle.algebra.specs.Codeword.{byteAt};
 ghost use Rattle.symbol_sums.specs.Gather.{gathered, Inside, Replaced};
-ghost use Rattle.ccsds.specs.Codes.{checksOf};
 ghost use Rattle.ccsds.specs.Tables.{codeOf, Known};
 ghost use Rattle.ccsds.specs.inner.Layout.{LayoutOf};
-ghost use Rattle.peeling.specs.Table.{Table};
-ghost use Rattle.peeling.specs.Plan.{Plan, Closed, Unsolved};
-ghost use Rattle.peeling.specs.Values.{Values};
+ghost use Rattle.peeling.specs.Table.{checks, Table};
+ghost use Rattle.peeling.specs.Values.{Peeled};
 ghost use Rattle.peeling.specs.Hints.{Hinted};
-ghost use Rattle.peeling.specs.Peel.{Opened, SingleIs, NextOpen, State, left};
+ghost use Rattle.peeling.specs.Peel.{Opened, SingleIs, NextOpen, Reached, Continued};
 
-// The kind of a missing position that is neither settled nor put off.
-pub const OPEN: u16 = 65535;
+// The shape of a block: its code's number and layout, and the bytes of a symbol.
+pub struct Shape {
+    pub number: usize,
+    pub layout: Layout,
+    pub w: usize,
+}
 
 // How far peeling has come: steps made, pivots put off, steps made before the first pivot, the position up to which none is open, and how many rows
 // may still be tried, so that it ends.
@@ -96,9 +104,9 @@ fn settle(
     ensures { λ _. ⌜ Replaced (λ b. gathered (byteAt w (now (symbols .entry)) b) (now (xs .entry)) n) w p (now (symbols .entry)) (now (symbols .exit)) ⌝ }
 {
     symbol_sums::restore(w, p, xs, n, symbols);
-    plan[6144 + t] = r as u16;
-    plan[7168 + t] = p as u16;
-    plan[8192 + r] = 1;
+    plan[STEP_ROWS + t] = r as u16;
+    plan[STEP_POSITIONS + t] = p as u16;
+    plan[USED + r] = 1;
     plan[p] = (t + 1) as u16;
 }
 
@@ -112,9 +120,7 @@ fn early_steps(g: Progress) -> usize
 
 // Check row r settles a position, if it has just one open one and no step used it.
 fn try_row(
-    number: usize,
-    l: Layout,
-    w: usize,
+    s: Shape,
     r: usize,
     g: Progress,
     firsts: &[u16; 512],
@@ -122,23 +128,21 @@ fn try_row(
     classes: &[usize; 8],
     table: &[u16; 512],
     xs: &mut [usize; 64],
-    states: &[u8],
     plan: &mut [u16],
     symbols: &mut [u8],
     counts: &mut [u8; 1024],
     ready: &mut [u64; 16],
 ) -> Progress
     requires { ⌜ Hinted (now table) (now counts) (now ready) ⌝ }
-    requires { ⌜ Table number l (now firsts) (now ends) (now classes) ⌝ }
+    requires { ⌜ Table s (now firsts) (now ends) (now classes) ⌝ }
     requires { ⌜ length (now xs) ≡ 64 ⌝ }
-    requires { ⌜ (r < codeOf number .m) × (0 < g .fuel) ⌝ }
-    requires { ⌜ State (checksOf (codeOf number)) w (now symbols) (now states) (now plan) (now symbols) g ⌝ }
+    requires { ⌜ (r < codeOf (s .number) .m) × (0 < g .fuel) ⌝ }
+    requires { ⌜ Reached (checks s) (s .w) (now plan) (now symbols) g ⌝ }
     ensures { λ _. ⌜ length (now (xs .exit)) ≡ 64 ⌝ }
     ensures { λ _. ⌜ Hinted (now (table .entry)) (now (counts .exit)) (now (ready .exit)) ⌝ }
-    ensures { λ h. ⌜ State (checksOf (codeOf number)) w (now (symbols .entry)) (now (states .entry)) (now (plan .exit)) (now (symbols .exit)) h ⌝ }
-    ensures { λ h. ⌜ left ((checksOf (codeOf number)) .n) h < left ((checksOf (codeOf number)) .n) g ⌝ }
+    ensures { λ h. ⌜ Continued (checks s) (s .w) (now (plan .entry)) (now (symbols .entry)) g (now (plan .exit)) (now (symbols .exit)) h ⌝ }
 {
-    let n = positions::of_row(number, l, firsts, ends, classes, r, xs);
+    let n = positions::of_row(s.number, s.layout, firsts, ends, classes, r, xs);
     let i = single(plan, xs, n);
     let t = g.steps;
     let late = Progress {
@@ -151,13 +155,13 @@ fn try_row(
     if i >= n {
         return late;
     }
-    if plan[8192 + r] != 0 {
+    if plan[USED + r] != 0 {
         return late;
     }
     let p = xs[i];
     xs[i] = xs[n - 1];
-    settle(w, t, r, p, xs, n - 1, plan, symbols);
-    hints::close(l, table, p, counts, ready);
+    settle(s.w, t, r, p, xs, n - 1, plan, symbols);
+    hints::close(s.layout, table, p, counts, ready);
     let early = early_steps(g);
     Progress {
         steps: t + 1,
@@ -177,8 +181,8 @@ fn defer(w: usize, s: usize, x: usize, plan: &mut [u16], symbols: &mut [u8])
 {
     let at = x * w;
     buffers::clear(&mut symbols[at..at + w]);
-    plan[3072 + s] = x as u16;
-    plan[x] = (1025 + s) as u16;
+    plan[PIVOTS + s] = x as u16;
+    plan[x] = (FIRST_PIVOT + s) as u16;
 }
 
 // The first open position from `from` on; n where there is none.
@@ -198,42 +202,39 @@ fn next_open(plan: &[u16], from: usize, n: usize) -> usize
 
 // The next open position becomes a pivot.
 fn put_off(
-    number: usize,
-    l: Layout,
-    w: usize,
+    s: Shape,
     g: Progress,
     table: &[u16; 512],
-    states: &[u8],
     plan: &mut [u16],
     symbols: &mut [u8],
     counts: &mut [u8; 1024],
     ready: &mut [u64; 16],
 ) -> Progress
     requires { ⌜ Hinted (now table) (now counts) (now ready) ⌝ }
-    requires { ⌜ Known number × LayoutOf (codeOf number) l ⌝ }
-    requires { ⌜ g .cursor < (checksOf (codeOf number)) .n ⌝ }
-    requires { ⌜ State (checksOf (codeOf number)) w (now symbols) (now states) (now plan) (now symbols) g ⌝ }
+    requires { ⌜ Known (s .number) × LayoutOf (codeOf (s .number)) (s .layout) ⌝ }
+    requires { ⌜ g .cursor < checks s .n ⌝ }
+    requires { ⌜ Reached (checks s) (s .w) (now plan) (now symbols) g ⌝ }
     ensures { λ _. ⌜ Hinted (now (table .entry)) (now (counts .exit)) (now (ready .exit)) ⌝ }
-    ensures { λ h. ⌜ State (checksOf (codeOf number)) w (now (symbols .entry)) (now (states .entry)) (now (plan .exit)) (now (symbols .exit)) h ⌝ }
-    ensures { λ h. ⌜ left ((checksOf (codeOf number)) .n) h < left ((checksOf (codeOf number)) .n) g ⌝ }
+    ensures { λ h. ⌜ Continued (checks s) (s .w) (now (plan .entry)) (now (symbols .entry)) g (now (plan .exit)) (now (symbols .exit)) h ⌝ }
 {
+    let l = s.layout;
     let n = l.k + l.m;
     let x = next_open(plan, g.cursor, n);
-    let s = g.pivots;
+    let u = g.pivots;
     if x >= n {
         return Progress {
             steps: g.steps,
-            pivots: s,
+            pivots: u,
             early: g.early,
             cursor: x,
             fuel: g.fuel,
         };
     }
-    defer(w, s, x, plan, symbols);
+    defer(s.w, u, x, plan, symbols);
     hints::close(l, table, x, counts, ready);
     Progress {
         steps: g.steps,
-        pivots: s + 1,
+        pivots: u + 1,
         early: g.early,
         cursor: x + 1,
         fuel: g.fuel,
@@ -242,42 +243,37 @@ fn put_off(
 
 // One step, or a check row that turned out not to be ready, or one position put off.
 fn turn(
-    number: usize,
-    l: Layout,
-    w: usize,
+    s: Shape,
     g: Progress,
     firsts: &[u16; 512],
     ends: &[u16; 512],
     classes: &[usize; 8],
     table: &[u16; 512],
     xs: &mut [usize; 64],
-    states: &[u8],
     plan: &mut [u16],
     symbols: &mut [u8],
     counts: &mut [u8; 1024],
     ready: &mut [u64; 16],
 ) -> Progress
     requires { ⌜ Hinted (now table) (now counts) (now ready) ⌝ }
-    requires { ⌜ Table number l (now firsts) (now ends) (now classes) ⌝ }
+    requires { ⌜ Table s (now firsts) (now ends) (now classes) ⌝ }
     requires { ⌜ length (now xs) ≡ 64 ⌝ }
-    requires { ⌜ g .cursor < (checksOf (codeOf number)) .n ⌝ }
-    requires { ⌜ State (checksOf (codeOf number)) w (now symbols) (now states) (now plan) (now symbols) g ⌝ }
+    requires { ⌜ g .cursor < checks s .n ⌝ }
+    requires { ⌜ Reached (checks s) (s .w) (now plan) (now symbols) g ⌝ }
     ensures { λ _. ⌜ length (now (xs .exit)) ≡ 64 ⌝ }
     ensures { λ _. ⌜ Hinted (now (table .entry)) (now (counts .exit)) (now (ready .exit)) ⌝ }
-    ensures { λ h. ⌜ State (checksOf (codeOf number)) w (now (symbols .entry)) (now (states .entry)) (now (plan .exit)) (now (symbols .exit)) h ⌝ }
-    ensures { λ h. ⌜ left ((checksOf (codeOf number)) .n) h < left ((checksOf (codeOf number)) .n) g ⌝ }
+    ensures { λ h. ⌜ Continued (checks s) (s .w) (now (plan .entry)) (now (symbols .entry)) g (now (plan .exit)) (now (symbols .exit)) h ⌝ }
 {
     if g.fuel == 0 {
-        return put_off(number, l, w, g, table, states, plan, symbols, counts, ready);
+        return put_off(s, g, table, plan, symbols, counts, ready);
     }
+    let l = s.layout;
     let r = hints::next(ready);
     if r >= l.m {
-        return put_off(number, l, w, g, table, states, plan, symbols, counts, ready);
+        return put_off(s, g, table, plan, symbols, counts, ready);
     }
     try_row(
-        number,
-        l,
-        w,
+        s,
         r,
         g,
         firsts,
@@ -285,7 +281,6 @@ fn turn(
         classes,
         table,
         xs,
-        states,
         plan,
         symbols,
         counts,
@@ -293,32 +288,33 @@ fn turn(
     )
 }
 
+// Room for the positions of a check row.
+pub fn no_positions() -> [usize; 64]
+    ensures { λ r. ⌜ length r ≡ 64 ⌝ }
+{
+    [0usize; 64]
+}
+
 // Settles every missing position by a check row, or puts it off.
 pub fn peel(
-    number: usize,
-    l: Layout,
-    w: usize,
+    s: Shape,
     firsts: &[u16; 512],
     ends: &[u16; 512],
     classes: &[usize; 8],
-    xs: &mut [usize; 64],
     states: &[u8],
     plan: &mut [u16],
     symbols: &mut [u8],
 ) -> Progress
-    requires { ⌜ Table number l (now firsts) (now ends) (now classes) ⌝ }
-    requires { ⌜ length (now xs) ≡ 64 ⌝ }
+    requires { ⌜ Table s (now firsts) (now ends) (now classes) ⌝ }
     requires { ⌜ now plan ≡ replicate 9216 0 ⌝ }
-    requires { ⌜ (length (now states) ≡ (checksOf (codeOf number)) .n) × (length (now symbols) ≡ (checksOf (codeOf number)) .n * w) ⌝ }
-    ensures { λ _. ⌜ length (now (xs .exit)) ≡ 64 ⌝ }
-    ensures { λ g. ⌜ Plan (checksOf (codeOf number)) (now (states .entry)) (now (plan .exit)) (g .early) (g .steps) (g .pivots) ⌝ }
-    ensures { λ g. ⌜ Closed (checksOf (codeOf number)) (now (plan .exit)) × Unsolved (now (plan .exit)) (g .pivots) ⌝ }
-    ensures { λ g. ⌜ Values (checksOf (codeOf number)) w (now (symbols .entry)) (now (states .entry)) (now (plan .exit)) (now (symbols .exit)) (g .steps) (g .pivots) ⌝ }
-    ensures { λ g. ⌜ (g .pivots ≡ 0 → g .early ≡ g .steps) ⌝ }
+    requires { ⌜ (length (now states) ≡ checks s .n) × (length (now symbols) ≡ checks s .n * s .w) ⌝ }
+    ensures { λ g. ⌜ Peeled (checks s) (s .w) (now (symbols .entry)) (now (states .entry)) (now (plan .exit)) (now (symbols .exit)) (g .early) (g .steps) (g .pivots) ⌝ }
 {
-    let table = hints::addresses(number, l);
-    let mut counts = [0u8; 1024];
-    let mut ready = [0u64; 16];
+    let table = hints::addresses(s.number, s.layout);
+    let mut xs = no_positions();
+    let mut counts = hints::no_counts();
+    let mut ready = hints::no_rows();
+    let l = s.layout;
     open_missing(states, plan);
     hints::count(l, &table, states, &mut counts);
     hints::first_ready(l.m, &counts, &mut ready);
@@ -331,16 +327,13 @@ pub fn peel(
     };
     while g.cursor < states.len() {
         g = turn(
-            number,
-            l,
-            w,
+            s,
             g,
             firsts,
             ends,
             classes,
             &table,
-            xs,
-            states,
+            &mut xs,
             plan,
             symbols,
             &mut counts,

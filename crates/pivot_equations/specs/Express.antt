@@ -13,7 +13,20 @@ use Rattle.algebra.specs.Sums.{_⊕_, pick, sum}
 use Rattle.algebra.specs.Codeword.{Checks}
 use Rattle.elimination.specs.Bits.{rowBit}
 use Rattle.elimination.specs.Reduced.{pivotWord}
-use Rattle.peeling.specs.Plan.{kindOf, rowOf, usedBy, free}
+use Rattle.peeling.specs.Plan.{kindOf, rowOf, usedBy, free, Plan, Closed}
+use Rattle.pivot_equations.specs.declared.express.Rows.{Rows}
+
+-- the rows are those of a plan, for some states, in which no position is open
+pub record Planned (c : Checks) (plan : List ℕ) (r : Rows) : Type 0 where
+  pub states : List ℕ
+  pub made : Plan c states plan (r .early) (r .steps) (r .pivots)
+  pub closed : Closed c plan
+
+-- they fit into so many words, and each has room for the pivots
+pub record Room (c : Checks) (r : Rows) (size : ℕ) : Type 0 where
+  pub few : r .packed ≤ 48
+  pub fit : c .m * (r .packed + 1) ≤ size
+  pub enough : r .pivots ≤ 64 * r .packed
 
 -- a position of this kind hangs on pivot i: not if it was known or settled before step `early`; by its step's row; as pivot i itself; or, as a pivot
 -- that a reduced row has, by that row's other pivots

@@ -1,14 +1,32 @@
 // What each symbol is in terms of the pivots.
 use encoder::positions;
-use ccsds::tables::Layout;
+use peeling::peel;
+use peeling::peel::Shape;
+use peeling::plan::FIRST_PIVOT;
+use peeling::plan::FIRST_SOLVED;
+use peeling::plan::LAST_PIVOT;
+use peeling::plan::LAST_STEP;
+use peeling::plan::PIVOTS;
+use peeling::plan::STEP_POSITIONS;
+use peeling::plan::STEP_ROWS;
+use peeling::plan::USED;
 ghost use mathlib.Core.Path.{_≡_};
 ghost use Prim.Native.Nat.{_+_, _*_, _/_, _≤_, _<_};
 ghost use lib.ListN.{length};
-ghost use Rattle.ccsds.specs.Codes.{checksOf};
 ghost use Rattle.ccsds.specs.Tables.{codeOf};
-ghost use Rattle.peeling.specs.Table.{Table};
-ghost use Rattle.peeling.specs.Plan.{kindOf, free, Plan, Closed, Unsolved};
-ghost use Rattle.pivot_equations.specs.Express.{Reads, Added, RowIs, Places, StepsExpressed, SameFrom, SameBelow, RestExpressed, flipRowBit, kindBut, ReadsAll, RestTo};
+ghost use Rattle.peeling.specs.Table.{checks, Table};
+ghost use Rattle.peeling.specs.Plan.{kindOf, free, Unsolved};
+ghost use Rattle.pivot_equations.specs.Express.{Reads, Added, RowIs, Places, StepsExpressed, SameFrom, SameBelow, RestExpressed, flipRowBit, kindBut, ReadsAll, RestTo, Planned, Room};
+
+// The rows of the equations: `steps` rows of the steps, the first `early` of which are not made, and `rest` rows of the check rows that no step used;
+// each has `packed` words for the `pivots` pivots, and one more.
+pub struct Rows {
+    pub early: usize,
+    pub steps: usize,
+    pub rest: usize,
+    pub pivots: usize,
+    pub packed: usize,
+}
 
 // Flips unknown u in the row at `base`.
 fn flip(words: &mut [u64], base: usize, u: usize)
@@ -39,15 +57,15 @@ fn add(
     if kind <= early {
         return;
     }
-    if kind <= 1024 {
+    if kind <= LAST_STEP {
         elimination::parts::xor_words(words, (kind - 1) * stride, t * stride, packed);
         return;
     }
-    if kind <= 4096 {
-        flip(words, t * stride, kind - 1025);
+    if kind <= LAST_PIVOT {
+        flip(words, t * stride, kind - FIRST_PIVOT);
         return;
     }
-    let h = (kind - 4097) * stride;
+    let h = (kind - FIRST_SOLVED) * stride;
     let u = words[h + packed] as usize;
     elimination::parts::xor_words(words, h, t * stride, packed);
     flip(words, t * stride, u - 1);
@@ -77,11 +95,8 @@ fn add_other(
 
 // Row t becomes the sum of the expressions of the positions of check row j other than p.
 fn row(
-    number: usize,
-    l: Layout,
-    early: usize,
-    packed: usize,
-    rows: usize,
+    s: Shape,
+    r: Rows,
     t: usize,
     j: usize,
     p: usize,
@@ -92,65 +107,58 @@ fn row(
     plan: &[u16],
     words: &mut [u64],
 )
-    requires { ⌜ Table number l (now firsts) (now ends) (now classes) ⌝ }
+    requires { ⌜ Table s (now firsts) (now ends) (now classes) ⌝ }
     requires { ⌜ length (now xs) ≡ 64 ⌝ }
-    requires { ⌜ (packed ≤ 48) × (rows * (packed + 1) ≤ length (now words)) ⌝ }
-    requires { ⌜ (t < rows) × ((j < codeOf number .m) × (length (now plan) ≡ 9216)) ⌝ }
-    requires { ⌜ ReadsAll (checksOf (codeOf number)) (now plan) (now words) packed early rows t p ⌝ }
+    requires { ⌜ (r .packed ≤ 48) × (s .layout .m * (r .packed + 1) ≤ length (now words)) ⌝ }
+    requires { ⌜ (t < s .layout .m) × ((j < codeOf (s .number) .m) × (length (now plan) ≡ 9216)) ⌝ }
+    requires { ⌜ ReadsAll (checks s) (now plan) (now words) (r .packed) (r .early) (s .layout .m) t p ⌝ }
     ensures { λ _. ⌜ length (now (xs .exit)) ≡ 64 ⌝ }
-    ensures { λ _. ⌜ RowIs (checksOf (codeOf number)) (now (plan .entry)) (now (words .entry)) (now (words .exit)) packed early t j p ⌝ }
+    ensures { λ _. ⌜ RowIs (checks s) (now (plan .entry)) (now (words .entry)) (now (words .exit)) (r .packed) (r .early) t j p ⌝ }
 {
+    let l = s.layout;
+    let early = r.early;
+    let packed = r.packed;
     let stride = packed + 1;
     let at = t * stride;
     buffers::clear_words(&mut words[at..at + stride]);
-    let n = positions::of_row(number, l, firsts, ends, classes, j, xs);
+    let n = positions::of_row(s.number, l, firsts, ends, classes, j, xs);
     let mut i = 0;
     while i < n {
-        add_other(early, packed, rows, t, p, xs[i], plan, words);
+        add_other(early, packed, l.m, t, p, xs[i], plan, words);
         i += 1;
     }
 }
 
 // The steps from `early` on.
 pub fn steps(
-    number: usize,
-    l: Layout,
-    early: usize,
-    steps: usize,
-    pivots: usize,
-    packed: usize,
+    s: Shape,
+    r: Rows,
     firsts: &[u16; 512],
     ends: &[u16; 512],
     classes: &[usize; 8],
-    xs: &mut [usize; 64],
-    states: &[u8],
     plan: &[u16],
     words: &mut [u64],
 )
-    requires { ⌜ Table number l (now firsts) (now ends) (now classes) ⌝ }
-    requires { ⌜ length (now xs) ≡ 64 ⌝ }
-    requires { ⌜ Plan (checksOf (codeOf number)) (now states) (now plan) early steps pivots × Closed (checksOf (codeOf number)) (now plan) ⌝ }
-    requires { ⌜ (packed ≤ 48) × ((checksOf (codeOf number)) .m * (packed + 1) ≤ length (now words)) ⌝ }
-    requires { ⌜ Places (checksOf (codeOf number)) (now plan) (now words) packed steps ((checksOf (codeOf number)) .m) ⌝ }
-    ensures { λ _. ⌜ length (now (xs .exit)) ≡ 64 ⌝ }
-    ensures { λ _. ⌜ StepsExpressed (checksOf (codeOf number)) (now (plan .entry)) (now (words .exit)) packed early steps ⌝ }
-    ensures { λ _. ⌜ SameFrom (now (words .entry)) (now (words .exit)) packed steps ⌝ }
+    requires { ⌜ Table s (now firsts) (now ends) (now classes) ⌝ }
+    requires { ⌜ Planned (checks s) (now plan) r ⌝ }
+    requires { ⌜ Room (checks s) r (length (now words)) ⌝ }
+    requires { ⌜ Places (checks s) (now plan) (now words) (r .packed) (r .steps) (checks s .m) ⌝ }
+    ensures { λ _. ⌜ StepsExpressed (checks s) (now (plan .entry)) (now (words .exit)) (r .packed) (r .early) (r .steps) ⌝ }
+    ensures { λ _. ⌜ SameFrom (now (words .entry)) (now (words .exit)) (r .packed) (r .steps) ⌝ }
 {
-    let mut t = early;
-    while t < steps {
+    let mut xs = peel::no_positions();
+    let mut t = r.early;
+    while t < r.steps {
         row(
-            number,
-            l,
-            early,
-            packed,
-            l.m,
+            s,
+            r,
             t,
-            plan[6144 + t] as usize,
-            plan[7168 + t] as usize,
+            plan[STEP_ROWS + t] as usize,
+            plan[STEP_POSITIONS + t] as usize,
             firsts,
             ends,
             classes,
-            xs,
+            &mut xs,
             plan,
             words,
         );
@@ -160,104 +168,62 @@ pub fn steps(
 
 // Check row j, if no step used it: it becomes row t, behind the steps. Returns the next such row's number.
 fn remaining_row(
-    number: usize,
-    l: Layout,
-    early: usize,
-    steps: usize,
-    pivots: usize,
-    packed: usize,
+    s: Shape,
+    r: Rows,
     t: usize,
     j: usize,
     firsts: &[u16; 512],
     ends: &[u16; 512],
     classes: &[usize; 8],
     xs: &mut [usize; 64],
-    states: &[u8],
     plan: &[u16],
     words: &mut [u64],
 ) -> usize
-    requires { ⌜ Table number l (now firsts) (now ends) (now classes) ⌝ }
+    requires { ⌜ Table s (now firsts) (now ends) (now classes) ⌝ }
     requires { ⌜ length (now xs) ≡ 64 ⌝ }
-    requires { ⌜ Plan (checksOf (codeOf number)) (now states) (now plan) early steps pivots × Closed (checksOf (codeOf number)) (now plan) ⌝ }
-    requires { ⌜ (packed ≤ 48) × ((checksOf (codeOf number)) .m * (packed + 1) ≤ length (now words)) ⌝ }
-    requires { ⌜ Places (checksOf (codeOf number)) (now plan) (now words) packed steps ((checksOf (codeOf number)) .m) ⌝ }
-    requires { ⌜ Unsolved (now plan) pivots ⌝ }
-    requires { ⌜ (j < codeOf number .m) × (t ≡ steps + free (now plan) j) ⌝ }
-    requires { ⌜ RestTo (checksOf (codeOf number)) (now plan) (now words) packed early steps j ⌝ }
+    requires { ⌜ Planned (checks s) (now plan) r ⌝ }
+    requires { ⌜ Room (checks s) r (length (now words)) ⌝ }
+    requires { ⌜ Places (checks s) (now plan) (now words) (r .packed) (r .steps) (checks s .m) ⌝ }
+    requires { ⌜ Unsolved (now plan) (r .pivots) ⌝ }
+    requires { ⌜ (j < codeOf (s .number) .m) × (t ≡ r .steps + free (now plan) j) ⌝ }
+    requires { ⌜ RestTo (checks s) (now plan) (now words) (r .packed) (r .early) (r .steps) j ⌝ }
     ensures { λ _. ⌜ length (now (xs .exit)) ≡ 64 ⌝ }
-    ensures { λ r. ⌜ r ≡ steps + free (now (plan .entry)) (j + 1) ⌝ }
-    ensures { λ _. ⌜ RestTo (checksOf (codeOf number)) (now (plan .entry)) (now (words .exit)) packed early steps (j + 1) ⌝ }
-    ensures { λ _. ⌜ SameBelow (now (words .entry)) (now (words .exit)) packed steps ⌝ }
+    ensures { λ h. ⌜ h ≡ r .steps + free (now (plan .entry)) (j + 1) ⌝ }
+    ensures { λ _. ⌜ RestTo (checks s) (now (plan .entry)) (now (words .exit)) (r .packed) (r .early) (r .steps) (j + 1) ⌝ }
+    ensures { λ _. ⌜ SameBelow (now (words .entry)) (now (words .exit)) (r .packed) (r .steps) ⌝ }
 {
-    if plan[8192 + j] != 0 {
+    if plan[USED + j] != 0 {
         return t;
     }
-    row(
-        number,
-        l,
-        early,
-        packed,
-        l.m,
-        t,
-        j,
-        3072,
-        firsts,
-        ends,
-        classes,
-        xs,
-        plan,
-        words,
-    );
+    row(s, r, t, j, PIVOTS, firsts, ends, classes, xs, plan, words);
     t + 1
 }
 
 // The check rows that no step used, after the steps.
 pub fn remaining(
-    number: usize,
-    l: Layout,
-    early: usize,
-    steps: usize,
-    pivots: usize,
-    packed: usize,
+    s: Shape,
+    r: Rows,
     firsts: &[u16; 512],
     ends: &[u16; 512],
     classes: &[usize; 8],
-    xs: &mut [usize; 64],
-    states: &[u8],
     plan: &[u16],
     words: &mut [u64],
 )
-    requires { ⌜ Table number l (now firsts) (now ends) (now classes) ⌝ }
-    requires { ⌜ length (now xs) ≡ 64 ⌝ }
-    requires { ⌜ Plan (checksOf (codeOf number)) (now states) (now plan) early steps pivots × Closed (checksOf (codeOf number)) (now plan) ⌝ }
-    requires { ⌜ (packed ≤ 48) × ((checksOf (codeOf number)) .m * (packed + 1) ≤ length (now words)) ⌝ }
-    requires { ⌜ Places (checksOf (codeOf number)) (now plan) (now words) packed steps ((checksOf (codeOf number)) .m) ⌝ }
-    requires { ⌜ Unsolved (now plan) pivots ⌝ }
-    ensures { λ _. ⌜ length (now (xs .exit)) ≡ 64 ⌝ }
-    ensures { λ _. ⌜ RestExpressed (checksOf (codeOf number)) (now (plan .entry)) (now (words .exit)) packed early steps ⌝ }
-    ensures { λ _. ⌜ SameBelow (now (words .entry)) (now (words .exit)) packed steps ⌝ }
+    requires { ⌜ Table s (now firsts) (now ends) (now classes) ⌝ }
+    requires { ⌜ Planned (checks s) (now plan) r ⌝ }
+    requires { ⌜ Room (checks s) r (length (now words)) ⌝ }
+    requires { ⌜ Places (checks s) (now plan) (now words) (r .packed) (r .steps) (checks s .m) ⌝ }
+    requires { ⌜ Unsolved (now plan) (r .pivots) ⌝ }
+    ensures { λ _. ⌜ RestExpressed (checks s) (now (plan .entry)) (now (words .exit)) (r .packed) (r .early) (r .steps) ⌝ }
+    ensures { λ _. ⌜ SameBelow (now (words .entry)) (now (words .exit)) (r .packed) (r .steps) ⌝ }
 {
+    let l = s.layout;
     let m = l.m;
-    let mut t = steps;
+    let mut xs = peel::no_positions();
+    let mut t = r.steps;
     let mut j = 0;
     while j < m {
-        t = remaining_row(
-            number,
-            l,
-            early,
-            steps,
-            pivots,
-            packed,
-            t,
-            j,
-            firsts,
-            ends,
-            classes,
-            xs,
-            states,
-            plan,
-            words,
-        );
+        t = remaining_row(s, r, t, j, firsts, ends, classes, &mut xs, plan, words);
         j += 1;
     }
 }

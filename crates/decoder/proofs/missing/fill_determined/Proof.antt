@@ -9,11 +9,11 @@ use Rattle.decoder.proofs.missing.fill_determined.Statement.{statement}
 use Rattle.decoder.proofs.missing.fill_determined.Tie as tie
 
 abbrev Inv-loop : tie.InvT-loop
-Inv-loop w early packed rows plan words symbols₀ states₀ i₀ symbols states i =
-    (i ≤ length states₀) × (length symbols ≡ length symbols₀) × (length states ≡ length states₀) × FilledTo w early packed words plan symbols₀ states₀ symbols states i
+Inv-loop w r plan words symbols₀ states₀ i₀ symbols states i =
+    (i ≤ length states₀) × (length symbols ≡ length symbols₀) × (length states ≡ length states₀) × FilledTo w (r .early) (r .packed) words plan symbols₀ states₀ symbols states i
 
 abbrev μ-loop : tie.MeasureT-loop
-μ-loop w early packed rows plan words symbols₀ states₀ i₀ symbols states i = length states₀ - i
+μ-loop w r plan words symbols₀ states₀ i₀ symbols states i = length states₀ - i
 
 loop-holds : tie.Need-loop-holds Inv-loop μ-loop
 loop-holds c = (omega arith, refl, refl, filled-none _ _ _ _ _ _ _)
@@ -40,7 +40,7 @@ loop-again : tie.Need-loop-again Inv-loop μ-loop
 loop-again c =
     let k = c .before .before .before .before .fill-at in
     let l = c .before .before .before .before .before .before .before .before .loop in
-    (omega arith, k .kept .1 .1 .1 .1 .1 .1 .1 .0 ∙ l .inv .1, k .kept .1 .1 .1 .1 .1 .1 .1 .1 .0 ∙ l .inv .2, filled-more _ _ _ _ _ _ _ _ _ _ _ _ (l .inv .3) (k .ensures))
+    (omega arith, k .kept .1 .1 .1 .1 .1 .0 ∙ l .inv .1, k .kept .1 .1 .1 .1 .1 .1 .0 ∙ l .inv .2, filled-more _ _ _ _ _ _ _ _ _ _ _ _ (l .inv .3) (k .ensures))
 
 same-length : tie.Need-same-length Inv-loop μ-loop
 same-length c = c .before .loop .inv .1

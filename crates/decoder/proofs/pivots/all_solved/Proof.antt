@@ -28,11 +28,14 @@ shared-slice-read-p c = omega arith
 cast-p : tie.Need-cast-p Inv-loop μ-loop
 cast-p c = omega (arith, c .shared-slice-known .given (3072 + c .before .before .loop .u))
 
-mul-if1 : tie.Need-mul-if1 Inv-loop μ-loop
-mul-if1 c = omega (arith, c .before .before .before .pre .1 (c .before .before .loop .u) (c .before .loop-test .taken))
+mul-kind : tie.Need-mul-kind Inv-loop μ-loop
+mul-kind c = omega (arith, c .before .before .before .pre .1 (c .before .before .loop .u) (c .before .loop-test .taken))
 
-shared-slice-read-if1 : tie.Need-shared-slice-read-if1 Inv-loop μ-loop
-shared-slice-read-if1 c = omega (arith, c .before .before .before .before .pre .1 (c .before .before .before .loop .u) (c .before .before .loop-test .taken))
+shared-slice-read-kind : tie.Need-shared-slice-read-kind Inv-loop μ-loop
+shared-slice-read-kind c = omega (arith, c .before .before .before .before .pre .1 (c .before .before .before .loop .u) (c .before .before .loop-test .taken))
+
+cast-kind : tie.Need-cast-kind Inv-loop μ-loop
+cast-kind c = omega (arith, c .shared-slice-known2 .given (pivotOf (c .before .before .before .before .args .plan .now) (c .before .before .before .loop .u)))
 
 returns : tie.Need-returns Inv-loop μ-loop
 returns c = (c .before .before .before .before .loop .u, (c .before .before .before .loop-test .taken, omega arith))
@@ -60,8 +63,9 @@ all-solved-spec =
     mul-p
     shared-slice-read-p
     cast-p
-    mul-if1
-    shared-slice-read-if1
+    mul-kind
+    shared-slice-read-kind
+    cast-kind
     returns
     add-u
     loop-less

@@ -17,17 +17,17 @@ abbrev kind : tie.Start → ℕ
 kind c = kindOf (c .args .plan .now) (c .args .p)
 
 -- the end of a row
-ends : (c : tie.Start) (k : ℕ) → k < c .args .rows → k * (c .args .packed + 1) + (c .args .packed + 1) ≤ length (c .args .words .now)
-ends c k h = le-trans (slot k (c .args .rows) (c .args .packed + 1) h) (c .pre .0 .1)
+ends : (c : tie.Start) (k : ℕ) → k < c .args .r .steps + c .args .r .rest → k * (c .args .r .packed + 1) + (c .args .r .packed + 1) ≤ length (c .args .words .now)
+ends c k h = le-trans (slot k (c .args .r .steps + c .args .r .rest) (c .args .r .packed + 1) h) (c .pre .0 .1)
 
 abbrev start : tie.Else1 → tie.Start
 start c = c .before .before .before .before
 
-late : (c : tie.Else1) → start c .args .early < kind (start c)
+late : (c : tie.Else1) → start c .args .r .early < kind (start c)
 late c = omega arith
 
 -- the row of a step
-step : (c : tie.Then2) → (kind (start (c .before)) - 1) * (start (c .before) .args .packed + 1) + (start (c .before) .args .packed + 1) ≤ length (start (c .before) .args .words .now)
+step : (c : tie.Then2) → (kind (start (c .before)) - 1) * (start (c .before) .args .r .packed + 1) + (start (c .before) .args .r .packed + 1) ≤ length (start (c .before) .args .words .now)
 step c = ends (start (c .before)) (kind (start (c .before)) - 1) (start (c .before) .pre .1 .1 .reads .step (late (c .before)) (c .if2 .taken) .1)
 
 -- the row of a solved pivot
@@ -37,13 +37,13 @@ at c = start (c .before .before)
 solved : (c : tie.Else3) → 4096 < kind (at c)
 solved c = omega arith
 
-row : (c : tie.Else3) → (kind (at c) - 4097) * (at c .args .packed + 1) + (at c .args .packed + 1) ≤ length (at c .args .words .now)
+row : (c : tie.Else3) → (kind (at c) - 4097) * (at c .args .r .packed + 1) + (at c .args .r .packed + 1) ≤ length (at c .args .words .now)
 row c = ends (at c) (kind (at c) - 4097) (at c .pre .1 .1 .reads .solved (solved c) .1 .0)
 
 abbrev word : tie.Start → ℕ
-word c = pivotWord (c .args .words .now) (c .args .packed) (kind c - 4097)
+word c = pivotWord (c .args .words .now) (c .args .r .packed) (kind c - 4097)
 
-pivot : (c : tie.Else3) → (0 < word (at c)) × (word (at c) ≤ 64 * at c .args .packed)
+pivot : (c : tie.Else3) → (0 < word (at c)) × (word (at c) ≤ 64 * at c .args .r .packed)
 pivot c = at c .pre .1 .1 .reads .solved (solved c) .1 .1
 
 add-stride : tie.Need-add-stride
@@ -73,7 +73,7 @@ no-bits-requires c κs = omega (arith, step c)
 returns-2 : tie.Need-returns-2
 returns-2 c =
     let a = start (c .before .before) .args in
-    determined-step (a .words .now) (a .packed) _ _ (late (c .before .before)) (c .before .if2 .taken) (c .no-bits .result) (c .no-bits .ensures)
+    determined-step (a .words .now) (a .r .packed) _ _ (late (c .before .before)) (c .before .if2 .taken) (c .no-bits .result) (c .no-bits .ensures)
 
 returns-3 : tie.Need-returns-3
 returns-3 c =

@@ -22,15 +22,13 @@ same-length-2 c = search needs
 
 returns : tie.Need-returns
 returns c =
-    let s = (c .before .before .before .before .before .before .before .before .before .before .before) in
-    let made = s .pre .1 .1 .0 in
-    by-steps-yes (made .1 .1) (made .0) (made .1 .0) (s .pre .1 .1 .1 .0) (s .pre .1 .1 .1 .1) _ (c .before .before .before .before .before .hold .ensures .1) (c .before .before .before .before .if1 .taken) (λ t. omega (arith, c .before .before .before .before .before .before .before .before .before .slice-known .given t)) _ (c .before .before .fill-missing .ensures)
+    let s = (c .before .before .before .before .before .before .before .before .before .before) in
+    by-steps-yes (s .pre .1 .0 .1) (s .pre .1 .0 .0) (s .pre .1 .1) _ (c .before .before .before .before .before .hold .ensures) (c .before .before .before .before .if1 .taken) (λ t. omega (arith, c .before .before .before .before .before .before .before .before .slice-known .given t)) _ (c .before .before .fill-missing .ensures)
 
 clear-missing-requires : tie.Need-clear-missing-requires
 clear-missing-requires c κs =
-    let s = (c .before .before .before .before .before .before .before .before .before) in
-    let made = s .pre .1 .1 .0 in
-    s .pre .1 .1 .1 .0 .size ∙ ap (λ (n : ℕ). n * s .args .w) (sym (s .pre .1 .1 .1 .1))
+    let s = (c .before .before .before .before .before .before .before .before) in
+    s .pre .1 .0 .0 .values .size ∙ ap (λ (n : ℕ). n * s .args .s .w) (sym (s .pre .1 .1))
 
 same-length-3 : tie.Need-same-length-3
 same-length-3 c = search needs
@@ -40,9 +38,8 @@ same-length-4 c = search needs
 
 returns-2 : tie.Need-returns-2
 returns-2 c =
-    let s = (c .before .before .before .before .before .before .before .before .before .before .before .before .before .before) in
-    let made = s .pre .1 .1 .0 in
-    by-steps-no (made .1 .1) (made .0) (made .1 .0) (s .pre .1 .1 .1 .0) (s .pre .1 .1 .1 .1) _ (c .before .before .before .before .before .before .before .before .hold .ensures .1) (c .before .before .before .before .before .before .before .if1 .left) _ _ (c .before .before .before .before .clear-missing .ensures) (c .before .before .before .before .clear-missing .kept .1 .0) (c .before .before .before .before .clear-missing .kept .1 .1 .0)
+    let s = (c .before .before .before .before .before .before .before .before .before .before .before .before .before) in
+    by-steps-no (s .pre .1 .0 .1) (s .pre .1 .0 .0) (s .pre .1 .1) _ (c .before .before .before .before .before .before .before .before .hold .ensures) (c .before .before .before .before .before .before .before .if1 .left) _ _ (c .before .before .before .before .clear-missing .ensures) (c .before .before .before .before .clear-missing .kept .1 .0) (c .before .before .before .before .clear-missing .kept .1 .1 .0)
 
 pub by-steps-spec : {M : Type 1} → statement M
 by-steps-spec =

@@ -1,13 +1,13 @@
 -- `decoder::peel::put_off` meets its contract: the cursor passes over closed positions, and the open one after them is put off.
 -- Assumes nothing.
 use mathlib.Core.Path.{_≡_}
-use Prim.Native.Nat.{_+_, _<_}
+use mathlib.Core.List.{List}
+use Prim.Native.Nat.{ℕ, _+_, _<_}
 use native.Mathlib.Omega.{arith}
 use lib.ListN.{length}
 use borrow.Author.Needs.{needs}
 use Rattle.algebra.proofs.Codeword.{slot}
-use Rattle.ccsds.specs.Codes.{checksOf}
-use Rattle.ccsds.specs.Tables.{codeOf}
+use Rattle.peeling.specs.Table.{checks}
 use Rattle.peeling.specs.Peel.{State}
 use Rattle.peeling.proofs.HintLaws.{fits-of}
 use Rattle.peeling.proofs.CodeSizes.{symbols-of}
@@ -16,27 +16,28 @@ use Rattle.peeling.proofs.PeelLaws.{state-pass, state-defer}
 use Rattle.peeling.proofs.peel.put_off.Statement.{statement}
 use Rattle.peeling.proofs.peel.put_off.Tie as tie
 
-all : (s : tie.Start) → s .args .l .k + s .args .l .m ≡ checksOf (codeOf (s .args .number)) .n
+all : (s : tie.Start) → s .args .s .layout .k + s .args .s .layout .m ≡ checks (s .args .s) .n
 all s = symbols-of _ _ (s .pre .1 .0 .1)
 
 abbrev start : tie.After-next-open → tie.Start
 start o = o .before .before .before .before .before .before
 
 -- the cursor is at the next open position
-passed : (o : tie.After-next-open)
-    → let s = start o .args in
-    let g = s .g in
-    State (checksOf (codeOf (s .number))) (s .w) (s .symbols .now) (s .states .now) (s .plan .now) (s .symbols .now)
+passed : (o : tie.After-next-open) {block states : List ℕ}
+    → let a = start o .args in
+    let g = a .g in
+    State (checks (a .s)) (a .s .w) block states (a .plan .now) (a .symbols .now) g
+    → State (checks (a .s)) (a .s .w) block states (a .plan .now) (a .symbols .now)
     (record { steps = g .steps; pivots = g .pivots; early = g .early; cursor = o .next-open .result; fuel = g .fuel })
-passed o = let s = start o in state-pass (s .pre .1 .1 .1) (all s) (o .next-open .ensures)
+passed o S = state-pass S (all (start o)) (o .next-open .ensures)
 
-below : (e : tie.Else1) → e .before .next-open .result < checksOf (codeOf (start (e .before) .args .number)) .n
+below : (e : tie.Else1) → e .before .next-open .result < checks (start (e .before) .args .s) .n
 below e = omega (arith, all (start (e .before)), e .if1 .left)
 
 few : (e : tie.Else1)
     → let s = start (e .before) .args in (s .g .pivots < 3072) × ((e .before .next-open .result < 3072) × (length (s .plan .now) ≡ 9216))
 few e =
-    let S = passed (e .before) in
+    let S = passed (e .before) (start (e .before) .pre .1 .1 .1 .state) in
     (omega (arith, below e, S .pivots-below, S .made .positions), (omega (arith, below e, S .made .positions), S .made .size))
 
 add-n : tie.Need-add-n
@@ -45,7 +46,7 @@ add-n c = search needs
 next-open-requires : tie.Need-next-open-requires
 next-open-requires c κs =
     let s = c .before .before .before .before .before in
-    let m = s .pre .1 .1 .1 .made in
+    let m = s .pre .1 .1 .1 .state .made in
     (omega (arith, all s, s .pre .1 .1 .0), omega (arith, all s, m .positions, m .size))
 
 same-length : tie.Need-same-length
@@ -54,12 +55,12 @@ same-length c = search needs
 returns : tie.Need-returns
 returns c =
     let s = start (c .before) in
-    (s .pre .0, (passed (c .before), omega (arith, all s, s .pre .1 .1 .0, c .if1 .taken)))
+    (s .pre .0, record { state = λ block states S. passed (c .before) S; less = omega (arith, all s, s .pre .1 .1 .0, c .if1 .taken) })
 
 defer-requires : tie.Need-defer-requires
 defer-requires c κs =
     let e = c .before .before in
-    (few e, omega (arith, slot _ _ (start (e .before) .args .w) (below e), passed (e .before) .values .size))
+    (few e, omega (arith, slot _ _ (start (e .before) .args .s .w) (below e), start (e .before) .pre .1 .1 .1 .state .values .size))
 
 close-requires : tie.Need-close-requires
 close-requires c κs =
@@ -68,11 +69,11 @@ close-requires c κs =
     let h = s .pre .0 in
     ((fits-of _ _ (s .pre .1 .0 .0) (s .pre .1 .0 .1), omega (arith, all s, below e), h .table-size), (h .counts-size, h .ready-size))
 
-add-t24 : tie.Need-add-t24
-add-t24 c = search needs
+add-t22 : tie.Need-add-t22
+add-t22 c = omega (arith, few (c .before .before .before .before .before .before .before .before .before .before) .0)
 
-add-t25 : tie.Need-add-t25
-add-t25 c = search needs
+add-t23 : tie.Need-add-t23
+add-t23 c = search needs
 
 same-length-2 : tie.Need-same-length-2
 same-length-2 c = search needs
@@ -88,11 +89,11 @@ returns-2 c =
     let s = start o in
     let f = few e in (
       record { table-size = s .pre .0 .table-size; counts-size = c .close .ensures .0; ready-size = c .close .ensures .1 },
-      (
-        state-defer (passed o) (below e) (o .next-open .ensures .found (omega (arith, e .if1 .left)))
-            (deferred _ _ _ (f .1 .1) (f .0) (f .1 .0) _ (d .defer .ensures .0)) (d .defer .ensures .1),
-        omega (arith, below e, o .next-open .ensures .after),
-      ),
+      record {
+        state = λ block states S. state-defer (passed o S) (below e) (o .next-open .ensures .found (omega (arith, e .if1 .left)))
+            (deferred _ _ _ (f .1 .1) (f .0) (f .1 .0) _ (d .defer .ensures .0)) (d .defer .ensures .1);
+        less = omega (arith, below e, o .next-open .ensures .after);
+      },
     )
 
 pub put-off-spec : {M : Type 1} → statement M
@@ -105,8 +106,8 @@ put-off-spec =
     returns
     defer-requires
     close-requires
-    add-t24
-    add-t25
+    add-t22
+    add-t23
     same-length-2
     same-length-3
     returns-2)

@@ -7,7 +7,7 @@ use Rattle.peeling.proofs.peel.turn.Tie as tie
 
 put-off-requires : tie.Need-put-off-requires
 put-off-requires c κs =
-    let s = c .before .before .before .before .before .before .before .before .before in
+    let s = c .before .before .before .before .before .before .before .before in
     (s .pre .0, ((s .pre .1 .0 .known, s .pre .1 .0 .given), (s .pre .1 .1 .1 .0, s .pre .1 .1 .1 .1)))
 
 same-length : tie.Need-same-length
@@ -17,7 +17,7 @@ same-length-2 : tie.Need-same-length-2
 same-length-2 c = search needs
 
 returns : tie.Need-returns
-returns c = (c .before .before .before .before .before .before .before .before .before .before .before .before .before .before .pre .1 .1 .0, c .before .before .before .before .put-off .ensures)
+returns c = (c .before .before .before .before .before .before .before .before .before .before .before .before .before .pre .1 .1 .0, c .before .before .before .before .put-off .ensures)
 
 next-requires : tie.Need-next-requires
 next-requires c κs = c .before .before .before .before .before .before .pre .0 .ready-size
@@ -44,7 +44,7 @@ try-row-requires c κs =
     let s = c .before .before .before .before .before .before .before .before .before .before .before .before .before .before in
     let h = s .pre .0 in (
       record { table-size = h .table-size; counts-size = h .counts-size; ready-size = c .before .before .before .before .before .before .before .next .ensures },
-      (s .pre .1 .0, (s .pre .1 .1 .0, ((omega (arith, s .pre .1 .0 .given .m, c .before .before .before .before .before .if2 .left), omega (arith, c .before .before .before .before .before .before .before .before .before .if1 .left)), s .pre .1 .1 .1 .1))),
+      (s .pre .1 .0, (s .pre .1 .1 .0, ((omega (arith, s .pre .1 .0 .given .m, c .before .before .before .before .before .if2 .left), omega (arith, c .before .before .before .before .before .before .before .before .before .before .if1 .left)), s .pre .1 .1 .1 .1))),
     )
 
 same-length-5 : tie.Need-same-length-5

@@ -4,8 +4,7 @@ use mathlib.Core.Path.{_≡_, _∙_}
 use Prim.Native.Nat.{_≤_, _<_, _+_, _-_}
 use native.Mathlib.Omega.{arith}
 use lib.ListN.{length}
-use Rattle.ccsds.specs.Codes.{checksOf}
-use Rattle.ccsds.specs.Tables.{codeOf}
+use Rattle.peeling.specs.Table.{checks}
 use Rattle.peeling.specs.Values.{Again}
 use Rattle.peeling.proofs.StepLaws.{few-steps}
 use Rattle.pivot_equations.proofs.Restored.{again-none, again-more, again-all}
@@ -13,46 +12,49 @@ use Rattle.pivot_equations.proofs.again.again.Statement.{statement}
 use Rattle.pivot_equations.proofs.again.again.Tie as tie
 
 abbrev Inv-loop : tie.InvT-loop
-Inv-loop number l w early steps pivots firsts ends classes xs₀ states plan symbols₀ t₀ xs symbols t =
-    ((early ≤ t) × (t ≤ steps)) × (length xs ≡ 64) × Again (checksOf (codeOf number)) w plan symbols₀ symbols early t
+Inv-loop s r firsts ends classes plan symbols₀ xs₀ t₀ symbols xs t =
+    ((r .early ≤ t) × (t ≤ r .steps)) × (length xs ≡ 64) × Again (checks s) (s .w) plan symbols₀ symbols (r .early) t
 
 abbrev μ-loop : tie.MeasureT-loop
-μ-loop number l w early steps pivots firsts ends classes xs₀ states plan symbols₀ t₀ xs symbols t = steps - t
+μ-loop s r firsts ends classes plan symbols₀ xs₀ t₀ symbols xs t = r .steps - t
 
-few : (c : tie.In-loop Inv-loop μ-loop) → c .before .loop .t < 1024
-few c = omega (arith, few-steps (c .before .before .before .before .before .pre .1 .1 .0 .0))
+few : (c : tie.Then1 Inv-loop μ-loop) → c .before .before .loop .t < 1024
+few c = omega (arith, few-steps (c .before .before .before .before .before .before .pre .1 .0 .made))
+
+no-positions-requires : tie.Need-no-positions-requires Inv-loop μ-loop
+no-positions-requires c κs = tt
 
 loop-holds : tie.Need-loop-holds Inv-loop μ-loop
-loop-holds c = ((omega arith, omega (arith, c .before .before .before .pre .1 .1 .0 .0 .early-steps)), c .before .before .before .pre .1 .0, again-none _ _ (c .before .before .before .pre .1 .1 .0 .0) (c .before .before .before .pre .1 .1 .1 .1))
+loop-holds c = ((omega arith, omega (arith, c .before .before .before .pre .1 .0 .made .early-steps)), c .no-positions .ensures, again-none _ _ (c .before .before .before .pre .1 .0 .made) (c .before .before .before .pre .1 .1 .1))
 
 add-restore-by : tie.Need-add-restore-by Inv-loop μ-loop
 add-restore-by c = omega (arith, few c)
 
 mul-restore-by : tie.Need-mul-restore-by Inv-loop μ-loop
-mul-restore-by c = omega (arith, few c, c .before .before .before .before .before .pre .1 .1 .0 .0 .size)
+mul-restore-by c = omega (arith, few c, c .before .before .before .before .before .before .pre .1 .0 .made .size)
 
 shared-slice-read-restore-by : tie.Need-shared-slice-read-restore-by Inv-loop μ-loop
-shared-slice-read-restore-by c = omega (arith, few (c .before), c .before .before .before .before .before .before .pre .1 .1 .0 .0 .size)
+shared-slice-read-restore-by c = omega (arith, few (c .before), c .before .before .before .before .before .before .before .pre .1 .0 .made .size)
 
 cast-restore-by : tie.Need-cast-restore-by Inv-loop μ-loop
-cast-restore-by c = omega (arith, c .shared-slice-known3 .given (6144 + c .before .before .loop .t))
+cast-restore-by c = omega (arith, c .shared-slice-known2 .given (6144 + c .before .before .before .loop .t))
 
 add-restore-by-2 : tie.Need-add-restore-by-2 Inv-loop μ-loop
 add-restore-by-2 c = omega (arith, few (c .before))
 
 mul-restore-by-2 : tie.Need-mul-restore-by-2 Inv-loop μ-loop
-mul-restore-by-2 c = omega (arith, few (c .before), c .before .before .before .before .before .before .pre .1 .1 .0 .0 .size)
+mul-restore-by-2 c = omega (arith, few (c .before), c .before .before .before .before .before .before .before .pre .1 .0 .made .size)
 
 shared-slice-read-restore-by-2 : tie.Need-shared-slice-read-restore-by-2 Inv-loop μ-loop
-shared-slice-read-restore-by-2 c = omega (arith, few (c .before .before), c .before .before .before .before .before .before .before .pre .1 .1 .0 .0 .size)
+shared-slice-read-restore-by-2 c = omega (arith, few (c .before .before), c .before .before .before .before .before .before .before .before .pre .1 .0 .made .size)
 
 cast-restore-by-2 : tie.Need-cast-restore-by-2 Inv-loop μ-loop
-cast-restore-by-2 c = omega (arith, c .shared-slice-known4 .given (7168 + c .before .before .before .loop .t))
+cast-restore-by-2 c = omega (arith, c .shared-slice-known3 .given (7168 + c .before .before .before .before .loop .t))
 
 restore-by-requires : tie.Need-restore-by-requires Inv-loop μ-loop
 restore-by-requires c κs =
-    let step = c .before .before .before .before .before .before .before .before .before .pre .1 .1 .0 .0 .step (c .before .before .before .before .before .loop .t) (omega arith) in
-    (c .before .before .before .before .before .before .before .before .before .pre .0, ((c .before .before .before .before .before .loop .inv .1, (step .row, step .position)), c .before .before .before .before .before .loop .inv .2 .size ∙ c .before .before .before .before .before .before .before .before .before .pre .1 .1 .1 .0))
+    let step = c .before .before .before .before .before .before .before .before .before .before .pre .1 .0 .made .step (c .before .before .before .before .before .before .loop .t) (omega arith) in
+    (c .before .before .before .before .before .before .before .before .before .before .pre .0, ((c .before .before .before .before .before .before .loop .inv .1, (step .row, step .position)), c .before .before .before .before .before .before .loop .inv .2 .size ∙ c .before .before .before .before .before .before .before .before .before .before .pre .1 .1 .0))
 
 add-t : tie.Need-add-t Inv-loop μ-loop
 add-t c = omega arith
@@ -61,13 +63,13 @@ loop-less : tie.Need-loop-less Inv-loop μ-loop
 loop-less c = omega arith
 
 loop-again : tie.Need-loop-again Inv-loop μ-loop
-loop-again c = ((omega arith, omega arith), c .before .before .restore-by .ensures .0, again-more _ _ (c .before .before .before .before .before .before .before .before .before .before .before .before .pre .1 .1 .0 .0) (c .before .before .before .before .before .before .before .before .loop .inv .0 .0) (omega arith) (c .before .before .before .before .before .before .before .before .loop .inv .2) (c .before .before .restore-by .ensures .1))
+loop-again c = ((omega arith, omega arith), c .before .before .restore-by .ensures .0, again-more _ _ (c .before .before .before .before .before .before .before .before .before .before .before .before .before .pre .1 .0 .made) (c .before .before .before .before .before .before .before .before .before .loop .inv .0 .0) (omega arith) (c .before .before .before .before .before .before .before .before .before .loop .inv .2) (c .before .before .restore-by .ensures .1))
 
 same-length : tie.Need-same-length Inv-loop μ-loop
-same-length c = c .before .loop .inv .2 .size
+same-length c = c .before .before .loop .inv .2 .size
 
 returns : tie.Need-returns Inv-loop μ-loop
-returns c = (c .before .loop .inv .1, again-all _ _ (c .before .before .before .before .before .pre .1 .1 .0 .0) (c .before .loop .inv .2) (omega arith))
+returns c = again-all _ _ (c .before .before .before .before .before .before .pre .1 .0 .made) (c .before .before .loop .inv .2) (omega arith)
 
 pub again-spec : {M : Type 1} → statement M
 again-spec =
@@ -75,6 +77,7 @@ again-spec =
     (tie.spec
     Inv-loop
     μ-loop
+    no-positions-requires
     loop-holds
     add-restore-by
     mul-restore-by

@@ -18,13 +18,13 @@ others-requires : tie.Need-others-requires
 others-requires c κs = search needs
 
 restore-requires : tie.Need-restore-requires
-restore-requires c κs = (omega (arith, slot _ _ (c .before .before .before .before .before .before .before .args .w) (c .before .before .before .before .before .before .before .pre .1 .0 .1 .1), c .before .before .before .before .before .before .before .pre .1 .1), (others-inside (c .before .before .before .before .of-row .ensures) (c .before .before .others .ensures) (c .before .before .before .before .before .before .before .pre .1 .1), λ i h. c .before .before .others .ensures .each i h .0))
+restore-requires c κs = (omega (arith, slot _ _ (c .before .before .before .before .before .before .before .args .s .w) (c .before .before .before .before .before .before .before .pre .1 .0 .1 .1), c .before .before .before .before .before .before .before .pre .1 .1), (others-inside (c .before .before .before .before .of-row .ensures) (c .before .before .others .ensures) (c .before .before .before .before .before .before .before .pre .1 .1), λ i h. c .before .before .others .ensures .each i h .0))
 
 same-length : tie.Need-same-length
 same-length c = search needs
 
 returns : tie.Need-returns
-returns c = (c .before .before .before .before .before .others .ensures .size ∙ c .before .before .before .before .before .before .before .of-row .ensures .size, replaced-by (λ b. others-sum (c .before .before .before .before .before .before .before .of-row .ensures) (c .before .before .before .before .before .others .ensures) (byteAt (c .before .before .before .before .before .before .before .before .before .before .args .w) (c .before .before .before .before .before .before .before .before .before .before .args .symbols .now) b)) (c .before .before .restore .ensures))
+returns c = (c .before .before .before .before .before .others .ensures .size ∙ c .before .before .before .before .before .before .before .of-row .ensures .size, replaced-by (λ b. others-sum (c .before .before .before .before .before .before .before .of-row .ensures) (c .before .before .before .before .before .others .ensures) (byteAt (c .before .before .before .before .before .before .before .before .before .before .args .s .w) (c .before .before .before .before .before .before .before .before .before .before .args .symbols .now) b)) (c .before .before .restore .ensures))
 
 pub restore-by-spec : {M : Type 1} → statement M
 restore-by-spec =

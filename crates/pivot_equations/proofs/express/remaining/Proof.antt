@@ -3,8 +3,7 @@ use Prim.Native.Nat.{_+_, _-_, _≤_}
 use native.Mathlib.Omega.{arith}
 use lib.ListN.{length}
 use Rattle.algebra.specs.Codeword.{Checks}
-use Rattle.ccsds.specs.Codes.{checksOf}
-use Rattle.ccsds.specs.Tables.{codeOf}
+use Rattle.peeling.specs.Table.{checks}
 use Rattle.peeling.specs.Plan.{free}
 use Rattle.pivot_equations.specs.Express.{Places, SameBelow, RestTo}
 use Rattle.peeling.proofs.CodeSizes.{row-count}
@@ -16,25 +15,28 @@ use Rattle.pivot_equations.proofs.express.remaining.Lts as lts
 use Rattle.pivot_equations.proofs.express.remaining_row.Reads as remaining-row-reads
 
 abbrev Inv-loop : tie.InvT-loop
-Inv-loop number l early steps pivots packed firsts ends classes xs₀ states plan words₀ m t₀ j₀ xs words t j =
-    (length xs ≡ 64) × ((j ≤ m) × ((t ≡ steps + free plan j) × (RestTo (checksOf (codeOf number)) plan words packed early steps j × SameBelow words₀ words packed steps)))
+Inv-loop s r firsts ends classes plan words₀ m xs₀ t₀ j₀ words xs t j =
+    (length xs ≡ 64) × ((j ≤ m) × ((t ≡ r .steps + free plan j) × (RestTo (checks s) plan words (r .packed) (r .early) (r .steps) j × SameBelow words₀ words (r .packed) (r .steps))))
 
 abbrev μ-loop : tie.MeasureT-loop
-μ-loop number l early steps pivots packed firsts ends classes xs₀ states plan words₀ m t₀ j₀ xs words t j = m - j
+μ-loop s r firsts ends classes plan words₀ m xs₀ t₀ j₀ words xs t j = m - j
 
 -- src/express.rt:220:5
+no-positions-requires : tie.Need-no-positions-requires Inv-loop μ-loop
+no-positions-requires c κs = tt
+
 loop-holds : tie.Need-loop-holds Inv-loop μ-loop
 unfolding free
-loop-holds c = (c .before .before .before .pre .1 .0, (omega arith, (omega arith, (λ j i h. absurd (omega arith), below-none))))
+loop-holds c = (c .no-positions .ensures, (omega arith, (omega arith, (λ j i h. absurd (omega arith), below-none))))
 
 -- src/express.rt:221:9
 remaining-row-requires : tie.Need-remaining-row-requires Inv-loop μ-loop
 remaining-row-requires c κs =
-    let k : Checks = checksOf (codeOf (c .before .before .before .before .before .before .before .args .number)) in
+    let k : Checks = checks (c .before .before .before .before .before .before .before .before .args .s) in
     let i = c .before .before .before .loop .inv in
-    let places : Places k (c .before .before .before .before .before .before .before .args .plan .now) (c .before .before .before .loop .words) (c .before .before .before .before .before .before .before .args .packed) (c .before .before .before .before .before .before .before .args .steps) (k .m) =
-    places-any (c .before .before .before .before .before .before .before .pre .1 .1 .0 .0) (c .before .before .before .before .before .before .before .pre .1 .1 .0 .1) (c .before .before .before .before .before .before .before .pre .1 .1 .1 .1 .1) (c .before .before .before .before .before .before .before .args .words .now) (c .before .before .before .loop .words) (c .before .before .before .before .before .before .before .args .packed) (k .m) (c .before .before .before .before .before .before .before .pre .1 .1 .1 .1 .0) in
-    (c .before .before .before .before .before .before .before .pre .0, (i .0, (c .before .before .before .before .before .before .before .pre .1 .1 .0, ((c .before .before .before .before .before .before .before .pre .1 .1 .1 .0 .0, omega (arith, c .before .before .before .before .before .before .before .pre .1 .1 .1 .0 .1, i .1 .1 .1 .1 .size)), (places, (c .before .before .before .before .before .before .before .pre .1 .1 .1 .1 .1, ((omega (arith, c .before .before .before .before .before .before .before .pre .0 .given .m), i .1 .1 .0), i .1 .1 .1 .0)))))))
+    let places : Places k (c .before .before .before .before .before .before .before .before .args .plan .now) (c .before .before .before .loop .words) (c .before .before .before .before .before .before .before .before .args .r .packed) (c .before .before .before .before .before .before .before .before .args .r .steps) (k .m) =
+    places-any (c .before .before .before .before .before .before .before .before .pre .1 .0 .made) (c .before .before .before .before .before .before .before .before .pre .1 .0 .closed) (c .before .before .before .before .before .before .before .before .pre .1 .1 .1 .1) (c .before .before .before .before .before .before .before .before .args .words .now) (c .before .before .before .loop .words) (c .before .before .before .before .before .before .before .before .args .r .packed) (k .m) (c .before .before .before .before .before .before .before .before .pre .1 .1 .1 .0) in
+    (c .before .before .before .before .before .before .before .before .pre .0, (i .0, (c .before .before .before .before .before .before .before .before .pre .1 .0, (record { few = c .before .before .before .before .before .before .before .before .pre .1 .1 .0 .few; fit = omega (arith, c .before .before .before .before .before .before .before .before .pre .1 .1 .0 .fit, i .1 .1 .1 .1 .size); enough = c .before .before .before .before .before .before .before .before .pre .1 .1 .0 .enough }, (places, (c .before .before .before .before .before .before .before .before .pre .1 .1 .1 .1, ((omega (arith, c .before .before .before .before .before .before .before .before .pre .0 .given .m), i .1 .1 .0), i .1 .1 .1 .0)))))))
 
 -- src/express.rt:238:9
 add-j : tie.Need-add-j Inv-loop μ-loop
@@ -59,8 +61,8 @@ same-length c = c .before .loop .inv .1 .1 .1 .1 .size
 returns : tie.Need-returns Inv-loop μ-loop
 returns c =
     let i = c .before .loop .inv in
-    let e : c .before .loop .j ≡ checksOf (codeOf (c .before .before .before .before .before .args .number)) .m = omega (arith, c .before .before .before .before .before .pre .0 .given .m, row-count (c .before .before .before .before .before .args .number)) in
-    (i .0, (rw e at (i .1 .1 .1 .0), i .1 .1 .1 .1))
+    let e : c .before .loop .j ≡ checks (c .before .before .before .before .before .before .args .s) .m = omega (arith, c .before .before .before .before .before .before .pre .0 .given .m, row-count (c .before .before .before .before .before .before .args .s .number)) in
+    (rw e at (i .1 .1 .1 .0), i .1 .1 .1 .1)
 
 pub remaining-spec : {M : Type 1} → statement M
 remaining-spec =
@@ -68,6 +70,7 @@ remaining-spec =
     (tie.spec
     Inv-loop
     μ-loop
+    no-positions-requires
     loop-holds
     remaining-row-requires
     add-j

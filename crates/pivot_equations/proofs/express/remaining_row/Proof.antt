@@ -3,8 +3,7 @@ use mathlib.Core.Logic.{_≢_}
 use Prim.Native.Nat.{ℕ, _+_, _*_, _<_}
 use native.Mathlib.Omega.{arith}
 use Rattle.algebra.specs.Codeword.{Checks}
-use Rattle.ccsds.specs.Codes.{checksOf}
-use Rattle.ccsds.specs.Tables.{codeOf}
+use Rattle.peeling.specs.Table.{checks}
 use Rattle.peeling.specs.Plan.{usedBy}
 use Rattle.peeling.proofs.CodeSizes.{row-count}
 use Rattle.peeling.proofs.UnusedRows.{free-used, free-unused}
@@ -26,33 +25,33 @@ mul-if1 c = search needs
 
 -- src/express.rt:184:8
 shared-slice-read-if1 : tie.Need-shared-slice-read-if1
-shared-slice-read-if1 c = omega (arith, c .before .before .before .before .pre .1 .1 .0 .0 .rows, c .before .before .before .before .pre .1 .1 .0 .0 .size, row-count (c .before .before .before .before .args .number))
+shared-slice-read-if1 c = omega (arith, c .before .before .before .pre .1 .1 .0 .made .rows, c .before .before .before .pre .1 .1 .0 .made .size, row-count (c .before .before .before .args .s .number))
 
 -- src/express.rt:185:9
 returns : tie.Need-returns
 returns c =
-    let k : Checks = checksOf (codeOf (c .before .before .before .before .before .args .number)) in
-    let used : usedBy (c .before .before .before .before .before .args .plan .now) (c .before .before .before .before .before .args .j) ≢ 0 = λ e. omega arith in
-    (c .before .before .before .before .before .pre .1 .0, (omega (arith, free-used (c .before .before .before .before .before .args .plan .now) (c .before .before .before .before .before .args .j) used), (rest-skip k (c .before .before .before .before .before .args .plan .now) (c .before .before .before .before .before .args .words .now) (c .before .before .before .before .before .args .packed) (c .before .before .before .before .before .args .early) (c .before .before .before .before .before .args .steps) (c .before .before .before .before .before .args .j) used (c .before .before .before .before .before .pre .1 .1 .1 .1 .1 .1 .1), below-none)))
+    let k : Checks = checks (c .before .before .before .before .args .s) in
+    let used : usedBy (c .before .before .before .before .args .plan .now) (c .before .before .before .before .args .j) ≢ 0 = λ e. omega arith in
+    (c .before .before .before .before .pre .1 .0, (omega (arith, free-used (c .before .before .before .before .args .plan .now) (c .before .before .before .before .args .j) used), (rest-skip k (c .before .before .before .before .args .plan .now) (c .before .before .before .before .args .words .now) (c .before .before .before .before .args .r .packed) (c .before .before .before .before .args .r .early) (c .before .before .before .before .args .r .steps) (c .before .before .before .before .args .j) used (c .before .before .before .before .pre .1 .1 .1 .1 .1 .1 .1), below-none)))
 
 -- src/express.rt:187:5
 row-requires : tie.Need-row-requires
 row-requires c κs =
-    let k : Checks = checksOf (codeOf (c .before .before .before .before .before .before .before .args .number)) in
-    let e : c .before .before .before .before .before .before .before .args .l .m ≡ k .m = c .before .before .before .before .before .before .before .pre .0 .given .m ∙ sym (row-count (c .before .before .before .before .before .before .before .args .number)) in
-    let f = ap (λ (x : ℕ). x * (c .before .before .before .before .before .before .before .args .packed + 1)) e in
-    let unused : usedBy (c .before .before .before .before .before .before .before .args .plan .now) (c .before .before .before .before .before .before .before .args .j) ≡ 0 = omega arith in
-    let h : c .before .before .before .before .before .before .before .args .j < k .m = omega (arith, row-count (c .before .before .before .before .before .before .before .args .number)) in
-    let b = rest-below (c .before .before .before .before .before .before .before .pre .1 .1 .0 .0) (c .before .before .before .before .before .before .before .pre .1 .1 .0 .1) (c .before .before .before .before .before .before .before .pre .1 .1 .1 .1 .1 .0) (c .before .before .before .before .before .before .before .args .j) h unused in
-    (c .before .before .before .before .before .before .before .pre .0, (c .before .before .before .before .before .before .before .pre .1 .0, ((c .before .before .before .before .before .before .before .pre .1 .1 .1 .0 .0, omega (arith, c .before .before .before .before .before .before .before .pre .1 .1 .1 .0 .1)), ((omega arith, (c .before .before .before .before .before .before .before .pre .1 .1 .1 .1 .1 .1 .0 .0, c .before .before .before .before .before .before .before .pre .1 .1 .0 .0 .size)), reads-rows e (reads-rest (c .before .before .before .before .before .before .before .pre .1 .1 .0 .0) (c .before .before .before .before .before .before .before .pre .1 .1 .0 .1) (c .before .before .before .before .before .before .before .pre .1 .1 .1 .1 .1 .0) (c .before .before .before .before .before .before .before .pre .1 .1 .1 .1 .0) (omega arith))))))
+    let k : Checks = checks (c .before .before .before .before .before .before .args .s) in
+    let e : c .before .before .before .before .before .before .args .s .layout .m ≡ k .m = c .before .before .before .before .before .before .pre .0 .given .m ∙ sym (row-count (c .before .before .before .before .before .before .args .s .number)) in
+    let f = ap (λ (x : ℕ). x * (c .before .before .before .before .before .before .args .r .packed + 1)) e in
+    let unused : usedBy (c .before .before .before .before .before .before .args .plan .now) (c .before .before .before .before .before .before .args .j) ≡ 0 = omega arith in
+    let h : c .before .before .before .before .before .before .args .j < k .m = omega (arith, row-count (c .before .before .before .before .before .before .args .s .number)) in
+    let b = rest-below (c .before .before .before .before .before .before .pre .1 .1 .0 .made) (c .before .before .before .before .before .before .pre .1 .1 .0 .closed) (c .before .before .before .before .before .before .pre .1 .1 .1 .1 .1 .0) (c .before .before .before .before .before .before .args .j) h unused in
+    (c .before .before .before .before .before .before .pre .0, (c .before .before .before .before .before .before .pre .1 .0, ((c .before .before .before .before .before .before .pre .1 .1 .1 .0 .few, omega (arith, c .before .before .before .before .before .before .pre .1 .1 .1 .0 .fit)), ((omega arith, (c .before .before .before .before .before .before .pre .1 .1 .1 .1 .1 .1 .0 .0, c .before .before .before .before .before .before .pre .1 .1 .0 .made .size)), reads-rows e (reads-rest (c .before .before .before .before .before .before .pre .1 .1 .0 .made) (c .before .before .before .before .before .before .pre .1 .1 .0 .closed) (c .before .before .before .before .before .before .pre .1 .1 .1 .1 .1 .0) (c .before .before .before .before .before .before .pre .1 .1 .1 .1 .0) (omega arith))))))
 
 -- src/express.rt:188:5
 add-result : tie.Need-add-result
 add-result c =
-    let k : Checks = checksOf (codeOf (c .before .before .before .before .before .before .before .before .before .before .args .number)) in
-    let unused : usedBy (c .before .before .before .before .before .before .before .before .before .before .args .plan .now) (c .before .before .before .before .before .before .before .before .before .before .args .j) ≡ 0 = omega arith in
-    let h : c .before .before .before .before .before .before .before .before .before .before .args .j < k .m = omega (arith, c .before .before .before .before .before .before .before .before .before .before .pre .1 .1 .1 .1 .1 .1 .0 .0, row-count (c .before .before .before .before .before .before .before .before .before .before .args .number)) in
-    omega (arith, c .before .before .before .before .before .before .before .before .before .before .pre .1 .1 .1 .1 .1 .1 .0 .1, rest-below (c .before .before .before .before .before .before .before .before .before .before .pre .1 .1 .0 .0) (c .before .before .before .before .before .before .before .before .before .before .pre .1 .1 .0 .1) (c .before .before .before .before .before .before .before .before .before .before .pre .1 .1 .1 .1 .1 .0) (c .before .before .before .before .before .before .before .before .before .before .args .j) h unused, c .before .before .before .before .before .before .before .before .before .before .pre .1 .1 .0 .0 .rows)
+    let k : Checks = checks (c .before .before .before .before .before .before .before .before .before .args .s) in
+    let unused : usedBy (c .before .before .before .before .before .before .before .before .before .args .plan .now) (c .before .before .before .before .before .before .before .before .before .args .j) ≡ 0 = omega arith in
+    let h : c .before .before .before .before .before .before .before .before .before .args .j < k .m = omega (arith, c .before .before .before .before .before .before .before .before .before .pre .1 .1 .1 .1 .1 .1 .0 .0, row-count (c .before .before .before .before .before .before .before .before .before .args .s .number)) in
+    omega (arith, c .before .before .before .before .before .before .before .before .before .pre .1 .1 .1 .1 .1 .1 .0 .1, rest-below (c .before .before .before .before .before .before .before .before .before .pre .1 .1 .0 .made) (c .before .before .before .before .before .before .before .before .before .pre .1 .1 .0 .closed) (c .before .before .before .before .before .before .before .before .before .pre .1 .1 .1 .1 .1 .0) (c .before .before .before .before .before .before .before .before .before .args .j) h unused, c .before .before .before .before .before .before .before .before .before .pre .1 .1 .0 .made .rows)
 
 -- src/express.rt:154:1
 same-length : tie.Need-same-length
@@ -61,10 +60,10 @@ same-length c = search needs
 -- src/express.rt:154:1
 returns-2 : tie.Need-returns-2
 returns-2 c =
-    let unused : usedBy (c .before .before .before .before .before .before .before .before .before .before .args .plan .now) (c .before .before .before .before .before .before .before .before .before .before .args .j) ≡ 0 = omega arith in
-    let e = c .before .before .before .before .before .before .before .before .before .before .pre .1 .1 .1 .1 .1 .1 .0 .1 in
+    let unused : usedBy (c .before .before .before .before .before .before .before .before .before .args .plan .now) (c .before .before .before .before .before .before .before .before .before .args .j) ≡ 0 = omega arith in
+    let e = c .before .before .before .before .before .before .before .before .before .pre .1 .1 .1 .1 .1 .1 .0 .1 in
     let r = c .before .before .row .ensures in
-    (r .0, (omega (arith, free-unused (c .before .before .before .before .before .before .before .before .before .before .args .plan .now) (c .before .before .before .before .before .before .before .before .before .before .args .j) unused), (rest-more (c .before .before .before .before .before .before .before .before .before .before .pre .1 .1 .0 .0) (c .before .before .before .before .before .before .before .before .before .before .pre .1 .1 .0 .1) (c .before .before .before .before .before .before .before .before .before .before .pre .1 .1 .1 .1 .1 .0) (c .before .before .before .before .before .before .before .before .before .before .pre .1 .1 .1 .1 .0) (c .before .before .before .before .before .before .before .before .before .before .args .j) e unused (r .1) (c .before .before .before .before .before .before .before .before .before .before .pre .1 .1 .1 .1 .1 .1 .1), below-only (r .1 .only) (omega arith))))
+    (r .0, (omega (arith, free-unused (c .before .before .before .before .before .before .before .before .before .args .plan .now) (c .before .before .before .before .before .before .before .before .before .args .j) unused), (rest-more (c .before .before .before .before .before .before .before .before .before .pre .1 .1 .0 .made) (c .before .before .before .before .before .before .before .before .before .pre .1 .1 .0 .closed) (c .before .before .before .before .before .before .before .before .before .pre .1 .1 .1 .1 .1 .0) (c .before .before .before .before .before .before .before .before .before .pre .1 .1 .1 .1 .0) (c .before .before .before .before .before .before .before .before .before .args .j) e unused (r .1) (c .before .before .before .before .before .before .before .before .before .pre .1 .1 .1 .1 .1 .1 .1), below-only (r .1 .only) (omega arith))))
 
 pub remaining-row-spec : {M : Type 1} → statement M
 remaining-row-spec =

@@ -3,8 +3,7 @@ use Prim.Native.Nat.{ℕ, _+_, _-_, _*_, _<_, _≤_}
 use native.Mathlib.Omega.{arith}
 use lib.ListN.{length}
 use Rattle.algebra.specs.Codeword.{Checks}
-use Rattle.ccsds.specs.Codes.{checksOf}
-use Rattle.ccsds.specs.Tables.{codeOf}
+use Rattle.peeling.specs.Table.{checks}
 use Rattle.pivot_equations.specs.Express.{Places, StepsExpressed, SameFrom}
 use Rattle.peeling.proofs.CodeSizes.{row-count}
 use Rattle.peeling.proofs.StepLaws.{few-steps}
@@ -16,59 +15,62 @@ use Rattle.pivot_equations.proofs.express.steps.Lts as lts
 use Rattle.pivot_equations.proofs.express.row.Reads as row-reads
 
 abbrev Inv-loop : tie.InvT-loop
-Inv-loop number l early steps pivots packed firsts ends classes xs₀ states plan words₀ t₀ xs words t =
-    (length xs ≡ 64) × ((early ≤ t) × ((t ≤ steps) × (StepsExpressed (checksOf (codeOf number)) plan words packed early t × SameFrom words₀ words packed steps)))
+Inv-loop s r firsts ends classes plan words₀ xs₀ t₀ words xs t =
+    (length xs ≡ 64) × ((r .early ≤ t) × ((t ≤ r .steps) × (StepsExpressed (checks s) plan words (r .packed) (r .early) t × SameFrom words₀ words (r .packed) (r .steps))))
 
 abbrev μ-loop : tie.MeasureT-loop
-μ-loop number l early steps pivots packed firsts ends classes xs₀ states plan words₀ t₀ xs words t = steps - t
+μ-loop s r firsts ends classes plan words₀ xs₀ t₀ words xs t = r .steps - t
 
 -- src/express.rt:132:5
+no-positions-requires : tie.Need-no-positions-requires Inv-loop μ-loop
+no-positions-requires c κs = tt
+
 loop-holds : tie.Need-loop-holds Inv-loop μ-loop
-loop-holds c = (c .before .before .before .pre .1 .0, (omega arith, (c .before .before .before .pre .1 .1 .0 .0 .early-steps, (steps-none (c .before .before .before .pre .1 .1 .0 .0) (c .before .before .before .pre .1 .1 .0 .1) (c .before .before .before .args .words .now) (c .before .before .before .args .packed), from-none))))
+loop-holds c = (c .no-positions .ensures, (omega arith, (c .before .before .before .pre .1 .0 .made .early-steps, (steps-none (c .before .before .before .pre .1 .0 .made) (c .before .before .before .pre .1 .0 .closed) (c .before .before .before .args .words .now) (c .before .before .before .args .r .packed), from-none))))
 
 -- src/express.rt:140:18
 add-row : tie.Need-add-row Inv-loop μ-loop
-add-row c = omega (arith, few-steps (c .before .before .before .before .before .pre .1 .1 .0 .0) .1)
+add-row c = omega (arith, few-steps (c .before .before .before .before .before .before .pre .1 .0 .made) .1)
 
 -- src/express.rt:140:13
 mul-row : tie.Need-mul-row Inv-loop μ-loop
-mul-row c = omega (arith, few-steps (c .before .before .before .before .before .pre .1 .1 .0 .0) .1)
+mul-row c = omega (arith, few-steps (c .before .before .before .before .before .before .pre .1 .0 .made) .1)
 
 -- src/express.rt:140:13
 shared-slice-read-row : tie.Need-shared-slice-read-row Inv-loop μ-loop
-shared-slice-read-row c = omega (arith, few-steps (c .before .before .before .before .before .before .pre .1 .1 .0 .0) .1, c .before .before .before .before .before .before .pre .1 .1 .0 .0 .size)
+shared-slice-read-row c = omega (arith, few-steps (c .before .before .before .before .before .before .before .pre .1 .0 .made) .1, c .before .before .before .before .before .before .before .pre .1 .0 .made .size)
 
 -- src/express.rt:140:13
 cast-row : tie.Need-cast-row Inv-loop μ-loop
-cast-row c = omega (arith, c .shared-slice-known3 .given (6144 + c .before .before .loop .t))
+cast-row c = omega (arith, c .shared-slice-known2 .given (6144 + c .before .before .before .loop .t))
 
 -- src/express.rt:141:18
 add-row-2 : tie.Need-add-row-2 Inv-loop μ-loop
-add-row-2 c = omega (arith, few-steps (c .before .before .before .before .before .before .pre .1 .1 .0 .0) .1)
+add-row-2 c = omega (arith, few-steps (c .before .before .before .before .before .before .before .pre .1 .0 .made) .1)
 
 -- src/express.rt:141:13
 mul-row-2 : tie.Need-mul-row-2 Inv-loop μ-loop
-mul-row-2 c = omega (arith, few-steps (c .before .before .before .before .before .before .pre .1 .1 .0 .0) .1)
+mul-row-2 c = omega (arith, few-steps (c .before .before .before .before .before .before .before .pre .1 .0 .made) .1)
 
 -- src/express.rt:141:13
 shared-slice-read-row-2 : tie.Need-shared-slice-read-row-2 Inv-loop μ-loop
-shared-slice-read-row-2 c = omega (arith, few-steps (c .before .before .before .before .before .before .before .pre .1 .1 .0 .0) .1, c .before .before .before .before .before .before .before .pre .1 .1 .0 .0 .size)
+shared-slice-read-row-2 c = omega (arith, few-steps (c .before .before .before .before .before .before .before .before .pre .1 .0 .made) .1, c .before .before .before .before .before .before .before .before .pre .1 .0 .made .size)
 
 -- src/express.rt:141:13
 cast-row-2 : tie.Need-cast-row-2 Inv-loop μ-loop
-cast-row-2 c = omega (arith, c .shared-slice-known4 .given (7168 + c .before .before .before .loop .t))
+cast-row-2 c = omega (arith, c .shared-slice-known3 .given (7168 + c .before .before .before .before .loop .t))
 
 -- src/express.rt:133:9
 row-requires : tie.Need-row-requires Inv-loop μ-loop
 row-requires c κs =
-    let k : Checks = checksOf (codeOf (c .before .before .before .before .before .before .before .before .before .args .number)) in
-    let e : c .before .before .before .before .before .before .before .before .before .args .l .m ≡ k .m = c .before .before .before .before .before .before .before .before .before .pre .0 .given .m ∙ sym (row-count (c .before .before .before .before .before .before .before .before .before .args .number)) in
-    let f = ap (λ (x : ℕ). x * (c .before .before .before .before .before .before .before .before .before .args .packed + 1)) e in
-    let small = few-steps (c .before .before .before .before .before .before .before .before .before .pre .1 .1 .0 .0) in
-    let h : c .before .before .before .before .before .loop .t < c .before .before .before .before .before .before .before .before .before .args .steps = omega arith in
-    let i = c .before .before .before .before .before .loop .inv in
-    let places : Places k (c .before .before .before .before .before .before .before .before .before .args .plan .now) (c .before .before .before .before .before .loop .words) (c .before .before .before .before .before .before .before .before .before .args .packed) (c .before .before .before .before .before .before .before .before .before .args .steps) (k .m) = places-from k (c .before .before .before .before .before .before .before .before .before .args .plan .now) (i .1 .1 .1 .1) (c .before .before .before .before .before .before .before .before .before .pre .1 .1 .1 .1) in
-    (c .before .before .before .before .before .before .before .before .before .pre .0, (i .0, ((c .before .before .before .before .before .before .before .before .before .pre .1 .1 .1 .0 .0, omega (arith, i .1 .1 .1 .1 .size, c .before .before .before .before .before .before .before .before .before .pre .1 .1 .1 .0 .1)), ((omega arith, (omega (arith, c .before .before .before .before .before .before .before .before .before .pre .1 .1 .0 .0 .step (c .before .before .before .before .before .loop .t) h .row, row-count (c .before .before .before .before .before .before .before .before .before .args .number)), c .before .before .before .before .before .before .before .before .before .pre .1 .1 .0 .0 .size)), reads-rows e (reads-step (c .before .before .before .before .before .before .before .before .before .pre .1 .1 .0 .0) (c .before .before .before .before .before .before .before .before .before .pre .1 .1 .0 .1) places h)))))
+    let k : Checks = checks (c .before .before .before .before .before .before .before .before .before .before .args .s) in
+    let e : c .before .before .before .before .before .before .before .before .before .before .args .s .layout .m ≡ k .m = c .before .before .before .before .before .before .before .before .before .before .pre .0 .given .m ∙ sym (row-count (c .before .before .before .before .before .before .before .before .before .before .args .s .number)) in
+    let f = ap (λ (x : ℕ). x * (c .before .before .before .before .before .before .before .before .before .before .args .r .packed + 1)) e in
+    let small = few-steps (c .before .before .before .before .before .before .before .before .before .before .pre .1 .0 .made) in
+    let h : c .before .before .before .before .before .before .loop .t < c .before .before .before .before .before .before .before .before .before .before .args .r .steps = omega arith in
+    let i = c .before .before .before .before .before .before .loop .inv in
+    let places : Places k (c .before .before .before .before .before .before .before .before .before .before .args .plan .now) (c .before .before .before .before .before .before .loop .words) (c .before .before .before .before .before .before .before .before .before .before .args .r .packed) (c .before .before .before .before .before .before .before .before .before .before .args .r .steps) (k .m) = places-from k (c .before .before .before .before .before .before .before .before .before .before .args .plan .now) (i .1 .1 .1 .1) (c .before .before .before .before .before .before .before .before .before .before .pre .1 .1 .1) in
+    (c .before .before .before .before .before .before .before .before .before .before .pre .0, (i .0, ((c .before .before .before .before .before .before .before .before .before .before .pre .1 .1 .0 .few, omega (arith, i .1 .1 .1 .1 .size, c .before .before .before .before .before .before .before .before .before .before .pre .1 .1 .0 .fit)), ((omega arith, (omega (arith, c .before .before .before .before .before .before .before .before .before .before .pre .1 .0 .made .step (c .before .before .before .before .before .before .loop .t) h .row, row-count (c .before .before .before .before .before .before .before .before .before .before .args .s .number)), c .before .before .before .before .before .before .before .before .before .before .pre .1 .0 .made .size)), reads-rows e (reads-step (c .before .before .before .before .before .before .before .before .before .before .pre .1 .0 .made) (c .before .before .before .before .before .before .before .before .before .before .pre .1 .0 .closed) places h)))))
 
 -- src/express.rt:149:9
 add-t : tie.Need-add-t Inv-loop μ-loop
@@ -81,23 +83,23 @@ loop-less c = omega arith
 -- src/express.rt:132:5
 loop-again : tie.Need-loop-again Inv-loop μ-loop
 loop-again c =
-    let k : Checks = checksOf (codeOf (c .before .before .before .before .before .before .before .before .before .before .before .before .args .number)) in
-    let h : c .before .before .before .before .before .before .before .before .loop .t < c .before .before .before .before .before .before .before .before .before .before .before .before .args .steps = omega arith in
-    let i = c .before .before .before .before .before .before .before .before .loop .inv in
+    let k : Checks = checks (c .before .before .before .before .before .before .before .before .before .before .before .before .before .args .s) in
+    let h : c .before .before .before .before .before .before .before .before .before .loop .t < c .before .before .before .before .before .before .before .before .before .before .before .before .before .args .r .steps = omega arith in
+    let i = c .before .before .before .before .before .before .before .before .before .loop .inv in
     let r = c .before .before .row .ensures in
-    let places : Places k (c .before .before .before .before .before .before .before .before .before .before .before .before .args .plan .now) (c .before .before .before .before .before .before .before .before .loop .words) (c .before .before .before .before .before .before .before .before .before .before .before .before .args .packed) (c .before .before .before .before .before .before .before .before .before .before .before .before .args .steps) (k .m) = places-from k (c .before .before .before .before .before .before .before .before .before .before .before .before .args .plan .now) (i .1 .1 .1 .1) (c .before .before .before .before .before .before .before .before .before .before .before .before .pre .1 .1 .1 .1) in
-    (r .0, (omega arith, (omega arith, (steps-more (c .before .before .before .before .before .before .before .before .before .before .before .before .pre .1 .1 .0 .0) (c .before .before .before .before .before .before .before .before .before .before .before .before .pre .1 .1 .0 .1) places (i .1 .0) h (r .1) (i .1 .1 .1 .0), from-more (i .1 .1 .1 .1) (r .1 .only) h))))
+    let places : Places k (c .before .before .before .before .before .before .before .before .before .before .before .before .before .args .plan .now) (c .before .before .before .before .before .before .before .before .before .loop .words) (c .before .before .before .before .before .before .before .before .before .before .before .before .before .args .r .packed) (c .before .before .before .before .before .before .before .before .before .before .before .before .before .args .r .steps) (k .m) = places-from k (c .before .before .before .before .before .before .before .before .before .before .before .before .before .args .plan .now) (i .1 .1 .1 .1) (c .before .before .before .before .before .before .before .before .before .before .before .before .before .pre .1 .1 .1) in
+    (r .0, (omega arith, (omega arith, (steps-more (c .before .before .before .before .before .before .before .before .before .before .before .before .before .pre .1 .0 .made) (c .before .before .before .before .before .before .before .before .before .before .before .before .before .pre .1 .0 .closed) places (i .1 .0) h (r .1) (i .1 .1 .1 .0), from-more (i .1 .1 .1 .1) (r .1 .only) h))))
 
 -- src/express.rt:107:1
 same-length : tie.Need-same-length Inv-loop μ-loop
-same-length c = c .before .loop .inv .1 .1 .1 .1 .size
+same-length c = c .before .before .loop .inv .1 .1 .1 .1 .size
 
 -- src/express.rt:107:1
 returns : tie.Need-returns Inv-loop μ-loop
 returns c =
-    let i = c .before .loop .inv in
-    let e : c .before .loop .t ≡ c .before .before .before .before .before .args .steps = omega arith in
-    (i .0, (rw e at (i .1 .1 .1 .0), i .1 .1 .1 .1))
+    let i = c .before .before .loop .inv in
+    let e : c .before .before .loop .t ≡ c .before .before .before .before .before .before .args .r .steps = omega arith in
+    (rw e at (i .1 .1 .1 .0), i .1 .1 .1 .1)
 
 pub steps-spec : {M : Type 1} → statement M
 steps-spec =
@@ -105,6 +107,7 @@ steps-spec =
     (tie.spec
     Inv-loop
     μ-loop
+    no-positions-requires
     loop-holds
     add-row
     mul-row

@@ -26,7 +26,7 @@ cancels-requires : tie.Need-cancels-requires
 cancels-requires c κs = row-inside (c .before .of-row .ensures) (c .before .before .before .before .before .before .before .pre .1 .1 .1)
 
 returns-2 : tie.Need-returns-2
-returns-2 c = let a = c .before .before .before .before .before .before .before .before .args in (c .before .before .of-row .ensures .size, pass-row (a .w) (a .plan .now) (a .symbols .now) (c .before .before .of-row .ensures) (c .before .before .before .before .if1 .left) (c .cancels .result) (c .cancels .ensures))
+returns-2 c = let a = c .before .before .before .before .before .before .before .before .args in (c .before .before .of-row .ensures .size, pass-row (a .s .w) (a .plan .now) (a .symbols .now) (c .before .before .of-row .ensures) (c .before .before .before .before .if1 .left) (c .cancels .result) (c .cancels .ensures))
 
 pub passes-spec : {M : Type 1} → statement M
 passes-spec =
