@@ -205,8 +205,8 @@ enum lipvezor_count {
 uint8_t lipvezor_close(size_t code, size_t w, size_t protocol, size_t lsc,
                        uint8_t *symbols, size_t symbols_length,
                        uint8_t *marks, size_t marks_length,
-                       uint64_t *words, size_t words_length,
-                       uint8_t *bytes, size_t bytes_length,
+                       uint64_t *work_words, size_t work_words_length,
+                       uint8_t *work_bytes, size_t work_bytes_length,
                        size_t counts[LIPVEZOR_ARRAY(3)]);
 
 #undef LIPVEZOR_ARRAY

@@ -104,7 +104,7 @@ module _ (b : Block) (s k states : List ℕ) (pos : 0 < b .w) (size : length k �
 -- by the number that a check found for the refusal
 module _ (b : Block) (s k l d : List ℕ) (r : ℕ) (e : r ≡ closeRefusal b s k l d) where
   pub close-refused : (r ≡ 0 → ⊥)
-      → (refused r ≡ closeOf b s k l d .answer) × ((s ≡ closeOf b s k l d .symbols) × ((k ≡ closeOf b s k l d .marks) × ((l ≡ closeOf b s k l d .words) × (d ≡ closeOf b s k l d .bytes))))
+      → (refused r ≡ closeOf b s k l d .answer) × ((s ≡ closeOf b s k l d .symbols) × ((k ≡ closeOf b s k l d .marks) × ((l ≡ closeOf b s k l d .workWords) × (d ≡ closeOf b s k l d .workBytes))))
   unfolding closeOf
   close-refused h =
       (refused-by r _ e h _, (kept-by r _ e h _ s, (kept-by r _ e h _ k, (kept-by r _ e h _ l, kept-by r _ e h _ d))))
@@ -112,7 +112,7 @@ module _ (b : Block) (s k l d : List ℕ) (r : ℕ) (e : r ≡ closeRefusal b s 
   pub close-told : r ≡ 0 → (ok : Bool) (s′ k′ l′ d′ : List ℕ) → s′ ≡ symbolsAfter b s k → k′ ≡ marksAfter b s k
       → verdictBy ok (count missingMark k′) ≡ verdictOf (agreeingWords b s k)
       → l′ ≡ replicate (length l) 0 → d′ ≡ replicate (length d) 0 → (t : Report) → t ≡ reportOf (verdictBy ok (count missingMark k′)) k′
-      → (answered t ≡ closeOf b s k l d .answer) × ((s′ ≡ closeOf b s k l d .symbols) × ((k′ ≡ closeOf b s k l d .marks) × ((l′ ≡ closeOf b s k l d .words) × (d′ ≡ closeOf b s k l d .bytes))))
+      → (answered t ≡ closeOf b s k l d .answer) × ((s′ ≡ closeOf b s k l d .symbols) × ((k′ ≡ closeOf b s k l d .marks) × ((l′ ≡ closeOf b s k l d .workWords) × (d′ ≡ closeOf b s k l d .workBytes))))
   unfolding closeOf
   close-told z ok s′ k′ l′ d′ es ek ev el ed t et = (
     ap answered (et ∙ ap (λ (v : Verdict). reportOf v k′) ev ∙ ap (reportOf (verdictOf (agreeingWords b s k))) ek) ∙ answered-by r _ e z _,

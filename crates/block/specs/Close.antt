@@ -58,8 +58,8 @@ pub record Close : Type 0 where
   pub answer : Outcome Report
   pub symbols : List ℕ
   pub marks : List ℕ
-  pub words : List ℕ
-  pub bytes : List ℕ
+  pub workWords : List ℕ
+  pub workBytes : List ℕ
 
 module _ (b : Block) (symbols marks words bytes : List ℕ) where
   -- the number of the refusal, or 0
@@ -78,8 +78,8 @@ module _ (b : Block) (symbols marks words bytes : List ℕ) where
     answer = outcome closeRefusal (reportOf (verdictOf (agreeingWords b symbols marks)) (marksAfter b symbols marks));
     symbols = afterwards closeRefusal (symbolsAfter b symbols marks) symbols;
     marks = afterwards closeRefusal (marksAfter b symbols marks) marks;
-    words = afterwards closeRefusal (replicate (length words) 0) words;
-    bytes = afterwards closeRefusal (replicate (length bytes) 0) bytes;
+    workWords = afterwards closeRefusal (replicate (length words) 0) words;
+    workBytes = afterwards closeRefusal (replicate (length bytes) 0) bytes;
   }
 
 -- the cases of close's answer in the paper's words

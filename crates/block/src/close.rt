@@ -51,18 +51,18 @@ fn wrong_marks(marks: &[u8]) -> bool
 }
 
 // The number of close's refusal, or 0.
-fn check_close(b: Block, symbols: &[u8], marks: &[u8], words: &[u64], bytes: &[u8]) -> u8
-    ensures { λ r. ⌜ r ≡ closeRefusal b (now (symbols .entry)) (now (marks .entry)) (now (words .entry)) (now (bytes .entry)) ⌝ }
+fn check_close(b: Block, symbols: &[u8], marks: &[u8], work_words: &[u64], work_bytes: &[u8]) -> u8
+    ensures { λ r. ⌜ r ≡ closeRefusal b (now (symbols .entry)) (now (marks .entry)) (now («work_words» .entry)) (now («work_bytes» .entry)) ⌝ }
 {
     let code = Code { number: b.code };
     let earlier = checks::check_block(b, symbols.len(), marks.len());
     if earlier != 0 {
         return earlier;
     }
-    if words.len() != code.work_words() {
+    if work_words.len() != code.work_words() {
         return refusal::LENGTH;
     }
-    if bytes.len() != code.parity_bytes(b.w) {
+    if work_bytes.len() != code.parity_bytes(b.w) {
         return refusal::LENGTH;
     }
     if wrong_marks(marks) {
@@ -132,17 +132,17 @@ fn decode(
     symbols: &mut [u8],
     marks: &mut [u8],
     states: &mut [u8],
-    words: &mut [u64],
-    bytes: &mut [u8],
+    work_words: &mut [u64],
+    work_bytes: &mut [u8],
 ) -> bool
-    requires { ⌜ Ready b (length (now symbols)) (length (now marks)) (length (now words)) (length (now bytes)) ⌝ }
+    requires { ⌜ Ready b (length (now symbols)) (length (now marks)) (length (now «work_words»)) (length (now «work_bytes»)) ⌝ }
     requires { ⌜ length (now states) ≡ length (now marks) ⌝ }
     ensures { λ _. ⌜ now (symbols .exit) ≡ symbolsAfter b (now (symbols .entry)) (now (marks .entry)) ⌝ }
     ensures { λ _. ⌜ now (marks .exit) ≡ marksAfter b (now (symbols .entry)) (now (marks .entry)) ⌝ }
     ensures { λ ok. ⌜ verdictBy ok (count missingMark (now (marks .exit))) ≡ verdictOf (agreeingWords b (now (symbols .entry)) (now (marks .entry))) ⌝ }
 {
     status::put_states(b, marks, states);
-    let ok = decoder::solve::solve(b.code, b.w, symbols, states, words, bytes);
+    let ok = decoder::solve::solve(b.code, b.w, symbols, states, work_words, work_bytes);
     status::set_marks(b, states, marks);
     ok
 }
@@ -159,23 +159,23 @@ pub fn close(
     b: Block,
     symbols: &mut [u8],
     marks: &mut [u8],
-    words: &mut [u64],
-    bytes: &mut [u8],
+    work_words: &mut [u64],
+    work_bytes: &mut [u8],
 ) -> Closed
-    ensures answer { λ r. ⌜ closedAs r ≡ closeOf b (now (symbols .entry)) (now (marks .entry)) (now (words .entry)) (now (bytes .entry)) .answer ⌝ }
-    ensures symbols { λ _. ⌜ now (symbols .exit) ≡ closeOf b (now (symbols .entry)) (now (marks .entry)) (now (words .entry)) (now (bytes .entry)) .symbols ⌝ }
-    ensures marks { λ _. ⌜ now (marks .exit) ≡ closeOf b (now (symbols .entry)) (now (marks .entry)) (now (words .entry)) (now (bytes .entry)) .marks ⌝ }
-    ensures words { λ _. ⌜ now (words .exit) ≡ closeOf b (now (symbols .entry)) (now (marks .entry)) (now (words .entry)) (now (bytes .entry)) .words ⌝ }
-    ensures bytes { λ _. ⌜ now (bytes .exit) ≡ closeOf b (now (symbols .entry)) (now (marks .entry)) (now (words .entry)) (now (bytes .entry)) .bytes ⌝ }
+    ensures answer { λ r. ⌜ closedAs r ≡ closeOf b (now (symbols .entry)) (now (marks .entry)) (now («work_words» .entry)) (now («work_bytes» .entry)) .answer ⌝ }
+    ensures symbols { λ _. ⌜ now (symbols .exit) ≡ closeOf b (now (symbols .entry)) (now (marks .entry)) (now («work_words» .entry)) (now («work_bytes» .entry)) .symbols ⌝ }
+    ensures marks { λ _. ⌜ now (marks .exit) ≡ closeOf b (now (symbols .entry)) (now (marks .entry)) (now («work_words» .entry)) (now («work_bytes» .entry)) .marks ⌝ }
+    ensures work_words { λ _. ⌜ now («work_words» .exit) ≡ closeOf b (now (symbols .entry)) (now (marks .entry)) (now («work_words» .entry)) (now («work_bytes» .entry)) .workWords ⌝ }
+    ensures work_bytes { λ _. ⌜ now («work_bytes» .exit) ≡ closeOf b (now (symbols .entry)) (now (marks .entry)) (now («work_words» .entry)) (now («work_bytes» .entry)) .workBytes ⌝ }
 {
-    let refusal = check_close(b, symbols, marks, words, bytes);
+    let refusal = check_close(b, symbols, marks, work_words, work_bytes);
     if refusal != 0 {
         return Closed::Refused(refusal);
     }
     let n = marks.len();
     let mut states = blank();
-    let ok = decode(b, symbols, marks, &mut states[..n], words, bytes);
-    buffers::clear_words(words);
-    buffers::clear(bytes);
+    let ok = decode(b, symbols, marks, &mut states[..n], work_words, work_bytes);
+    buffers::clear_words(work_words);
+    buffers::clear(work_bytes);
     Closed::Reported(make_report(ok, marks))
 }

@@ -2,7 +2,7 @@
 -- Assumes nothing.
 use mathlib.Core.Path.{_≡_, refl, sym, ap, _∙_}
 use mathlib.Core.Bool.{Bool, true, false, xor, _&&_, Bool·beq}
-use mathlib.Core.Logic.{_⊎_, inl, inr, ⊎-elim}
+use mathlib.Core.Logic.{_⊎_, _≢_, inl, inr, ⊎-elim}
 use mathlib.Core.List.{List, [], _∷_}
 use Prim.Native.Nat.{ℕ, suc, _+_, _-_, _<_, _≤_}
 use native.Mathlib.Decide.{decLt}
@@ -14,7 +14,7 @@ use Rattle.algebra.proofs.Sums.{odd, sum-tests, sum-terms, sum-pick, sum-alone}
 use Rattle.algebra.proofs.Staircase.{codeword-parity, parity-odd}
 use Rattle.ccsds.specs.Codes.{Params, rowOf, checkRowOf, touches, checksOf}
 use Rattle.ccsds.specs.Tables.{codeOf, codeIn, codes, isCode, numberIn, c1, c2, rows1, rows2}
-use Rattle.encoder.specs.Samples.{CodeSample, CodeHolds, inRuns, SdnvHolds, Sample, ofCode, ofSdnv, Each, samples}
+use Rattle.encoder.specs.Samples.{CodeSample, CodeHolds, inRuns, SdnvHolds, Sample, ofCode, ofSdnv, Each, samples, SingleSymbol}
 use Rattle.wire.specs.Sdnv.{sdnvFrom, group, sdnvBytes}
 use Rattle.ccsds.proofs.Table.{both-left, both-right, upTo as each, between}
 use Rattle.ccsds.proofs.Valid.{Valid, valid-of, upTo, touches-odd}
@@ -103,12 +103,13 @@ unfolding samples codeOf codeIn codes isCode numberIn c1 c2 rows1 rows2 rowOf ch
 all =
     enough samples (tt, (tt, (tt, (tt, (tt, ((refl, refl), ((refl, refl), ((refl, refl), ((refl, refl), ((refl, tt), ((refl, tt), tt)))))))))))
 
--- A code sample with one symbol, in the paper's words: in a codeword whose information symbols are zero but for u_x = v, byte by byte,
--- parity symbol j is v where a run has j, and zero where none has.
-pub single : (s : CodeSample) → CodeHolds s → (i : ℕ) → s .first ≡ i → s .last ≡ i → i < codeOf (s .code) .k
-    → (w : ℕ) (x : List ℕ) → codeword (checksOf (codeOf (s .code))) w x ≡ true
-    → ((p b : ℕ) → (p < i) ⊎ (i < p) → p < codeOf (s .code) .k → b < w → byteAt w x b p ≡ 0)
-    → (j b : ℕ) → s .from ≤ j → j ≤ s .to → b < w → byteAt w x b (codeOf (s .code) .k + j) ≡ pick (inRuns (s .runs) j) (byteAt w x b i)
-single s h i ef el l w x cw out j b g₀ g₁ hb =
-    h w x cw (λ p d a. out p d (⊎-elim (λ o. inl (omega arith)) (λ o. inr (omega arith)) a)) j b g₀ g₁ hb
-    ∙ ap (pick (inRuns (s .runs) j)) (sum-alone (byteAt w x b) i (codeOf (s .code) .k) l (λ p a q. out p b a q hb))
+pub single : SingleSymbol
+single s e l h w x cw out j b g₀ g₁ hb =
+    h w x cw (λ p d a. out p d (other p a)) j b g₀ g₁ hb
+    ∙ ap (pick (inRuns (s .runs) j)) (sum-alone (byteAt w x b) (s .first) (codeOf (s .code) .k) l (λ p a q. out p b (apart p a) q hb))
+  where
+    apart : (p : ℕ) → (p < s .first) ⊎ (s .first < p) → p ≢ s .first
+    apart p a q = ⊎-elim (λ o. omega arith) (λ o. omega arith) a
+
+    other : (p : ℕ) → (p < s .first) ⊎ (s .last < p) → p ≢ s .first
+    other p a = apart p (⊎-elim inl (λ o. inr (omega arith)) a)

@@ -2,7 +2,7 @@
 -- Assumes nothing.
 use mathlib.Core.Path.{_≡_}
 use mathlib.Core.Bool.{Bool, true, false, _&&_, _||_}
-use mathlib.Core.Logic.{_⊎_}
+use mathlib.Core.Logic.{_⊎_, _≢_}
 use mathlib.Core.List.{List, [], _∷_}
 use Prim.Native.Nat.{ℕ, _+_, _<_, _≤_}
 use lib.Dec.{leb}
@@ -37,6 +37,19 @@ CodeHolds s =
     → ((i b : ℕ) → (i < s .first) ⊎ (s .last < i) → i < codeOf (s .code) .k → b < w → byteAt w x b i ≡ 0)
     → (j b : ℕ) → s .from ≤ j → j ≤ s .to → b < w
     → byteAt w x b (codeOf (s .code) .k + j) ≡ pick (inRuns (s .runs) j) (sum (λ i. true) (byteAt w x b) (codeOf (s .code) .k))
+
+-- A row of one information symbol in document 01's own words, "only u_x = v, others zero: v at p_i to p_j": its value stands at the parity symbols that
+-- a run has, and zero at the others.
+abbrev pub SingleHolds : CodeSample → Type 0
+SingleHolds s =
+    (w : ℕ) (x : List ℕ) → codeword (checksOf (codeOf (s .code))) w x ≡ true
+    → ((i b : ℕ) → i ≢ s .first → i < codeOf (s .code) .k → b < w → byteAt w x b i ≡ 0)
+    → (j b : ℕ) → s .from ≤ j → j ≤ s .to → b < w
+    → byteAt w x b (codeOf (s .code) .k + j) ≡ pick (inRuns (s .runs) j) (byteAt w x b (s .first))
+
+-- every row of one information symbol that holds says so
+abbrev pub SingleSymbol : Type 0
+SingleSymbol = (s : CodeSample) → s .first ≡ s .last → s .first < codeOf (s .code) .k → CodeHolds s → SingleHolds s
 
 -- The bytes are read as a number that ends where they end, or are refused; and the number is written in its shortest form.
 pub record SdnvSample : Type 0 where

@@ -7,7 +7,7 @@ use mathlib.Core.Option.{Option, none, some}
 use Prim.Native.Nat.{ℕ}
 use lib.Dec.{eqb}
 use lib.ListN.{length}
-use Rattle.algebra.specs.Closing.{Verdict, whole, ambiguous, inconsistent}
+use Rattle.algebra.specs.Agreeing.{Verdict, whole, ambiguous, inconsistent}
 use Rattle.ccsds.specs.Refusals.{Outcome, refused, answered}
 use Rattle.ccsds.specs.Reader.{Coding, Parts}
 use Rattle.block.specs.Take.{TakeResult, kept, repeated}

@@ -272,16 +272,16 @@ pub extern "C" fn lipvezor_close(
     lsc: usize,
     symbols: &mut [u8],
     marks: &mut [u8],
-    words: &mut [u64],
-    bytes: &mut [u8],
+    work_words: &mut [u64],
+    work_bytes: &mut [u8],
     counts: &mut [usize; 3],
 ) -> u8
-    ensures answer { λ r. ⌜ r ≡ closedNumber (closeOf (blockOf code w protocol lsc) (now (symbols .entry)) (now (marks .entry)) (now (words .entry)) (now (bytes .entry)) .answer) ⌝ }
-    ensures symbols { λ _. ⌜ now (symbols .exit) ≡ closeOf (blockOf code w protocol lsc) (now (symbols .entry)) (now (marks .entry)) (now (words .entry)) (now (bytes .entry)) .symbols ⌝ }
-    ensures marks { λ _. ⌜ now (marks .exit) ≡ closeOf (blockOf code w protocol lsc) (now (symbols .entry)) (now (marks .entry)) (now (words .entry)) (now (bytes .entry)) .marks ⌝ }
-    ensures words { λ _. ⌜ now (words .exit) ≡ closeOf (blockOf code w protocol lsc) (now (symbols .entry)) (now (marks .entry)) (now (words .entry)) (now (bytes .entry)) .words ⌝ }
-    ensures bytes { λ _. ⌜ now (bytes .exit) ≡ closeOf (blockOf code w protocol lsc) (now (symbols .entry)) (now (marks .entry)) (now (words .entry)) (now (bytes .entry)) .bytes ⌝ }
-    ensures counts { λ _. ⌜ now (counts .exit) ≡ countsOf (now (counts .entry)) (closeOf (blockOf code w protocol lsc) (now (symbols .entry)) (now (marks .entry)) (now (words .entry)) (now (bytes .entry)) .answer) ⌝ }
+    ensures answer { λ r. ⌜ r ≡ closedNumber (closeOf (blockOf code w protocol lsc) (now (symbols .entry)) (now (marks .entry)) (now («work_words» .entry)) (now («work_bytes» .entry)) .answer) ⌝ }
+    ensures symbols { λ _. ⌜ now (symbols .exit) ≡ closeOf (blockOf code w protocol lsc) (now (symbols .entry)) (now (marks .entry)) (now («work_words» .entry)) (now («work_bytes» .entry)) .symbols ⌝ }
+    ensures marks { λ _. ⌜ now (marks .exit) ≡ closeOf (blockOf code w protocol lsc) (now (symbols .entry)) (now (marks .entry)) (now («work_words» .entry)) (now («work_bytes» .entry)) .marks ⌝ }
+    ensures work_words { λ _. ⌜ now («work_words» .exit) ≡ closeOf (blockOf code w protocol lsc) (now (symbols .entry)) (now (marks .entry)) (now («work_words» .entry)) (now («work_bytes» .entry)) .workWords ⌝ }
+    ensures work_bytes { λ _. ⌜ now («work_bytes» .exit) ≡ closeOf (blockOf code w protocol lsc) (now (symbols .entry)) (now (marks .entry)) (now («work_words» .entry)) (now («work_bytes» .entry)) .workBytes ⌝ }
+    ensures counts { λ _. ⌜ now (counts .exit) ≡ countsOf (now (counts .entry)) (closeOf (blockOf code w protocol lsc) (now (symbols .entry)) (now (marks .entry)) (now («work_words» .entry)) (now («work_bytes» .entry)) .answer) ⌝ }
 {
     let b = Block {
         code,
@@ -289,7 +289,7 @@ pub extern "C" fn lipvezor_close(
         protocol,
         lsc,
     };
-    match block::close::close(b, symbols, marks, words, bytes) {
+    match block::close::close(b, symbols, marks, work_words, work_bytes) {
         Closed::Refused(number) => number,
         Closed::Reported(told) => {
             let verdict = told.verdict;

@@ -12,7 +12,7 @@ check-block-requires c κs = search needs
 returns : tie.Need-returns
 returns c =
     let a = c .before .before .before .before .before .before .args in
-    block-refused (a .b) (a .symbols .now) (a .marks .now) (a .words .now) (a .bytes .now) _ (c .before .check-block .ensures) (c .if1 .taken)
+    block-refused (a .b) (a .symbols .now) (a .marks .now) (a .work-words .now) (a .work-bytes .now) _ (c .before .check-block .ensures) (c .if1 .taken)
 
 work-words-requires : tie.Need-work-words-requires
 work-words-requires c κs = search needs
@@ -20,7 +20,7 @@ work-words-requires c κs = search needs
 returns-2 : tie.Need-returns-2
 returns-2 c =
     let a = c .before .before .before .before .before .before .before .before .args in
-    words-refused (a .b) (a .symbols .now) (a .marks .now) (a .words .now) (a .bytes .now) (sym (c .before .before .before .check-block .ensures) ∙ c .before .before .if1 .left)
+    words-refused (a .b) (a .symbols .now) (a .marks .now) (a .work-words .now) (a .work-bytes .now) (sym (c .before .before .before .check-block .ensures) ∙ c .before .before .if1 .left)
     (λ h. c .if2 .taken (h ∙ sym (c .before .work-words .ensures)))
 
 parity-bytes-requires : tie.Need-parity-bytes-requires
@@ -29,7 +29,7 @@ parity-bytes-requires c κs = search needs
 returns-3 : tie.Need-returns-3
 returns-3 c =
     let a = c .before .before .before .before .before .before .before .before .before .before .args in
-    bytes-refused (a .b) (a .symbols .now) (a .marks .now) (a .words .now) (a .bytes .now) (sym (c .before .before .before .before .before .check-block .ensures) ∙ c .before .before .before .before .if1 .left)
+    bytes-refused (a .b) (a .symbols .now) (a .marks .now) (a .work-words .now) (a .work-bytes .now) (sym (c .before .before .before .before .before .check-block .ensures) ∙ c .before .before .before .before .if1 .left)
     (c .before .before .if2 .left ∙ c .before .before .before .work-words .ensures) (λ h. c .if3 .taken (h ∙ sym (c .before .parity-bytes .ensures)))
 
 wrong-marks-requires : tie.Need-wrong-marks-requires
@@ -38,13 +38,13 @@ wrong-marks-requires c κs = search needs
 returns-4 : tie.Need-returns-4
 returns-4 c =
     let a = c .before .before .before .before .before .before .before .before .before .before .before .before .args in
-    marks-refused (a .b) (a .symbols .now) (a .marks .now) (a .words .now) (a .bytes .now) (sym (c .before .before .before .before .before .before .before .check-block .ensures) ∙ c .before .before .before .before .before .before .if1 .left)
+    marks-refused (a .b) (a .symbols .now) (a .marks .now) (a .work-words .now) (a .work-bytes .now) (sym (c .before .before .before .before .before .before .before .check-block .ensures) ∙ c .before .before .before .before .before .before .if1 .left)
     (c .before .before .before .before .if2 .left ∙ c .before .before .before .before .before .work-words .ensures) (c .before .before .if3 .left ∙ c .before .before .before .parity-bytes .ensures) (sym (c .before .wrong-marks .ensures) ∙ c .if4 .taken)
 
 returns-5 : tie.Need-returns-5
 returns-5 c =
     let a = c .before .before .before .before .before .before .before .before .before .before .before .before .args in
-    none-refused (a .b) (a .symbols .now) (a .marks .now) (a .words .now) (a .bytes .now) (sym (c .before .before .before .before .before .before .before .check-block .ensures) ∙ c .before .before .before .before .before .before .if1 .left)
+    none-refused (a .b) (a .symbols .now) (a .marks .now) (a .work-words .now) (a .work-bytes .now) (sym (c .before .before .before .before .before .before .before .check-block .ensures) ∙ c .before .before .before .before .before .before .if1 .left)
     (c .before .before .before .before .if2 .left ∙ c .before .before .before .before .before .work-words .ensures) (c .before .before .if3 .left ∙ c .before .before .before .parity-bytes .ensures) (sym (c .before .wrong-marks .ensures) ∙ c .if4 .left)
 
 pub check-close-spec : {M : Type 1} → statement M

@@ -17,7 +17,7 @@ room : (c : tie.After-blank) → length (c .before .before .before .before .befo
 room c =
     let a = c .before .before .before .before .before .before .before .before .before .before .before .args in
     let f : length (a .marks .now) ≤ 3072 =
-        marks-few (a .b) (a .symbols .now) (a .marks .now) (a .words .now) (a .bytes .now) (sym (c .before .before .check-close .ensures) ∙ c .before .if1 .left) in
+        marks-few (a .b) (a .symbols .now) (a .marks .now) (a .work-words .now) (a .work-bytes .now) (sym (c .before .before .check-close .ensures) ∙ c .before .if1 .left) in
     omega (arith, f, c .blank .ensures)
 
 check-close-requires : tie.Need-check-close-requires
@@ -38,7 +38,7 @@ same-length-4 c = search needs
 returns : tie.Need-returns
 returns c =
     let a = c .before .before .before .before .before .before .before .before .before .before .args in
-    close-refused (a .b) (a .symbols .now) (a .marks .now) (a .words .now) (a .bytes .now) _ (c .before .check-close .ensures) (c .if1 .taken)
+    close-refused (a .b) (a .symbols .now) (a .marks .now) (a .work-words .now) (a .work-bytes .now) _ (c .before .check-close .ensures) (c .if1 .taken)
 
 blank-requires : tie.Need-blank-requires
 blank-requires c κs = search needs
@@ -52,7 +52,7 @@ slice-aggregate-decode c = sym (length-take-le _ (c .before .before .before .bla
 decode-requires : tie.Need-decode-requires
 decode-requires c κs =
     let a = c .before .before .before .before .before .before .before .before .before .before .before .before .before .before .before .before .args in
-    (ready (a .b) (a .symbols .now) (a .marks .now) (a .words .now) (a .bytes .now) (sym (c .before .before .before .before .before .before .before .check-close .ensures) ∙ c .before .before .before .before .before .before .if1 .left), length-take-le _ (c .before .before .before .before .before .blank .result) (room (c .before .before .before .before .before)))
+    (ready (a .b) (a .symbols .now) (a .marks .now) (a .work-words .now) (a .work-bytes .now) (sym (c .before .before .before .before .before .before .before .check-close .ensures) ∙ c .before .before .before .before .before .before .if1 .left), length-take-le _ (c .before .before .before .before .before .blank .result) (room (c .before .before .before .before .before)))
 
 clear-words-requires : tie.Need-clear-words-requires
 clear-words-requires c κs = search needs
@@ -82,7 +82,7 @@ returns-2 c =
     let a = c .before .before .before .before .before .before .before .before .before .before .before .before .before .before .before .before .before .before .before .before .before .before .before .before .before .before .before .before .before .before .before .before .before .before .before .before .args in
     let k = c .before .before .before .before .before .before .before .before .before .before .before .before .before .before .before .before .before .before .before .decode .kept in
     let e = c .before .before .before .before .before .before .before .before .before .before .before .before .before .before .before .before .before .before .before .decode .ensures in
-    close-told (a .b) (a .symbols .now) (a .marks .now) (a .words .now) (a .bytes .now) _ (c .before .before .before .before .before .before .before .before .before .before .before .before .before .before .before .before .before .before .before .before .before .before .before .before .before .before .before .check-close .ensures) (c .before .before .before .before .before .before .before .before .before .before .before .before .before .before .before .before .before .before .before .before .before .before .before .before .before .before .if1 .left) (c .before .before .before .before .before .before .before .before .before .before .before .before .before .before .before .before .before .before .before .decode .result) _ _ _ _ (e .0) (e .1 .0) (e .1 .1)
+    close-told (a .b) (a .symbols .now) (a .marks .now) (a .work-words .now) (a .work-bytes .now) _ (c .before .before .before .before .before .before .before .before .before .before .before .before .before .before .before .before .before .before .before .before .before .before .before .before .before .before .before .check-close .ensures) (c .before .before .before .before .before .before .before .before .before .before .before .before .before .before .before .before .before .before .before .before .before .before .before .before .before .before .if1 .left) (c .before .before .before .before .before .before .before .before .before .before .before .before .before .before .before .before .before .before .before .decode .result) _ _ _ _ (e .0) (e .1 .0) (e .1 .1)
     (c .before .before .before .before .before .before .before .before .clear-words .ensures ∙ ap (λ (n : ℕ). replicate n 0) (k .1 .1 .1 .1 .0)) (c .before .before .before .before .clear .ensures ∙ ap (λ (n : ℕ). replicate n 0) (k .1 .1 .1 .1 .1 .0)) (reportAs (c .make-report .result)) (c .make-report .ensures)
 
 pub close-spec : {M : Type 1} → statement M
