@@ -1,4 +1,4 @@
--- `decoder::hints::column` meets its contract.
+-- `peeling::hints::column` meets its contract.
 -- Assumes nothing.
 use native.Mathlib.Omega.{arith}
 use Rattle.peeling.proofs.HintLaws.{step-small, row-small}

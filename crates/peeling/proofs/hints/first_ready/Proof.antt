@@ -1,4 +1,4 @@
--- `decoder::hints::first_ready` meets its contract.
+-- `peeling::hints::first_ready` meets its contract.
 -- Assumes nothing.
 use mathlib.Core.Path.{_≡_}
 use Prim.Native.Nat.{_-_}

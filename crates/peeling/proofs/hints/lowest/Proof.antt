@@ -1,4 +1,4 @@
--- `decoder::hints::lowest` meets its contract.
+-- `peeling::hints::lowest` meets its contract.
 -- Assumes nothing.
 use native.Mathlib.Omega.{arith}
 use lib.Count.{trailing-le}

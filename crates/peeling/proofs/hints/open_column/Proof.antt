@@ -1,4 +1,4 @@
--- `decoder::hints::open_column` meets its contract.
+-- `peeling::hints::open_column` meets its contract.
 -- Assumes nothing.
 use mathlib.Core.Path.{_≡_}
 use Prim.Native.Nat.{_-_}

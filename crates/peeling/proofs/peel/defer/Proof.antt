@@ -1,4 +1,4 @@
--- `decoder::peel::defer` meets its contract.
+-- `peeling::peel::defer` meets its contract.
 -- Assumes nothing.
 use mathlib.Core.Path.{refl}
 use native.Mathlib.Omega.{arith}

@@ -1,4 +1,4 @@
--- `decoder::peel::early_steps` meets its contract.
+-- `peeling::peel::early_steps` meets its contract.
 -- Assumes nothing.
 use borrow.Author.Needs.{needs}
 use borrow.Author.Tests.{eq-eqb, ne-eqb}

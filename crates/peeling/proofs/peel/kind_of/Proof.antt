@@ -1,4 +1,4 @@
--- `decoder::peel::kind_of` meets its contract.
+-- `peeling::peel::kind_of` meets its contract.
 -- Assumes nothing.
 use borrow.Author.Tests.{eq-eqb, ne-eqb}
 use Rattle.peeling.proofs.peel.kind_of.Statement.{statement}

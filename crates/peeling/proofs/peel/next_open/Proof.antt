@@ -1,4 +1,4 @@
--- `decoder::peel::next_open` meets its contract.
+-- `peeling::peel::next_open` meets its contract.
 -- Assumes nothing.
 use mathlib.Core.Logic.{_≢_}
 use Prim.Native.Nat.{ℕ, _-_, _<_, _≤_}

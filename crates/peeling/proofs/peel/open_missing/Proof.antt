@@ -1,4 +1,4 @@
--- `decoder::peel::open_missing` meets its contract.
+-- `peeling::peel::open_missing` meets its contract.
 -- Assumes nothing.
 use mathlib.Core.Path.{refl, sym, ap, _∙_}
 use Prim.Native.Nat.{ℕ, _-_, _≤_}

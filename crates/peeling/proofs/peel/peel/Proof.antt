@@ -1,4 +1,4 @@
--- `decoder::peel::peel` meets its contract: each turn goes on from where the last one came to.
+-- `peeling::peel::peel` meets its contract: each turn goes on from where the last one came to.
 -- Assumes nothing.
 use mathlib.Core.Path.{_≡_, refl, sym, _∙_}
 use Prim.Native.Nat.{_≤_}

@@ -1,4 +1,4 @@
--- `decoder::peel::put_off` meets its contract: the cursor passes over closed positions, and the open one after them is put off.
+-- `peeling::peel::put_off` meets its contract: the cursor passes over closed positions, and the open one after them is put off.
 -- Assumes nothing.
 use mathlib.Core.Path.{_≡_}
 use mathlib.Core.List.{List}

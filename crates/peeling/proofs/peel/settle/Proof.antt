@@ -1,4 +1,4 @@
--- `decoder::peel::settle` meets its contract.
+-- `peeling::peel::settle` meets its contract.
 -- Assumes nothing.
 use native.Mathlib.Omega.{arith}
 use lib.ListN.{length-set}

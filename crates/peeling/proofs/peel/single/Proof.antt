@@ -1,4 +1,4 @@
--- `decoder::peel::single` meets its contract.
+-- `peeling::peel::single` meets its contract.
 -- Assumes nothing.
 use Prim.Native.Nat.{_-_, _≤_}
 use native.Mathlib.Omega.{arith}

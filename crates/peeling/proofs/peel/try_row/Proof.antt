@@ -1,4 +1,4 @@
--- `decoder::peel::try_row` meets its contract: the row is passed over, or its only open position is settled.
+-- `peeling::peel::try_row` meets its contract: the row is passed over, or its only open position is settled.
 -- Assumes nothing.
 use lib.ListN.{length-set}
 use Prim.Native.Nat.{_<_}

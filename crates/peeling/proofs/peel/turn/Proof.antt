@@ -1,4 +1,4 @@
--- `decoder::peel::turn` meets its contract.
+-- `peeling::peel::turn` meets its contract.
 -- Assumes nothing.
 use native.Mathlib.Omega.{arith}
 use borrow.Author.Needs.{needs}

@@ -1,4 +1,4 @@
--- `decoder::again::again` meets its contract: the first t steps hold.
+-- `pivot_equations::again::again` meets its contract: the first t steps hold.
 -- Assumes nothing.
 use mathlib.Core.Path.{_≡_, _∙_}
 use Prim.Native.Nat.{_≤_, _<_, _+_, _-_}

@@ -1,4 +1,4 @@
--- `decoder::again::others` meets its contract: of the first i numbers, those other than p stand at the front.
+-- `pivot_equations::again::others` meets its contract: of the first i numbers, those other than p stand at the front.
 -- Assumes nothing.
 use mathlib.Core.Path.{refl}
 use mathlib.Core.Logic.{⊎-elim}

@@ -1,4 +1,4 @@
--- `decoder::again::restore_by` meets its contract.
+-- `pivot_equations::again::restore_by` meets its contract.
 -- Assumes nothing.
 use mathlib.Core.Path.{_∙_}
 use native.Mathlib.Omega.{arith}

@@ -1,4 +1,4 @@
--- `decoder::remaining::hold` meets its contract: the first j rows pass.
+-- `pivot_equations::remaining::hold` meets its contract: the first j rows pass.
 -- Assumes nothing.
 use mathlib.Core.Path.{_≡_}
 use Prim.Native.Nat.{_≤_, _-_}

@@ -1,4 +1,4 @@
--- `decoder::remaining::put_row` meets its contract.
+-- `pivot_equations::remaining::put_row` meets its contract.
 -- Assumes nothing.
 use native.Mathlib.Omega.{arith}
 use Rattle.peeling.proofs.CodeSizes.{few-rows, row-known, row-inside}

@@ -1,4 +1,4 @@
--- `decoder::remaining::sums` meets its contract: the sums of the unused of the first j rows are there.
+-- `pivot_equations::remaining::sums` meets its contract: the sums of the unused of the first j rows are there.
 -- Assumes nothing.
 use mathlib.Core.Path.{_≡_, ap, sym, _∙_}
 use Prim.Native.Nat.{_≤_, _-_}
