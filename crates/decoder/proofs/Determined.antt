@@ -1,4 +1,4 @@
--- Whether a position hangs on no pivot, as `pivots::determined` answers it.
+-- Whether a position hangs on no pivot, as `dependence::determined` answers it.
 -- Assumes nothing.
 use mathlib.Core.Path.{_≡_, refl, ap, ap₂, _∙_}
 use mathlib.Core.Logic.{⊎-elim}

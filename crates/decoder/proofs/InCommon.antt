@@ -92,7 +92,7 @@ module _ {c : Checks} {w : ℕ} {block states plan y l lr d lr′ d′ : List �
   unfolding rowBit
   bit-kept r i hr hi = ap (λ (x : ℕ). testBit x (i % 64)) (row-kept r (i / 64) hr (omega arith))
 
-  -- what `pivots::determined` asks: where position p's expression stands, and that a solved pivot's row has it
+  -- what `dependence::determined` asks: where position p's expression stands, and that a solved pivot's row has it
   pub reads : (p : ℕ) → p < c .n → Reads l″ words early (c .m) (c .m) (kindOf plan′ p)
   reads p hp = record {
     step = λ h k. step h k (kind-cases (P′ .0) (P′ .1) p hp);

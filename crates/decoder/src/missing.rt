@@ -1,5 +1,5 @@
 // What becomes of the missing positions.
-use crate::pivots;
+use crate::dependence;
 use peeling::states::DETERMINED;
 use peeling::states::KNOWN;
 use peeling::states::LEFT;
@@ -79,7 +79,7 @@ fn fill_at(
     if states[p] == KNOWN {
         return;
     }
-    if pivots::determined(r, p, plan, words) {
+    if dependence::determined(r, p, plan, words) {
         states[p] = DETERMINED;
         return;
     }

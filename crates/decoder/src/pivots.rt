@@ -2,7 +2,6 @@
 use peeling::peel::Shape;
 use peeling::plan::FIRST_SOLVED;
 use peeling::plan::LAST_PIVOT;
-use peeling::plan::LAST_STEP;
 use peeling::plan::PIVOTS;
 use pivot_equations::express::Rows;
 ghost use mathlib.Core.Path.{_≡_};
@@ -10,9 +9,9 @@ ghost use Prim.Native.Nat.{ℕ, _+_, _*_, _<_, _≤_};
 ghost use lib.ListN.{length};
 ghost use Rattle.elimination.specs.Reduced.{pivotWord};
 ghost use Rattle.peeling.specs.Table.{checks};
-ghost use Rattle.peeling.specs.Plan.{pivotOf, kindOf, Unsolved};
+ghost use Rattle.peeling.specs.Plan.{pivotOf, Unsolved};
 ghost use Rattle.pivot_equations.specs.Express.{Planned};
-ghost use Rattle.decoder.specs.Pivots.{Put, PutRoom, PutOne, AllSolvedIs, NoBitsIs, Readable, DeterminedIs};
+ghost use Rattle.decoder.specs.Pivots.{Put, PutRoom, PutOne, AllSolvedIs};
 
 // Where row steps + i of the reduced rows has a pivot, its symbol is that row's right-hand side.
 fn put_one(
@@ -72,45 +71,4 @@ pub fn all_solved(s: usize, plan: &[u16]) -> bool
         u += 1;
     }
     true
-}
-
-// The row of len words at `at` has no pivot.
-fn no_bits(words: &[u64], at: usize, len: usize) -> bool
-    requires { ⌜ at + len ≤ length (now words) ⌝ }
-    ensures { λ r. ⌜ NoBitsIs (now (words .entry)) at len r ⌝ }
-{
-    let mut all: u64 = 0;
-    let mut i = 0;
-    while i < len {
-        let k = at + i;
-        all = all | words[k];
-        i += 1;
-    }
-    all == 0
-}
-
-// Position p hangs on no free pivot.
-pub fn determined(r: Rows, p: usize, plan: &[u16], words: &[u64]) -> bool
-    requires { ⌜ (r .packed ≤ 48) × ((r .steps + r .rest) * (r .packed + 1) ≤ length (now words)) ⌝ }
-    requires { ⌜ (p < 3072) × (length (now plan) ≡ 9216) ⌝ }
-    requires { ⌜ Readable (now words) (now plan) (r .packed) (r .early) (r .steps + r .rest) p ⌝ }
-    ensures { λ h. ⌜ DeterminedIs (now (words .entry)) (r .packed) (r .early) (kindOf (now (plan .entry)) p) h ⌝ }
-{
-    let packed = r.packed;
-    let early = r.early;
-    let stride = packed + 1;
-    let kind = plan[p] as usize;
-    if kind <= early {
-        return true;
-    }
-    if kind <= LAST_STEP {
-        return no_bits(words, (kind - 1) * stride, packed);
-    }
-    if kind <= LAST_PIVOT {
-        return false;
-    }
-    let h = (kind - FIRST_SOLVED) * stride;
-    let k = h + packed;
-    let u = words[k] as usize;
-    elimination::bits::only(words, h, packed, u - 1)
 }

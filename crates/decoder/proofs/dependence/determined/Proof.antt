@@ -1,4 +1,4 @@
--- `decoder::pivots::determined` meets its contract, by the position's kind.
+-- `decoder::dependence::determined` meets its contract, by the position's kind.
 -- Assumes nothing.
 use mathlib.Core.Path.{refl}
 use Prim.Native.Nat.{ℕ, _+_, _-_, _*_, _<_, _≤_}
@@ -10,8 +10,8 @@ use Rattle.elimination.specs.Reduced.{pivotWord}
 use Rattle.peeling.specs.Plan.{kindOf}
 use Rattle.decoder.proofs.Determined.{determined-early, determined-step, determined-pivot, determined-solved}
 use borrow.Author.Needs.{needs}
-use Rattle.decoder.proofs.pivots.determined.Statement.{statement}
-use Rattle.decoder.proofs.pivots.determined.Tie as tie
+use Rattle.decoder.proofs.dependence.determined.Statement.{statement}
+use Rattle.decoder.proofs.dependence.determined.Tie as tie
 
 abbrev kind : tie.Start → ℕ
 kind c = kindOf (c .args .plan .now) (c .args .p)

@@ -1,4 +1,4 @@
--- `decoder::pivots::no_bits` meets its contract. The invariant: `all` is 0 where each word passed is.
+-- `decoder::dependence::no_bits` meets its contract. The invariant: `all` is 0 where each word passed is.
 -- Assumes nothing.
 use Prim.Native.Nat.{ℕ, _+_, _-_, _^_, _≤_, _<_}
 use mathlib.Core.Path.{_≡_}
@@ -9,8 +9,8 @@ use borrow.Author.Count.{below-more}
 use Rattle.buffers.specs.AllZero.{AllZeroIs}
 use Rattle.buffers.proofs.AllZeroLaws.{all-more, all-done}
 use Rattle.decoder.proofs.Determined.{no-bits}
-use Rattle.decoder.proofs.pivots.no_bits.Statement.{statement}
-use Rattle.decoder.proofs.pivots.no_bits.Tie as tie
+use Rattle.decoder.proofs.dependence.no_bits.Statement.{statement}
+use Rattle.decoder.proofs.dependence.no_bits.Tie as tie
 
 abbrev Inv-loop : tie.InvT-loop
 Inv-loop words at len all₀ i₀ all i = (i ≤ len) × (AllZeroIs words at i (eqb all 0) × ((k : ℕ) → k < i → getD words (at + k) 0 < 2 ^ 64))
