@@ -55,11 +55,12 @@ fn reduce_behind(r: Rows, w: usize, words: &mut [u64], bytes: &mut [u8])
     ensures { λ _. ⌜ Reduced (behind (r .packed) (r .steps) (now (words .exit))) (r .rest) (r .packed) (r .rest) ⌝ }
 {
     let from = r.steps * (r.packed + 1);
+    let rows = r.rest;
     elimination::eliminate(
         &mut words[from..],
         bytes,
         elimination::Shape {
-            rows: r.rest,
+            rows: rows,
             words: r.packed,
             width: w,
         },
