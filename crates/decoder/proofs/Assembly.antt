@@ -21,19 +21,19 @@ use Rattle.decoder.specs.Outcome.{AgreesWith}
 use Rattle.elimination.specs.Consistency.{Consistent, ConsistentIs}
 use Rattle.elimination.specs.Reduced.{pivotWord}
 use Rattle.peeling.specs.Table.{checks}
-use Rattle.peeling.specs.Plan.{free, pivotOf, Plan, Unsolved}
+use Rattle.peeling.specs.Plan.{unusedBelow, pivotOf, Plan, Unsolved}
 use Rattle.peeling.specs.Values.{Peeled, HoldIs, StepsHold}
 use Rattle.peeling.specs.declared.peel.Shape.{Shape}
 use Rattle.decoder.specs.Pivots.{Put, AllSolvedIs, DeterminedIs, Readable}
 use Rattle.pivot_equations.specs.Express.{Planned, Room, Places, StepsExpressed, SameFrom}
 use Rattle.pivot_equations.specs.declared.express.Rows.{Rows}
 use Rattle.decoder.specs.Equations.{behind, RowsRoom, Solvable, PutIn}
-use Rattle.decoder.specs.MissingPositions.{missing, Cleared, FilledMissing, FillRoom, FilledDetermined, Settles, Hangs}
+use Rattle.decoder.specs.MissingPositions.{missing, Cleared, FilledMissing, FillRoom, FilledDetermined, Settles, DependsOnPivot}
 use Rattle.decoder.specs.Outcome.{Stays, Fills, Leaves, Differs, Outcome}
-use Rattle.decoder.proofs.Wholly.{wholly-common, wholly-agrees, wholly-refuted}
-use Rattle.decoder.proofs.Behind.{behind-at, behind-bit}
+use Rattle.decoder.proofs.StepsOnly.{steps-only-common, steps-only-agrees, steps-only-refuted}
+use Rattle.decoder.proofs.RowsBehindSteps.{behind-at, behind-bit}
 use Rattle.decoder.proofs.ReadOff.{Setting, Behind, refuted, behind-below, plan-put, early-holds, places, all-common, confirmed}
-use Rattle.decoder.proofs.InCommon.{reads, reads-here, determined, undetermined}
+use Rattle.decoder.proofs.CommonSymbols.{reads, reads-here, determined, undetermined}
 
 known-state : (states : List ℕ) (i : ℕ) → isKnown states i ≡ true → getD states i 0 ≡ 1
 unfolding isKnown
@@ -120,7 +120,7 @@ module _ (c : Checks) (w : ℕ) (y states s′ m′ : List ℕ) (sy : length y �
       below : (i : ℕ) → i < c .n → i < length states
       below i h = subst (λ (n : ℕ). i < n) (sym sm) h
 
-  -- x agrees, and what hangs on no pivot was filled
+  -- x agrees, and what depends on no pivot was filled
   pub outcome-some : (x : List ℕ) → AgreesWith c w y states x → (words early : ℕ) (l plan : List ℕ) → length x ≡ c .n * w
       → ((p : ℕ) → p < c .n → isKnown states p ≡ false → DeterminedIs l words early (getD plan p 0) true → Common w (AgreesWith c w y states) p)
       → ((p : ℕ) → p < c .n → isKnown states p ≡ false → DeterminedIs l words early (getD plan p 0) false → Differs c w y states x p)
@@ -139,7 +139,7 @@ module _ (c : Checks) (w : ℕ) (y states s′ m′ : List ℕ) (sy : length y �
       below : (i : ℕ) → i < c .n → i < length states
       below i h = subst (λ (n : ℕ). i < n) (sym sm) h
 
-      go : (i : ℕ) → i < c .n → isKnown states i ≡ false → Settles w early words l plan x s′ m′ i ⊎ Hangs w early words l plan s′ m′ i
+      go : (i : ℕ) → i < c .n → isKnown states i ≡ false → Settles w early words l plan x s′ m′ i ⊎ DependsOnPivot w early words l plan s′ m′ i
           → Fills c w y states x s′ m′ i ⊎ (Leaves w s′ m′ i × Differs c w y states x i)
       go i h e (inl S) = inl (record { state = S .state; bytes = S .bytes; common = f i h e (S .determined) })
       go i h e (inr H) = inr (H .leaves, g i h e (H .determined))
@@ -150,13 +150,13 @@ module _ {c : Checks} {w : ℕ} {states plan y : List ℕ} {early steps pivots :
   pub by-steps-no : (r : Bool) → HoldIs c w plan y r → r ≡ false → (s′ m′ : List ℕ) → Cleared w y states s′ m′ (length states) → length s′ ≡ length y → length m′ ≡ length states → Outcome c w y states s′ m′ false
   by-steps-no r H e s′ m′ C es em =
       outcome-no c w y states s′ m′ (L .values .size) sm
-      (wholly-refuted c w y states plan y early steps pivots none (L .made) (L .closed) (L .values) (subst (HoldIs c w plan y) e H)) C es em
+      (steps-only-refuted c w y states plan y early steps pivots none (L .made) (L .closed) (L .values) (subst (HoldIs c w plan y) e H)) C es em
 
   pub by-steps-yes : (r : Bool) → HoldIs c w plan y r → r ≡ true → ((t : ℕ) → getD y t 0 < 256) → (m′ : List ℕ) → FilledMissing states m′ → Outcome c w y states y m′ true
   by-steps-yes r H e bytes m′ F =
       outcome-all c w y states m′ m′ (L .values .size) sm y
-      (wholly-agrees c w y states plan y early steps pivots none (L .made) (L .closed) (L .values) bytes (subst (HoldIs c w plan y) e H))
-      (wholly-common c w y states plan y early steps pivots none (L .made) (L .closed) (L .values)) (L .values .size) F
+      (steps-only-agrees c w y states plan y early steps pivots none (L .made) (L .closed) (L .values) bytes (subst (HoldIs c w plan y) e H))
+      (steps-only-common c w y states plan y early steps pivots none (L .made) (L .closed) (L .values)) (L .values .size) F
 
 -- ---- with pivots: where the rows stand
 
@@ -202,7 +202,7 @@ module _ {c : Checks} {w : ℕ} {states plan y : List ℕ} {r : Rows} {l d : Lis
         system =
             record {
               count = E .count;
-              bits = λ j i h u g. ap (λ (b : Bool). pick b 1) (behind-bit (E .rows) (r .packed) (r .steps) (free plan j) i) ∙ E .rest-rows j i h u g;
+              bits = λ j i h u g. ap (λ (b : Bool). pick b 1) (behind-bit (E .rows) (r .packed) (r .steps) (unusedBelow plan j) i) ∙ E .rest-rows j i h u g;
               sides = E .sums;
             };
         room = G .room .enough;
@@ -216,7 +216,7 @@ module _ {c : Checks} {w : ℕ} {states plan y : List ℕ} {r : Rows} {l d : Lis
   back = record { rows = λ i k h g. sym (behind-at l (r .packed) (r .steps) i k) }
 
   all-rows : r .steps + r .rest ≡ c .m
-  all-rows = omega (arith, G .peeled .made .steps-free, G .equations .count)
+  all-rows = omega (arith, G .peeled .made .steps-unused, G .equations .count)
 
   pub put-asks : (Planned c plan r × Unsolved plan (r .pivots))
       × (((r .packed ≤ 48) × ((r .steps + r .rest ≤ 1024) × ((r .steps + r .rest) * (r .packed + 1) ≤ length l)))
@@ -235,8 +235,8 @@ module _ {c : Checks} {w : ℕ} {states plan y : List ℕ} {r : Rows} {l d : Lis
     planned : Planned c plan′ r
     planned = record { states = states; made = plan-put setting back Q .0; closed = plan-put setting back Q .1 }
 
-    pub again-asks : Planned c plan′ r × ((length between ≡ c .n * w) × StepsHold c w plan′ between (r .early))
-    again-asks = (planned, (Q .symbols-size ∙ G .peeled .values .size, early-holds setting back Q))
+    pub restore-asks : Planned c plan′ r × ((length between ≡ c .n * w) × StepsHold c w plan′ between (r .early))
+    restore-asks = (planned, (Q .symbols-size ∙ G .peeled .values .size, early-holds setting back Q))
 
   module _ (sm : length states ≡ c .n) where
     -- no codeword agrees
@@ -266,26 +266,26 @@ module _ {c : Checks} {w : ℕ} {states plan y : List ℕ} {r : Rows} {l d : Lis
                 positions = omega (arith, sm, p .positions);
               },
               (
-                I .again .size ∙ I .put .symbols-size ∙ G .peeled .values .size ∙ ap (λ (n : ℕ). n * w) (sym sm),
+                I .restored .size ∙ I .put .symbols-size ∙ G .peeled .values .size ∙ ap (λ (n : ℕ). n * w) (sym sm),
                 λ q h e.
                     let k : q < c .n = subst (λ (n : ℕ). q < n) sm h in
                     subst (λ (n : ℕ). Readable l″ plan′ (r .packed) (r .early) n q) (sym all-rows)
-                    (record { reads = reads setting back (I .put) (I .again) X F q k; here = reads-here setting back (I .put) (I .again) X F q k }),
+                    (record { reads = reads setting back (I .put) (I .restored) X F q k; here = reads-here setting back (I .put) (I .restored) X F q k }),
               ),
             )
 
       module _ (K : Consistent (behind (r .packed) (r .steps) l) d (r .rest) (r .packed) w) (bytes : (t : ℕ) → getD x t 0 < 256) where
         agrees : AgreesWith c w y states x
-        agrees = confirmed setting back (I .put) (I .again) bytes K
+        agrees = confirmed setting back (I .put) (I .restored) bytes K
 
         -- every pivot is solved
         pub by-rows-all : (h : Bool) → AllSolvedIs plan′ (r .pivots) h → h ≡ true → (m′ : List ℕ) → FilledMissing states m′ → Outcome c w y states x m′ true
         by-rows-all h A e m′ F =
             outcome-all c w y states m′ m′ (G .peeled .values .size) sm x agrees (all-common setting back (I .put) (subst (AllSolvedIs plan′ (r .pivots)) e A)) (agrees .size) F
 
-        -- some are free: l″ says what hangs on them
+        -- some are free: l″ says what depends on them
         pub by-rows-some : {l″ : List ℕ} → StepsExpressed c plan′ l″ (r .packed) (r .early) (r .steps) → SameFrom l l″ (r .packed) (r .steps) → (s′ m′ : List ℕ)
             → FilledDetermined w (r .early) (r .packed) l″ plan′ x states s′ m′ → Outcome c w y states s′ m′ true
         by-rows-some {l″} X F s′ m′ D =
             outcome-some c w y states s′ m′ (G .peeled .values .size) sm x agrees (r .packed) (r .early) l″ plan′ (agrees .size)
-            (λ p h e. determined setting back (I .put) (I .again) X F p h) (λ p h e. undetermined setting back (I .put) (I .again) X F bytes K p h) D
+            (λ p h e. determined setting back (I .put) (I .restored) X F p h) (λ p h e. undetermined setting back (I .put) (I .restored) X F bytes K p h) D

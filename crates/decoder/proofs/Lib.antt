@@ -2,12 +2,12 @@ pub mod Triangle
 pub mod Solutions
 pub mod Closes
 pub mod OutcomeLaws
-pub mod Wholly
-pub mod Behind
+pub mod StepsOnly
+pub mod RowsBehindSteps
 pub mod ReadOff
-pub mod InCommon
+pub mod CommonSymbols
 pub mod Assembly
 pub mod Determined
-pub mod Putting
+pub mod PivotSymbols
 pub mod Clearing
 pub mod Filling

@@ -22,12 +22,12 @@ use Rattle.elimination.specs.Consistency.{Consistent, Fails}
 use Rattle.elimination.proofs.ConsistencyLaws.{word-pivot}
 use Rattle.elimination.proofs.Order.{lt-or-le, eq-or-ne}
 use Rattle.peeling.specs.Plan.{kindOf, rowOf, positionOf, pivotOf, usedBy, Before, Step, Sort, Plan, Closed, Unsolved}
-use Rattle.peeling.specs.Values.{StepsHold, Values, Again}
+use Rattle.peeling.specs.Values.{StepsHold, Values, StepsRestored}
 use Rattle.pivot_equations.specs.Express.{Places, StepsExpressed}
 use Rattle.decoder.specs.Pivots.{Solved, Free, Put, AllSolvedIs}
 use Rattle.decoder.proofs.Triangle.{sum-single, expressed, plan-triangular}
 use Rattle.peeling.proofs.StepLaws.{few-steps, IsPivot, kind-cases}
-use Rattle.peeling.proofs.UnusedRows.{free-same}
+use Rattle.peeling.proofs.UnusedRows.{unused-same}
 use Rattle.decoder.proofs.Solutions.{System, Along, agreeing-along, agrees-iff, high-absent}
 
 pub clash : {b : Bool} → b ≡ true → b ≡ false → ⊥
@@ -154,7 +154,7 @@ module _ {c : Checks} {w : ℕ} {block states plan y l lr d lr′ d′ : List �
       P = G .made
 
       row-few : (r : ℕ) → r < rest → steps + r < c .m
-      row-few r h = omega (arith, P .steps-free, G .system .count)
+      row-few r h = omega (arith, P .steps-unused, G .system .count)
 
       pub pivot-few : (u : ℕ) → u < pivots → u < 3072
       pivot-few u h = omega (arith, P .positions, P .pivots-few)
@@ -220,7 +220,7 @@ module _ {c : Checks} {w : ℕ} {block states plan y l lr d lr′ d′ : List �
           rows = P .rows;
           early-steps = P .early-steps;
           pivots-few = P .pivots-few;
-          steps-free = ap (λ (x : ℕ). steps + x) (free-same plan plan′ (c .m) (λ j h. table-same (8192 + j) (omega arith))) ∙ P .steps-free;
+          steps-unused = ap (λ (x : ℕ). steps + x) (unused-same plan plan′ (c .m) (λ j h. table-same (8192 + j) (omega arith))) ∙ P .steps-unused;
           known = λ p hp e. kind-same p (omega (arith, P .known p hp e)) ∙ P .known p hp e;
           sort = λ p hp e. sorted p hp (P .sort p hp e);
           step = step-put;
@@ -341,7 +341,7 @@ module _ {c : Checks} {w : ℕ} {block states plan y l lr d lr′ d′ : List �
 
       -- ---- x, with the steps restored, agrees
 
-      module _ {x : List ℕ} (A : Again c w plan′ y′ x early steps) where
+      module _ {x : List ℕ} (A : StepsRestored c w plan′ y′ x early steps) where
         x-pivot : (u b : ℕ) → u < pivots → b < w → byteAt w x b (pivotOf plan u) ≡ byteAt w y′ b (pivotOf plan u)
         x-pivot u b hu hb = A .same (pivotOf plan u) b (P .pivot u hu .position) hb (inr (pivot-kind u hu .0))
 

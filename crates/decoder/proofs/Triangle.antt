@@ -154,7 +154,7 @@ module _ {c : Checks} {states plan : List ℕ} {early steps pivots : ℕ} (P : P
 
       go : Before plan early t p → t′ < t
       go (inl k) = omega (arith, kind)
-      go (inr k) = absurd (omega (arith, kind, P .steps-free, P .rows, k .1 .0))
+      go (inr k) = absurd (omega (arith, kind, P .steps-unused, P .rows, k .1 .0))
 
   pub plan-triangular : Triangular c (isKnown states) steps (rowOf plan) (positionOf plan) pivots (pivotOf plan)
   plan-triangular = record {

@@ -7,8 +7,8 @@ use lib.ListN.{length, drop}
 use Rattle.algebra.specs.Codeword.{Checks}
 use Rattle.elimination.specs.System.{SameSolutions}
 use Rattle.elimination.specs.Reduced.{Reduced}
-use Rattle.peeling.specs.Plan.{free}
-use Rattle.peeling.specs.Values.{Sides, Again, Peeled}
+use Rattle.peeling.specs.Plan.{unusedBelow}
+use Rattle.peeling.specs.Values.{Sides, StepsRestored, Peeled}
 use Rattle.pivot_equations.specs.Express.{StepsExpressed, RestExpressed, Room}
 use Rattle.pivot_equations.specs.declared.express.Rows.{Rows}
 use Rattle.decoder.specs.Pivots.{Put}
@@ -21,7 +21,7 @@ behind words steps l = drop (steps * (words + 1)) l
 pub record Equations (c : Checks) (w : ℕ) (plan symbols : List ℕ) (words early steps rest : ℕ) (l d : List ℕ) : Type 0 where
   pub rows : List ℕ
   pub sides : List ℕ
-  pub count : rest ≡ free plan (c .m)
+  pub count : rest ≡ unusedBelow plan (c .m)
   pub step-rows : StepsExpressed c plan rows words early steps
   pub rest-rows : RestExpressed c plan rows words early steps
   pub sums : Sides c w plan symbols sides
@@ -32,7 +32,7 @@ pub record Equations (c : Checks) (w : ℕ) (plan symbols : List ℕ) (words ear
 pub record PutIn (c : Checks) (w words early steps rest pivots : ℕ) (l d plan symbols plan′ symbols′ : List ℕ) : Type 0 where
   pub between : List ℕ
   pub put : Put c w words steps rest pivots l d plan symbols plan′ between
-  pub again : Again c w plan′ between symbols′ early steps
+  pub restored : StepsRestored c w plan′ between symbols′ early steps
 
 -- the rows and their right-hand sides are within words and bytes of these lengths
 pub record RowsRoom (r : Rows) (w words bytes : ℕ) : Type 0 where

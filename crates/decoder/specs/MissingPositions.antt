@@ -32,21 +32,21 @@ pub record Untouched (w : ℕ) (symbols states symbols′ states′ : List ℕ) 
   pub state : getD states′ i 0 ≡ getD states i 0
   pub bytes : (b : ℕ) → b < w → byteAt w symbols′ b i ≡ byteAt w symbols b i
 
--- position i hangs on no pivot, has state 2 and keeps its symbol
+-- position i depends on no pivot, has state 2 and keeps its symbol
 pub record Settles (w early words : ℕ) (l plan symbols symbols′ states′ : List ℕ) (i : ℕ) : Type 0 where
   pub determined : DeterminedIs l words early (kindOf plan i) true
   pub state : getD states′ i 0 ≡ 2
   pub bytes : (b : ℕ) → b < w → byteAt w symbols′ b i ≡ byteAt w symbols b i
 
--- position i hangs on a pivot and is left
-pub record Hangs (w early words : ℕ) (l plan symbols′ states′ : List ℕ) (i : ℕ) : Type 0 where
+-- position i depends on a pivot and is left
+pub record DependsOnPivot (w early words : ℕ) (l plan symbols′ states′ : List ℕ) (i : ℕ) : Type 0 where
   pub determined : DeterminedIs l words early (kindOf plan i) false
   pub leaves : Leaves w symbols′ states′ i
 
 -- position i is as it was, if known, and else settled or left
 pub record FilledAt (w early words : ℕ) (l plan symbols states symbols′ states′ : List ℕ) (i : ℕ) : Type 0 where
   pub known : isKnown states i ≡ true → Untouched w symbols states symbols′ states′ i
-  pub missing : isKnown states i ≡ false → Settles w early words l plan symbols symbols′ states′ i ⊎ Hangs w early words l plan symbols′ states′ i
+  pub missing : isKnown states i ≡ false → Settles w early words l plan symbols symbols′ states′ i ⊎ DependsOnPivot w early words l plan symbols′ states′ i
 
 -- one position, and no other
 pub record FilledOne (w early words : ℕ) (l plan symbols states symbols′ states′ : List ℕ) (p : ℕ) : Type 0 where

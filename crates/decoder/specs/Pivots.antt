@@ -12,7 +12,7 @@ use Rattle.buffers.specs.Parts.{put}
 use Rattle.elimination.specs.Bits.{rowBit}
 use Rattle.elimination.specs.Reduced.{pivotWord}
 use Rattle.peeling.specs.Plan.{kindOf, pivotOf}
-use Rattle.pivot_equations.specs.Express.{hangs, Reads}
+use Rattle.pivot_equations.specs.Express.{dependsOn, Reads}
 
 -- pivot u is solved: reduced row i has it
 pub record Solved (w words steps rest : ℕ) (l d plan′ symbols′ : List ℕ) (u p : ℕ) : Type 0 where
@@ -41,10 +41,10 @@ abbrev pub AllSolvedIs : List ℕ → ℕ → Bool → Type 0
 AllSolvedIs plan pivots true = (u : ℕ) → u < pivots → 4096 < kindOf plan (pivotOf plan u)
 AllSolvedIs plan pivots false = (u : ℕ) × ((u < pivots) × (kindOf plan (pivotOf plan u) ≤ 4096))
 
--- r is the answer to: does a position of this kind hang on no pivot?
+-- r is the answer to: does a position of this kind depend on no pivot?
 abbrev pub DeterminedIs : List ℕ → ℕ → ℕ → ℕ → Bool → Type 0
-DeterminedIs l words early kind true = (i : ℕ) → i < 64 * words → hangs l words early kind i ≡ false
-DeterminedIs l words early kind false = (i : ℕ) × ((i < 64 * words) × (hangs l words early kind i ≡ true))
+DeterminedIs l words early kind true = (i : ℕ) → i < 64 * words → dependsOn l words early kind i ≡ false
+DeterminedIs l words early kind false = (i : ℕ) × ((i < 64 * words) × (dependsOn l words early kind i ≡ true))
 
 -- row steps + i of l, its right-hand side, and its pivot's place in the plan and in the symbols are within the arrays
 pub record PutRoom (w words steps i : ℕ) (l : List ℕ) (bytes : ℕ) (plan : List ℕ) (symbols : ℕ) : Type 0 where

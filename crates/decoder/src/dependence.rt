@@ -24,7 +24,7 @@ fn no_bits(words: &[u64], at: usize, len: usize) -> bool
     all == 0
 }
 
-// Position p hangs on no free pivot.
+// Position p depends on no free pivot.
 pub fn determined(r: Rows, p: usize, plan: &[u16], words: &[u64]) -> bool
     requires { ⌜ (r .packed ≤ 48) × ((r .steps + r .rest) * (r .packed + 1) ≤ length (now words)) ⌝ }
     requires { ⌜ (p < 3072) × (length (now plan) ≡ 9216) ⌝ }

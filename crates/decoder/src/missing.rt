@@ -61,7 +61,7 @@ pub fn fill_missing(states: &mut [u8])
     }
 }
 
-// Where position p is not known, it gets state 2 if it hangs on no free pivot, and else zero bytes and state 0.
+// Where position p is not known, it gets state 2 if it depends on no free pivot, and else zero bytes and state 0.
 fn fill_at(
     w: usize,
     r: Rows,

@@ -1,5 +1,5 @@
 // From a block's known symbols to the missing symbols that they determine. Peeling settles what it can and puts off the rest as pivots; the check rows
-// that no step used give equations for the pivots; what then hangs on no free pivot is filled.
+// that no step used give equations for the pivots; what then depends on no free pivot is filled.
 use crate::missing;
 use crate::pivots;
 use ccsds::tables;
@@ -7,14 +7,14 @@ use encoder::positions;
 use peeling::peel;
 use peeling::peel::Progress;
 use peeling::peel::Shape;
-use pivot_equations::again;
 use pivot_equations::express;
 use pivot_equations::express::Rows;
 use pivot_equations::remaining;
+use pivot_equations::restore;
 ghost use mathlib.Core.Path.{_≡_};
 ghost use mathlib.Core.Bool.{true};
 ghost use mathlib.Core.List.{List};
-ghost use Prim.Native.Nat.{ℕ, _+_, _*_, _/_, _<_, _≤_};
+ghost use Prim.Native.Nat.{ℕ, _+_, _*_, _/_, _<_};
 ghost use lib.ListN.{length, replicate};
 ghost use Rattle.ccsds.specs.Codes.{nOf, checksOf};
 ghost use Rattle.ccsds.specs.Tables.{codeOf, Known};
@@ -28,7 +28,7 @@ ghost use Rattle.pivot_equations.specs.Express.{StepsExpressed, RestExpressed, 
 ghost use Rattle.decoder.specs.Equations.{behind, RowsRoom, Equations, Solvable, PutIn};
 ghost use Rattle.decoder.specs.Outcome.{Outcome, Decoded};
 
-// Which pivots each step's symbol and each unused check row hangs on.
+// Which pivots each step's symbol and each unused check row depends on.
 fn express_all(
     s: Shape,
     r: Rows,
@@ -108,7 +108,7 @@ fn reduce(
     reduce_behind(r, s.w, words, bytes);
 }
 
-// The pivots' symbols, where a reduced row has the pivot, and then once more those of the steps that hang on pivots.
+// The pivots' symbols, where a reduced row has the pivot, and then once more those of the steps that depend on pivots.
 fn put_in(
     s: Shape,
     r: Rows,
@@ -125,10 +125,10 @@ fn put_in(
     ensures { λ _. ⌜ PutIn (checks s) (s .w) (r .packed) (r .early) (r .steps) (r .rest) (r .pivots) (now (words .entry)) (now (bytes .entry)) (now (plan .entry)) (now (symbols .entry)) (now (plan .exit)) (now (symbols .exit)) ⌝ }
 {
     pivots::put(s, r, words, bytes, plan, symbols);
-    again::again(s, r, firsts, ends, classes, plan, symbols);
+    restore::restore_steps(s, r, firsts, ends, classes, plan, symbols);
 }
 
-// Fills what hangs on no free pivot, where the reduced rows have a solution.
+// Fills what depends on no free pivot, where the reduced rows have a solution.
 fn fill(
     s: Shape,
     r: Rows,

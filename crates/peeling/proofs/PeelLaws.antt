@@ -23,7 +23,7 @@ use Rattle.peeling.specs.Peel.{Opened, SingleIs, NextOpen, State}
 use Rattle.peeling.specs.declared.peel.Progress.{Progress}
 use Rattle.peeling.proofs.PlanLaws.{Settled, Deferred, settled}
 use Rattle.peeling.proofs.StepLaws.{few-steps}
-use Rattle.peeling.proofs.UnusedRows.{free-all, free-same, free-settled, free-some}
+use Rattle.peeling.proofs.UnusedRows.{unused-all, unused-same, unused-settled, unused-some}
 use Rattle.peeling.proofs.RowRest.{sum-rest, rest-inside, rest-ne, row-has}
 use Rattle.peeling.proofs.SymbolLaws.{replaced-other}
 
@@ -172,7 +172,7 @@ module _ {c : Checks} {w : ℕ} {block states plan symbols : List ℕ} {g : Prog
 module _ {c : Checks} {w : ℕ} {block states plan symbols : List ℕ} {g : Progress} {r n i : ℕ} {xs : List ℕ} (S : State c w block states plan symbols g)
     (R : RowOf c r n xs) (hr : r < c .m) (hi : i < n) (one : SingleIs plan xs n i) (un : usedBy plan r ≡ 0) where
   settle-steps : g .steps < c .m
-  settle-steps = omega (arith, S .made .steps-free, free-some plan r (c .m) hr un)
+  settle-steps = omega (arith, S .made .steps-unused, unused-some plan r (c .m) hr un)
 
   settle-alone : (k : ℕ) → k < n → k ≢ i → getD xs k 0 ≢ getD xs i 0
   settle-alone k h d e = one hi .1 k h d (ap (λ (x : ℕ). kindOf plan x) e ∙ one hi .0)
@@ -306,7 +306,7 @@ module _ {c : Checks} {w : ℕ} {block states plan symbols : List ℕ} {g : Prog
                   rows = S .made .rows;
                   early-steps = early-fits S early′ e;
                   pivots-few = S .made .pivots-few;
-                  steps-free = omega (arith, S .made .steps-free, free-settled plan plan′ r (c .m) hr un (T .used) used-same);
+                  steps-unused = omega (arith, S .made .steps-unused, unused-settled plan plan′ r (c .m) hr un (T .used) used-same);
                   known = known-kept S settle-keeps;
                   sort = settle-sort;
                   step = settle-step;
@@ -389,7 +389,7 @@ module _ {c : Checks} {w : ℕ} {block states plan symbols : List ℕ} {g : Prog
       defer-keeps =
           let m = S .made in
           let l = S .pivots-below in
-          let s : g .steps ≤ c .m = omega (arith, m .steps-free) in
+          let s : g .steps ≤ c .m = omega (arith, m .steps-unused) in
           record {
             was = o;
             size = T .size;
@@ -452,7 +452,7 @@ module _ {c : Checks} {w : ℕ} {block states plan symbols : List ℕ} {g : Prog
                   rows = S .made .rows;
                   early-steps = S .made .early-steps;
                   pivots-few = omega (arith, S .pivots-below);
-                  steps-free = omega (arith, S .made .steps-free, free-same plan plan′ (c .m) used-kept);
+                  steps-unused = omega (arith, S .made .steps-unused, unused-same plan plan′ (c .m) used-kept);
                   known = known-kept S defer-keeps;
                   sort = defer-sort;
                   step = λ t h. step-kept S defer-keeps (g .early) t h (λ l. l);
@@ -488,7 +488,7 @@ state-start c w n states plan symbols fuel hn hm e d o =
             rows = hm;
             early-steps = omega arith;
             pivots-few = omega arith;
-            steps-free = omega (arith, free-all plan (c .m) (λ j h. o .unused (8192 + j) (omega arith)));
+            steps-unused = omega (arith, unused-all plan (c .m) (λ j h. o .unused (8192 + j) (omega arith)));
             known = λ p hp h. o .known p (omega arith) h;
             sort = λ p hp m. inl (o .open-kind p (omega arith) m);
             step = λ t h. absurd (omega arith);

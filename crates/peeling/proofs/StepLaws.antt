@@ -17,7 +17,7 @@ IsPivot plan pivots p = (u : ℕ) × ((u < pivots) × (pivotOf plan u ≡ p))
 
 module _ {c : Checks} {states plan : List ℕ} {early steps pivots : ℕ} (made : Plan c states plan early steps pivots) where
   pub few-steps : (steps ≤ c .m) × (steps ≤ 1024)
-  few-steps = (omega (arith, made .steps-free), omega (arith, made .steps-free, made .rows))
+  few-steps = (omega (arith, made .steps-unused), omega (arith, made .steps-unused, made .rows))
 
   -- the rows of earlier steps don't have the position of step t
   pub step-apart : (t i : ℕ) → t < steps → i < t → (x : ℕ) → x < c .n → c .has (rowOf plan i) x ≡ true → x ≢ positionOf plan t

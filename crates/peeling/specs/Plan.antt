@@ -33,9 +33,9 @@ abbrev pub usedBy : List ℕ → ℕ → ℕ
 usedBy plan j = getD plan (8192 + j) 0
 
 -- how many of the check rows below j no step used; of an unused row, its number among these
-unfoldable pub free : List ℕ → ℕ → ℕ
-free plan zero = 0
-free plan (suc j) = cond (eqb (usedBy plan j) 0) (suc (free plan j)) (free plan j)
+unfoldable pub unusedBelow : List ℕ → ℕ → ℕ
+unusedBelow plan zero = 0
+unusedBelow plan (suc j) = cond (eqb (usedBy plan j) 0) (suc (unusedBelow plan j)) (unusedBelow plan j)
 
 -- position p is closed before step t: known, settled by an earlier step, or, from step `early` on, a pivot
 abbrev pub Before : List ℕ → ℕ → ℕ → ℕ → Type 0
@@ -66,7 +66,7 @@ pub record Plan (c : Checks) (states plan : List ℕ) (early steps pivots : ℕ)
   pub rows : c .m ≤ 1024
   pub early-steps : early ≤ steps
   pub pivots-few : pivots ≤ c .n
-  pub steps-free : steps + free plan (c .m) ≡ c .m
+  pub steps-unused : steps + unusedBelow plan (c .m) ≡ c .m
   pub known : (p : ℕ) → p < c .n → isKnown states p ≡ true → kindOf plan p ≡ 0
   pub sort : (p : ℕ) → p < c .n → isKnown states p ≡ false → Sort plan steps pivots p
   pub step : (t : ℕ) → t < steps → Step c states plan early t

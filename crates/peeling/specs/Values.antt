@@ -9,7 +9,7 @@ use lib.ListN.{length, getD}
 use Rattle.algebra.specs.Sums.{sum}
 use Rattle.algebra.specs.Codeword.{Checks, byteAt}
 use Rattle.peeling.specs.States.{isKnown}
-use Rattle.peeling.specs.Plan.{kindOf, pivotOf, rowOf, usedBy, free, Plan, Closed, Unsolved}
+use Rattle.peeling.specs.Plan.{kindOf, pivotOf, rowOf, usedBy, unusedBelow, Plan, Closed, Unsolved}
 
 -- check row j's sum over the symbols, in byte b of each
 abbrev pub rowSum : Checks → ℕ → List ℕ → ℕ → ℕ → ℕ
@@ -35,7 +35,7 @@ pub record Peeled (c : Checks) (w : ℕ) (block states plan symbols : List ℕ) 
   pub begun : pivots ≡ 0 → early ≡ steps
 
 -- the positions of the steps from `early` on have new symbols, so that all steps' rows hold
-pub record Again (c : Checks) (w : ℕ) (plan symbols symbols′ : List ℕ) (early steps : ℕ) : Type 0 where
+pub record StepsRestored (c : Checks) (w : ℕ) (plan symbols symbols′ : List ℕ) (early steps : ℕ) : Type 0 where
   pub size : length symbols′ ≡ length symbols
   pub same : (p b : ℕ) → p < c .n → b < w → (kindOf plan p ≤ early) ⊎ (1024 < kindOf plan p) → byteAt w symbols′ b p ≡ byteAt w symbols b p
   pub holds : StepsHold c w plan symbols′ steps
@@ -47,4 +47,4 @@ HoldIs c w plan symbols false = (j : ℕ) × ((b : ℕ) × ((j < c .m) × ((used
 
 -- the sums of the check rows that no step used stand one after the other
 abbrev pub Sides : Checks → ℕ → List ℕ → List ℕ → List ℕ → Type 0
-Sides c w plan symbols d = (j b : ℕ) → j < c .m → usedBy plan j ≡ 0 → b < w → getD d (free plan j * w + b) 0 ≡ rowSum c w symbols j b
+Sides c w plan symbols d = (j b : ℕ) → j < c .m → usedBy plan j ≡ 0 → b < w → getD d (unusedBelow plan j * w + b) 0 ≡ rowSum c w symbols j b

@@ -2,29 +2,29 @@
 -- Assumes nothing.
 use mathlib.Core.Path.{_≡_, refl, sym, ap, ap₂, _∙_}
 use mathlib.Core.Logic.{_⊎_, inl, inr, _≢_, ⊎-elim}
-use mathlib.Core.Bool.{Bool, true, false, cond, not, _&&_}
+use mathlib.Core.Bool.{Bool, true, false, cond}
 use mathlib.Core.List.{List}
 use Prim.Native.Nat.{ℕ, _+_, _-_, _*_, _<_, _≤_}
 use native.Mathlib.Nat.{eq-or-lt-of-le, mul-le-mul-right}
 use native.Mathlib.Omega.{arith}
-use borrow.Author.Tests.{eq-eqb, ne-eqb, eqb-true, eqb-false}
+use borrow.Author.Tests.{ne-eqb, eqb-false}
 use lib.Dec.{eqb}
 use Rattle.algebra.specs.Sums.{_⊕_, pick, sum}
 use Rattle.algebra.specs.Codeword.{Checks}
 use Rattle.peeling.specs.States.{isKnown}
-use Rattle.algebra.proofs.Sums.{self, sum-cong, sum-terms, sum-ext, sum-zeros, sum-only, sum-split}
+use Rattle.algebra.proofs.Sums.{self, sum-cong, sum-ext, sum-zeros}
 use Rattle.algebra.proofs.Codeword.{slot}
-use Rattle.algebra.proofs.Lists.{and-iff}
 use Rattle.elimination.specs.Bits.{rowBit}
 use Rattle.elimination.specs.Reduced.{pivotWord}
 use Rattle.elimination.proofs.Order.{eq-or-ne}
 use Rattle.elimination.proofs.ColumnLaws.{cond-elim}
-use Rattle.peeling.specs.Plan.{kindOf, pivotOf, rowOf, positionOf, usedBy, free, Step, Plan, Closed, Unsolved}
-use Rattle.pivot_equations.specs.Express.{hang, Reads, OnlyRow, RowIs, Places, StepsExpressed, SameFrom, SameBelow, ReadsAll, RestTo}
+use Rattle.peeling.specs.Plan.{kindOf, pivotOf, rowOf, positionOf, usedBy, unusedBelow, Step, Plan, Closed, Unsolved}
+use Rattle.pivot_equations.specs.Express.{coefficient, Reads, OnlyRow, RowIs, Places, StepsExpressed, SameFrom, SameBelow, ReadsAll, RestTo}
 use Rattle.peeling.proofs.StepLaws.{few-steps, step-apart}
-use Rattle.peeling.proofs.UnusedRows.{free-below}
-use Rattle.pivot_equations.proofs.RowChanges.{bit-other, hangs-same}
-use Rattle.pivot_equations.proofs.Hanging.{hangs-none, hangs-step}
+use Rattle.peeling.proofs.UnusedRows.{unused-below}
+use Rattle.pivot_equations.proofs.SumWithout.{without, sum-without}
+use Rattle.pivot_equations.proofs.RowChanges.{bit-other, depends-same}
+use Rattle.pivot_equations.proofs.Dependence.{depends-none, depends-step}
 
 -- ---- rows that stay
 
@@ -65,15 +65,6 @@ reads-rows e r = rw e r
 
 reads-none : {l : List ℕ} {words early rows t : ℕ} → Reads l words early rows t 0
 reads-none = record { step = λ h g. absurd (omega arith); pivot = λ h g. absurd (omega arith); solved = λ h. absurd (omega arith) }
-
--- in a sum over a check row, a position other than p, and p itself
-but-other : (a : Bool) (u v : ℕ) → u ≡ v → pick (a && true) u ≡ pick a v
-but-other true u v e = e
-but-other false u v e = refl
-
-but-own : (a : Bool) (u : ℕ) → pick (a && false) u ≡ pick a 0
-but-own true u = refl
-but-own false u = refl
 
 module _ {c : Checks} {states plan : List ℕ} {early steps pivots : ℕ} (made : Plan c states plan early steps pivots) (closed : Closed c plan) where
   -- a position is known, settled or put off
@@ -125,14 +116,12 @@ module _ {c : Checks} {states plan : List ℕ} {early steps pivots : ℕ} (made 
 
     -- the new row t makes its step hold
     step-holds : {l′ : List ℕ} → early ≤ t → t < steps → RowIs c plan l l′ words early t (rowOf plan t) (positionOf plan t)
-        → (i : ℕ) → i < 64 * words → sum (c .has (rowOf plan t)) (λ x. hang plan l′ words early x i) (c .n) ≡ 0
+        → (i : ℕ) → i < 64 * words → sum (c .has (rowOf plan t)) (λ x. coefficient plan l′ words early x i) (c .n) ≡ 0
     step-holds {l′} late h row i hi =
-        sum-split a (λ x. eqb x p) (λ x. hang plan l′ words early x i) (c .n)
+        sum-without a (λ x. coefficient plan l′ words early x i) p (c .n) (s .position) (s .has)
         ∙ ap₂ _⊕_
-        (sum-terms (λ x. a x && not (eqb x p)) a (λ x. hang plan l′ words early x i) (λ x. cond (eqb x p) 0 (hang plan l words early x i)) (c .n)
-        (λ x g. others x g (eqb x p) refl) ∙ sym (row .bits i hi))
-        (sum-only (λ x. a x && eqb x p) (λ x. hang plan l′ words early x i) p (c .n) (s .position) (ap₂ _&&_ (s .has) (eq-eqb p p refl))
-        (λ x g e. eqb-true x p (and-iff (a x) (eqb x p) .0 e .1)) ∙ own)
+        (sum-ext a (without p (λ x. coefficient plan l′ words early x i)) (without p (λ x. coefficient plan l words early x i)) (c .n) (λ x g. others x g (eqb x p) refl) ∙ sym (row .bits i hi))
+        own
         ∙ self (pick (rowBit l′ (t * (words + 1)) i) 1)
       where
         s : Step c states plan early t
@@ -144,25 +133,23 @@ module _ {c : Checks} {states plan : List ℕ} {early steps pivots : ℕ} (made 
         a : ℕ → Bool
         a = c .has (rowOf plan t)
 
-        others : (x : ℕ) → x < c .n → (b : Bool) → eqb x p ≡ b → pick (a x && not b) (hang plan l′ words early x i) ≡ pick (a x) (cond b 0 (hang plan l words early x i))
-        others x g true e = but-own (a x) (hang plan l′ words early x i)
-        others x g false e =
-            but-other (a x) (hang plan l′ words early x i) (hang plan l words early x i)
-            (ap (λ (b : Bool). pick b 1) (hangs-same (row .only) (other-step h x g (eqb-false x p e)) i hi))
+        others : (x : ℕ) → x < c .n → (b : Bool) → eqb x p ≡ b → cond b 0 (coefficient plan l′ words early x i) ≡ cond b 0 (coefficient plan l words early x i)
+        others x g true e = refl
+        others x g false e = ap (λ (b : Bool). pick b 1) (depends-same (row .only) (other-step h x g (eqb-false x p e)) i hi)
 
-        own : hang plan l′ words early p i ≡ pick (rowBit l′ (t * (words + 1)) i) 1
+        own : coefficient plan l′ words early p i ≡ pick (rowBit l′ (t * (words + 1)) i) 1
         own =
             let k = s .kind in
             let e : kindOf plan p - 1 ≡ t = omega arith in
-            ap (λ (b : Bool). pick b 1) (hangs-step l′ words early (kindOf plan p) i (omega arith) (omega (arith, few-steps made .1)))
+            ap (λ (b : Bool). pick b 1) (depends-step l′ words early (kindOf plan p) i (omega arith) (omega (arith, few-steps made .1)))
             ∙ ap (λ (r : ℕ). pick (rowBit l′ (r * (words + 1)) i) 1) e
 
     -- and the steps before it hold as they did
     step-kept : {l′ : List ℕ} → OnlyRow l l′ words t → t < steps → (s : ℕ) → s < t → (i : ℕ) → i < 64 * words
-        → sum (c .has (rowOf plan s)) (λ x. hang plan l words early x i) (c .n) ≡ 0 → sum (c .has (rowOf plan s)) (λ x. hang plan l′ words early x i) (c .n) ≡ 0
+        → sum (c .has (rowOf plan s)) (λ x. coefficient plan l words early x i) (c .n) ≡ 0 → sum (c .has (rowOf plan s)) (λ x. coefficient plan l′ words early x i) (c .n) ≡ 0
     step-kept {l′} only h s hs i hi e =
-        sum-cong (c .has (rowOf plan s)) (c .has (rowOf plan s)) (λ x. hang plan l′ words early x i) (λ x. hang plan l words early x i) (c .n) (λ x g. refl)
-        (λ x g on. ap (λ (b : Bool). pick b 1) (hangs-same only (other-step h x g (step-apart made t s h hs x g on)) i hi))
+        sum-cong (c .has (rowOf plan s)) (c .has (rowOf plan s)) (λ x. coefficient plan l′ words early x i) (λ x. coefficient plan l words early x i) (c .n) (λ x g. refl)
+        (λ x g on. ap (λ (b : Bool). pick b 1) (depends-same only (other-step h x g (step-apart made t s h hs x g on)) i hi))
         ∙ e
 
     pub steps-more : {l′ : List ℕ} → early ≤ t → t < steps → RowIs c plan l l′ words early t (rowOf plan t) (positionOf plan t)
@@ -171,11 +158,11 @@ module _ {c : Checks} {states plan : List ℕ} {early steps pivots : ℕ} (made 
         ⊎-elim (λ e. rw e (step-holds late h row i hi)) (λ lt. step-kept (row .only) h s lt i hi (done s i lt hi))
         (eq-or-lt-of-le (let g : s ≤ t = omega arith in g))
 
-  -- before step `early` no position hangs on a pivot
+  -- before step `early` no position depends on a pivot
   pub steps-none : (l : List ℕ) (words : ℕ) → StepsExpressed c plan l words early early
   steps-none l words t i h hi =
-      sum-cong (c .has (rowOf plan t)) (c .has (rowOf plan t)) (λ x. hang plan l words early x i) (λ x. 0) (c .n) (λ x g. refl)
-      (λ x g on. ap (λ (b : Bool). pick b 1) (hangs-none l words early (kindOf plan x) i (low x g on)))
+      sum-cong (c .has (rowOf plan t)) (c .has (rowOf plan t)) (λ x. coefficient plan l words early x i) (λ x. 0) (c .n) (λ x g. refl)
+      (λ x g on. ap (λ (b : Bool). pick b 1) (depends-none l words early (kindOf plan x) i (low x g on)))
       ∙ sum-zeros (c .has (rowOf plan t)) (c .n)
     where
       s : Step c states plan early t
@@ -204,8 +191,8 @@ module _ {c : Checks} {states plan : List ℕ} {early steps pivots : ℕ} (made 
   places-any l l′ words rows places x h g = (places x h g .0, λ k. absurd (omega (arith, unsolved-kind x h)))
 
   -- row t is that of check row j
-  pub rest-below : (j : ℕ) → j < c .m → usedBy plan j ≡ 0 → steps + free plan j < c .m
-  rest-below j h e = omega (arith, free-below plan j (c .m) h e, made .steps-free)
+  pub rest-below : (j : ℕ) → j < c .m → usedBy plan j ≡ 0 → steps + unusedBelow plan j < c .m
+  rest-below j h e = omega (arith, unused-below plan j (c .m) h e, made .steps-unused)
 
   module _ {l : List ℕ} {words t : ℕ} (places : Places c plan l words steps (c .m)) where
     reads-other : steps ≤ t → (x : ℕ) → x < c .n → Reads l words early (c .m) t (kindOf plan x)
@@ -216,24 +203,24 @@ module _ {c : Checks} {states plan : List ℕ} {early steps pivots : ℕ} (made 
       each = λ x g. cond-elim (λ (k : ℕ). Reads l words early (c .m) t k) (eqb x 3072) 0 (kindOf plan x) (λ e. reads-none) (λ ne. reads-other h x g);
     }
 
-    pub rest-more : {l′ : List ℕ} (j : ℕ) → t ≡ steps + free plan j → usedBy plan j ≡ 0 → RowIs c plan l l′ words early t j 3072
+    pub rest-more : {l′ : List ℕ} (j : ℕ) → t ≡ steps + unusedBelow plan j → usedBy plan j ≡ 0 → RowIs c plan l l′ words early t j 3072
         → RestTo c plan l words early steps j → RestTo c plan l′ words early steps (j + 1)
     rest-more {l′} j e unused row done k i h z hi =
         ⊎-elim (λ q. rw q here) before (eq-or-lt-of-le (let g : k ≤ j = omega arith in g))
       where
-        same : (x : ℕ) → x < c .n → hang plan l words early x i ≡ hang plan l′ words early x i
-        same x g = ap (λ (b : Bool). pick b 1) (sym (hangs-same (row .only) (reads-other (omega arith) x g) i hi))
+        same : (x : ℕ) → x < c .n → coefficient plan l words early x i ≡ coefficient plan l′ words early x i
+        same x g = ap (λ (b : Bool). pick b 1) (sym (depends-same (row .only) (reads-other (omega arith) x g) i hi))
 
-        here : pick (rowBit l′ ((steps + free plan j) * (words + 1)) i) 1 ≡ sum (c .has j) (λ x. hang plan l′ words early x i) (c .n)
+        here : pick (rowBit l′ ((steps + unusedBelow plan j) * (words + 1)) i) 1 ≡ sum (c .has j) (λ x. coefficient plan l′ words early x i) (c .n)
         here =
             ap (λ (r : ℕ). pick (rowBit l′ (r * (words + 1)) i) 1) (sym e) ∙ row .bits i hi
-            ∙ sum-ext (c .has j) (λ x. cond (eqb x 3072) 0 (hang plan l words early x i)) (λ x. hang plan l′ words early x i) (c .n)
-            (λ x g. ap (λ (b : Bool). cond b 0 (hang plan l words early x i)) (ne-eqb x 3072 (λ q. omega (arith, made .positions))) ∙ same x g)
+            ∙ sum-ext (c .has j) (λ x. cond (eqb x 3072) 0 (coefficient plan l words early x i)) (λ x. coefficient plan l′ words early x i) (c .n)
+            (λ x g. ap (λ (b : Bool). cond b 0 (coefficient plan l words early x i)) (ne-eqb x 3072 (λ q. omega (arith, made .positions))) ∙ same x g)
 
-        before : k < j → pick (rowBit l′ ((steps + free plan k) * (words + 1)) i) 1 ≡ sum (c .has k) (λ x. hang plan l′ words early x i) (c .n)
+        before : k < j → pick (rowBit l′ ((steps + unusedBelow plan k) * (words + 1)) i) 1 ≡ sum (c .has k) (λ x. coefficient plan l′ words early x i) (c .n)
         before lt =
-            ap (λ (b : Bool). pick b 1) (bit-other (row .only) (steps + free plan k) i (λ q. omega (arith, free-below plan k j lt z)) hi) ∙ done k i lt z hi
-            ∙ sum-ext (c .has k) (λ x. hang plan l words early x i) (λ x. hang plan l′ words early x i) (c .n) same
+            ap (λ (b : Bool). pick b 1) (bit-other (row .only) (steps + unusedBelow plan k) i (λ q. omega (arith, unused-below plan k j lt z)) hi) ∙ done k i lt z hi
+            ∙ sum-ext (c .has k) (λ x. coefficient plan l words early x i) (λ x. coefficient plan l′ words early x i) (c .n) same
 
 -- a used row has none
 pub rest-skip : (c : Checks) (plan l : List ℕ) (words early steps j : ℕ) → usedBy plan j ≢ 0 → RestTo c plan l words early steps j → RestTo c plan l words early steps (j + 1)

@@ -1,4 +1,5 @@
-pub mod Hanging
+pub mod SumWithout
+pub mod Dependence
 pub mod RowChanges
 pub mod RowSums
 pub mod Expressed

@@ -2,7 +2,7 @@
 -- Assumes nothing.
 use mathlib.Core.Path.{_≡_, refl, sym, ap, ap₂, _∙_, subst}
 use mathlib.Core.Logic.{_⊎_, _≢_, ⊎-elim}
-use mathlib.Core.Bool.{Bool, true, false, not, _&&_, cond}
+use mathlib.Core.Bool.{Bool, true, false, cond}
 use mathlib.Core.List.{List}
 use Prim.Native.Nat.{ℕ, _+_, _*_, _<_, _≤_}
 use native.Mathlib.Nat.{not-suc-le-zero, le-refl}
@@ -12,23 +12,19 @@ use native.Mathlib.Omega.{arith}
 use lib.Dec.{eqb}
 use lib.ListN.{length, getD, set, length-set}
 use lib.Seq.{getD-set-same, getD-set-other}
-use borrow.Author.Tests.{eq-eqb, ne-eqb, eqb-true, eqb-false}
-use Rattle.algebra.specs.Sums.{_⊕_, pick, sum}
+use borrow.Author.Tests.{eq-eqb, ne-eqb, eqb-false}
+use Rattle.algebra.specs.Sums.{_⊕_, sum}
 use Rattle.algebra.specs.Codeword.{Checks, byteAt}
 use Rattle.algebra.proofs.Sums as sums
-use Rattle.algebra.proofs.Lists.{and-iff}
 use Rattle.symbol_sums.specs.Gather.{gathered, Inside, Replaced}
 use Rattle.encoder.specs.inner.Positions.{RowOf}
 use Rattle.peeling.specs.Plan.{kindOf, rowOf, positionOf, Step, Plan}
-use Rattle.peeling.specs.Values.{rowSum, StepsHold, Again}
+use Rattle.peeling.specs.Values.{rowSum, StepsHold, StepsRestored}
 use Rattle.pivot_equations.specs.Unused.{Others}
 use Rattle.peeling.proofs.StepLaws.{few-steps, step-apart}
 use Rattle.peeling.proofs.SymbolLaws.{replaced-other}
 use Rattle.peeling.proofs.CodeSizes.{row-inside}
-
--- f, and 0 at p
-abbrev without : ℕ → (ℕ → ℕ) → ℕ → ℕ
-without p f x = cond (eqb x p) 0 (f x)
+use Rattle.pivot_equations.proofs.SumWithout.{without, sum-without}
 
 -- ---- the numbers other than p
 
@@ -121,19 +117,6 @@ module _ {c : Checks} {j n k p : ℕ} {xs xs′ : List ℕ} (r : RowOf c j n xs)
 
 -- ---- a symbol that was replaced
 
--- a sum by one of its positions and the others
-sum-without : (a : ℕ → Bool) (f : ℕ → ℕ) (p n : ℕ) → p < n → a p ≡ true → sum a f n ≡ sum a (without p f) n ⊕ f p
-sum-without a f p n l t =
-    sums.sum-split a (λ x. eqb x p) f n
-    ∙ ap₂ _⊕_
-    (sums.sum-terms (λ x. a x && not (eqb x p)) a f (without p f) n (λ x h. left (a x) (eqb x p) (f x)))
-    (sums.sum-only (λ x. a x && eqb x p) f p n l (ap₂ _&&_ t (eq-eqb p p refl)) (λ x h e. eqb-true x p (and-iff (a x) (eqb x p) .0 e .1)))
-  where
-    left : (b e : Bool) (v : ℕ) → pick (b && not e) v ≡ pick b (cond e 0 v)
-    left true true v = refl
-    left true false v = refl
-    left false e v = refl
-
 module _ (c : Checks) (w j p : ℕ) {s s′ : List ℕ} (h : Replaced (λ b. sum (c .has j) (without p (byteAt w s b)) (c .n)) w p s s′) where
   -- the row by which it was restored adds up to zero
   restored-row : p < c .n → c .has j p ≡ true → (b : ℕ) → b < w → rowSum c w s′ j b ≡ 0
@@ -153,12 +136,12 @@ module _ (c : Checks) (w j p : ℕ) {s s′ : List ℕ} (h : Replaced (λ b. sum
 -- ---- step after step
 
 module _ (c : Checks) (w : ℕ) {states plan : List ℕ} {early steps pivots : ℕ} (made : Plan c states plan early steps pivots) where
-  pub again-none : {s : List ℕ} → StepsHold c w plan s early → Again c w plan s s early early
-  again-none h = record { size = refl; same = λ p b l g k. refl; holds = h }
+  pub restored-none : {s : List ℕ} → StepsHold c w plan s early → StepsRestored c w plan s s early early
+  restored-none h = record { size = refl; same = λ p b l g k. refl; holds = h }
 
-  pub again-more : {s₀ s s′ : List ℕ} {t : ℕ} → early ≤ t → t < steps → Again c w plan s₀ s early t
-      → Replaced (λ b. sum (c .has (rowOf plan t)) (without (positionOf plan t) (byteAt w s b)) (c .n)) w (positionOf plan t) s s′ → Again c w plan s₀ s′ early (t + 1)
-  again-more {s₀} {s} {s′} {t} el h a r = record { size = r .size ∙ a .size; same = same; holds = holds }
+  pub restored-more : {s₀ s s′ : List ℕ} {t : ℕ} → early ≤ t → t < steps → StepsRestored c w plan s₀ s early t
+      → Replaced (λ b. sum (c .has (rowOf plan t)) (without (positionOf plan t) (byteAt w s b)) (c .n)) w (positionOf plan t) s s′ → StepsRestored c w plan s₀ s′ early (t + 1)
+  restored-more {s₀} {s} {s′} {t} el h a r = record { size = r .size ∙ a .size; same = same; holds = holds }
     where
       own : Step c states plan early t
       own = made .step t h
@@ -178,5 +161,5 @@ module _ (c : Checks) (w : ℕ) {states plan : List ℕ} {early steps pivots : �
               let q : i ≡ t = omega arith in
               ap (λ (y : ℕ). rowSum c w s′ (rowOf plan y) b) q ∙ restored-row c w (rowOf plan t) (positionOf plan t) r (own .position) (own .has) b g
 
-  pub again-all : {s₀ s : List ℕ} {t : ℕ} → Again c w plan s₀ s early t → t ≡ steps → Again c w plan s₀ s early steps
-  again-all {s₀} {s} a e = subst (λ (k : ℕ). Again c w plan s₀ s early k) e a
+  pub restored-all : {s₀ s : List ℕ} {t : ℕ} → StepsRestored c w plan s₀ s early t → t ≡ steps → StepsRestored c w plan s₀ s early steps
+  restored-all {s₀} {s} a e = subst (λ (k : ℕ). StepsRestored c w plan s₀ s early k) e a

@@ -1,4 +1,4 @@
--- What changes where one row of specs/Express.antt changes, and what a position hangs on then.
+-- What changes where one row of specs/Express.antt changes, and what a position depends on then.
 -- Assumes nothing.
 use mathlib.Core.Path.{_≡_, refl, sym, ap, ap₂, _∙_}
 use mathlib.Core.Logic.{_⊎_, inl, inr, _≢_, ⊎-elim}
@@ -18,8 +18,8 @@ use Rattle.elimination.specs.Reduced.{pivotWord}
 use Rattle.elimination.proofs.Order.{lt-or-le, eq-or-ne}
 use Rattle.elimination.proofs.Digits.{testBit-xor, testBit-pow}
 use Rattle.elimination.proofs.ColumnLaws.{rows-beside}
-use Rattle.pivot_equations.specs.Express.{hangs, Reads, OnlyRow, Added, flipRowBit}
-use Rattle.pivot_equations.proofs.Hanging.{hangs-none, hangs-step, hangs-pivot, hangs-solved}
+use Rattle.pivot_equations.specs.Express.{dependsOn, Reads, OnlyRow, Added, flipRowBit}
+use Rattle.pivot_equations.proofs.Dependence.{depends-none, depends-step, depends-pivot, depends-solved}
 
 -- ---- tests
 
@@ -128,10 +128,10 @@ row-flipped l words t u fit h = record {
   bits = λ i g. flip-bit l (t * (words + 1)) u (omega arith) i;
 }
 
--- ---- what a position of a kind hangs on
+-- ---- what a position of a kind depends on
 
 -- row t has a position of a kind added
-pub added-kind : {l l′ : List ℕ} {words early t kind : ℕ} {f : ℕ → Bool} → Changed l l′ words t f → ((i : ℕ) → hangs l words early kind i ≡ f i)
+pub added-kind : {l l′ : List ℕ} {words early t kind : ℕ} {f : ℕ → Bool} → Changed l l′ words t f → ((i : ℕ) → dependsOn l words early kind i ≡ f i)
     → Added l l′ words early t kind
 added-kind {l} {words} {t} a same = record {
   only = a .only;
@@ -140,10 +140,10 @@ added-kind {l} {words} {t} a same = record {
 
 module _ (l : List ℕ) {l′ : List ℕ} (words early rows t kind : ℕ) (fit : t * (words + 1) + (words + 1) ≤ length l) (r : Reads l words early rows t kind) where
   pub add-step : early < kind → kind ≤ 1024 → l′ ≡ added l (t * (words + 1)) l ((kind - 1) * (words + 1)) words → Added l l′ words early t kind
-  add-step h g e = rw e (added-kind (row-added l words t (kind - 1) fit) (λ i. hangs-step l words early kind i h g))
+  add-step h g e = rw e (added-kind (row-added l words t (kind - 1) fit) (λ i. depends-step l words early kind i h g))
 
   pub add-pivot : early < kind → 1024 < kind → kind ≤ 4096 → l′ ≡ flipRowBit l (t * (words + 1)) (kind - 1025) → Added l l′ words early t kind
-  add-pivot h g k e = rw e (added-kind (row-flipped l words t (kind - 1025) fit (r .pivot g k)) (λ i. hangs-pivot l words early kind i (kind - 1025) h (omega arith) (omega arith)))
+  add-pivot h g k e = rw e (added-kind (row-flipped l words t (kind - 1025) fit (r .pivot g k)) (λ i. depends-pivot l words early kind i (kind - 1025) h (omega arith) (omega arith)))
 
   pub add-solved : {l″ : List ℕ} → early < kind → 4096 < kind → l″ ≡ added l (t * (words + 1)) l ((kind - 4097) * (words + 1)) words
       → l′ ≡ flipRowBit l″ (t * (words + 1)) (pivotWord l words (kind - 4097) - 1) → Added l l′ words early t kind
@@ -153,10 +153,10 @@ module _ (l : List ℕ) {l′ : List ℕ} (words early rows t kind : ℕ) (fit :
       let s = r .solved k .1 .1 in
       let two : Changed l″ l′ words t (λ i. eqb i (pivotWord l words (kind - 4097) - 1)) =
       rw f (row-flipped l″ words t (pivotWord l words (kind - 4097) - 1) (omega arith) (omega arith)) in
-      added-kind (changed-more one two) (λ i. hangs-solved l words early kind i (kind - 4097) (pivotWord l words (kind - 4097) - 1) h (omega arith) refl)
+      added-kind (changed-more one two) (λ i. depends-solved l words early kind i (kind - 4097) (pivotWord l words (kind - 4097) - 1) h (omega arith) refl)
 
 pub add-none : {l : List ℕ} {words early t kind : ℕ} → kind ≤ early → Added l l words early t kind
-add-none {l} {words} {early} {kind} h = added-kind changed-none (λ i. hangs-none l words early kind i h)
+add-none {l} {words} {early} {kind} h = added-kind changed-none (λ i. depends-none l words early kind i h)
 
 -- where row t is not read, its changes change nothing
 module _ {l l′ : List ℕ} {words early rows t kind : ℕ} (only : OnlyRow l l′ words t) (r : Reads l words early rows t kind) where
@@ -170,21 +170,21 @@ module _ {l l′ : List ℕ} {words early rows t kind : ℕ} (only : OnlyRow l l
     solved = λ h. let s = r .solved h in (s .0, (s .1 .0, rw (same-word h) (s .1 .1)));
   }
 
-  pub hangs-same : (i : ℕ) → i < 64 * words → hangs l′ words early kind i ≡ hangs l words early kind i
-  hangs-same i h =
+  pub depends-same : (i : ℕ) → i < 64 * words → dependsOn l′ words early kind i ≡ dependsOn l words early kind i
+  depends-same i h =
       ⊎-elim (λ some. ⊎-elim (high some) (low some) (lt-or-le 1024 kind))
-      (λ none. hangs-none l′ words early kind i none ∙ sym (hangs-none l words early kind i none)) (lt-or-le early kind)
+      (λ none. depends-none l′ words early kind i none ∙ sym (depends-none l words early kind i none)) (lt-or-le early kind)
     where
-      low : early < kind → kind ≤ 1024 → hangs l′ words early kind i ≡ hangs l words early kind i
+      low : early < kind → kind ≤ 1024 → dependsOn l′ words early kind i ≡ dependsOn l words early kind i
       low some g =
-          hangs-step l′ words early kind i some g ∙ bit-other only (kind - 1) i (r .step some g .0) h
-          ∙ sym (hangs-step l words early kind i some g)
+          depends-step l′ words early kind i some g ∙ bit-other only (kind - 1) i (r .step some g .0) h
+          ∙ sym (depends-step l words early kind i some g)
 
-      high : early < kind → 1024 < kind → hangs l′ words early kind i ≡ hangs l words early kind i
+      high : early < kind → 1024 < kind → dependsOn l′ words early kind i ≡ dependsOn l words early kind i
       high some g =
           ⊎-elim
-          (λ s. hangs-solved l′ words early kind i (kind - 4097) (pivotWord l words (kind - 4097) - 1) some (omega arith) (ap (λ (x : ℕ). x - 1) (sym (same-word s)))
+          (λ s. depends-solved l′ words early kind i (kind - 4097) (pivotWord l words (kind - 4097) - 1) some (omega arith) (ap (λ (x : ℕ). x - 1) (sym (same-word s)))
           ∙ ap (λ (b : Bool). xor b (eqb i (pivotWord l words (kind - 4097) - 1))) (bit-other only (kind - 4097) i (r .solved s .0) h)
-          ∙ sym (hangs-solved l words early kind i (kind - 4097) (pivotWord l words (kind - 4097) - 1) some (omega arith) refl))
-          (λ u. hangs-pivot l′ words early kind i (kind - 1025) some (omega arith) (omega arith)
-          ∙ sym (hangs-pivot l words early kind i (kind - 1025) some (omega arith) (omega arith))) (lt-or-le 4096 kind)
+          ∙ sym (depends-solved l words early kind i (kind - 4097) (pivotWord l words (kind - 4097) - 1) some (omega arith) refl))
+          (λ u. depends-pivot l′ words early kind i (kind - 1025) some (omega arith) (omega arith)
+          ∙ sym (depends-pivot l words early kind i (kind - 1025) some (omega arith) (omega arith))) (lt-or-le 4096 kind)

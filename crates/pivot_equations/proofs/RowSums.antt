@@ -18,10 +18,10 @@ use Rattle.encoder.specs.inner.Positions.{RowOf}
 use Rattle.elimination.specs.Bits.{testBit, rowBit}
 use Rattle.elimination.proofs.Digits.{testBit-none}
 use Rattle.peeling.specs.Plan.{kindOf}
-use Rattle.pivot_equations.specs.Express.{hangs, hang, Reads, OnlyRow, Added, RowIs, kindBut, ReadsAll}
+use Rattle.pivot_equations.specs.Express.{dependsOn, coefficient, Reads, OnlyRow, Added, RowIs, kindBut, ReadsAll}
 use Rattle.peeling.proofs.Zeroing.{zeros-size, zeros-in, zeros-out, zeroed}
-use Rattle.pivot_equations.proofs.Hanging.{hangs-none}
-use Rattle.pivot_equations.proofs.RowChanges.{only-none, only-more, hangs-same, reads-same, add-none}
+use Rattle.pivot_equations.proofs.Dependence.{depends-none}
+use Rattle.pivot_equations.proofs.RowChanges.{only-none, only-more, depends-same, reads-same, add-none}
 
 -- ---- every position but p
 
@@ -59,7 +59,7 @@ cleared l ys words t k e fit r = subst (λ (x : List ℕ). Cleared l x words t) 
 -- row t of l′ is the sum of the first k positions of xs other than p
 pub record SumTo (plan l l′ xs : List ℕ) (words early t p k : ℕ) : Type 0 where
   pub only : OnlyRow l l′ words t
-  pub bits : (i : ℕ) → i < 64 * words → pick (rowBit l′ (t * (words + 1)) i) 1 ≡ gathered (λ x. pick (hangs l words early (kindBut plan p x) i) 1) xs k
+  pub bits : (i : ℕ) → i < 64 * words → pick (rowBit l′ (t * (words + 1)) i) 1 ≡ gathered (λ x. pick (dependsOn l words early (kindBut plan p x) i) 1) xs k
 
 module _ {plan l xs : List ℕ} {words early t p : ℕ} where
   pub sum-none : {l₀ : List ℕ} → Cleared l₀ l words t → SumTo plan l l xs words early t p 0
@@ -74,19 +74,19 @@ module _ {plan l xs : List ℕ} {words early t p : ℕ} where
   sum-more {l′} {l″} {k} s r a = record {
     only = only-more (s .only) (a .only);
     bits = λ i h.
-        ap (λ (b : Bool). pick b 1) (a .bits i h) ∙ pick-xor (rowBit l′ (t * (words + 1)) i) (hangs l′ words early (kindBut plan p (getD xs k 0)) i) 1
-        ∙ ap₂ _⊕_ (s .bits i h) (ap (λ (b : Bool). pick b 1) (hangs-same (s .only) r i h))
-        ∙ sym (sum-suc (λ q. true) (λ q. pick (hangs l words early (kindBut plan p (getD xs q 0)) i) 1) k)
-        ∙ ap (gathered (λ x. pick (hangs l words early (kindBut plan p x) i) 1) xs) (sym (add-one k));
+        ap (λ (b : Bool). pick b 1) (a .bits i h) ∙ pick-xor (rowBit l′ (t * (words + 1)) i) (dependsOn l′ words early (kindBut plan p (getD xs k 0)) i) 1
+        ∙ ap₂ _⊕_ (s .bits i h) (ap (λ (b : Bool). pick b 1) (depends-same (s .only) r i h))
+        ∙ sym (sum-suc (λ q. true) (λ q. pick (dependsOn l words early (kindBut plan p (getD xs q 0)) i) 1) k)
+        ∙ ap (gathered (λ x. pick (dependsOn l words early (kindBut plan p x) i) 1) xs) (sym (add-one k));
   }
 
 -- ---- all of them
 
-hang-but : (plan l : List ℕ) (words early p x i : ℕ) → pick (hangs l words early (kindBut plan p x) i) 1 ≡ cond (eqb x p) 0 (hang plan l words early x i)
-hang-but plan l words early p x i = go (eqb x p)
+coefficient-but : (plan l : List ℕ) (words early p x i : ℕ) → pick (dependsOn l words early (kindBut plan p x) i) 1 ≡ cond (eqb x p) 0 (coefficient plan l words early x i)
+coefficient-but plan l words early p x i = go (eqb x p)
   where
-    go : (b : Bool) → pick (hangs l words early (cond b 0 (kindOf plan x)) i) 1 ≡ cond b 0 (hang plan l words early x i)
-    go true = ap (λ (b : Bool). pick b 1) (hangs-none l words early 0 i (omega arith))
+    go : (b : Bool) → pick (dependsOn l words early (cond b 0 (kindOf plan x)) i) 1 ≡ cond b 0 (coefficient plan l words early x i)
+    go true = ap (λ (b : Bool). pick b 1) (depends-none l words early 0 i (omega arith))
     go false = refl
 
 -- l₁ is l with row t cleared, and l′ has all n positions of check row j
@@ -95,7 +95,7 @@ pub row-is : {c : Checks} {plan l l₁ l′ xs : List ℕ} {words early rows t j
 row-is {c} {plan} {l} {l₁} {l′} {xs} {words} {early} {rows} {t} {j} {p} o r of s e = record {
   only = only-more o (s .only);
   bits = λ i h.
-      s .bits i h ∙ ap (gathered (λ x. pick (hangs l₁ words early (kindBut plan p x) i) 1) xs) e
-      ∙ of .total (λ x. pick (hangs l₁ words early (kindBut plan p x) i) 1)
-      ∙ sum-ext (c .has j) _ _ (c .n) (λ x g. ap (λ (b : Bool). pick b 1) (hangs-same o (r .each x g) i h) ∙ hang-but plan l words early p x i);
+      s .bits i h ∙ ap (gathered (λ x. pick (dependsOn l₁ words early (kindBut plan p x) i) 1) xs) e
+      ∙ of .total (λ x. pick (dependsOn l₁ words early (kindBut plan p x) i) 1)
+      ∙ sum-ext (c .has j) _ _ (c .n) (λ x g. ap (λ (b : Bool). pick b 1) (depends-same o (r .each x g) i h) ∙ coefficient-but plan l words early p x i);
 }

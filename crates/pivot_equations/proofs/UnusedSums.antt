@@ -16,10 +16,10 @@ use Rattle.algebra.proofs.Sums.{unit-l}
 use Rattle.algebra.proofs.Codeword.{slot}
 use Rattle.symbol_sums.specs.Gather.{gathered, Replaced, CancelIs}
 use Rattle.encoder.specs.inner.Positions.{RowOf}
-use Rattle.peeling.specs.Plan.{usedBy, free}
+use Rattle.peeling.specs.Plan.{usedBy, unusedBelow}
 use Rattle.peeling.specs.Values.{rowSum, HoldIs, Sides}
 use Rattle.pivot_equations.specs.Unused.{PassIs, SidesTo}
-use Rattle.peeling.proofs.UnusedRows.{free-used, free-unused, free-le, free-below}
+use Rattle.peeling.proofs.UnusedRows.{unused-none, unused-one, unused-le, unused-below}
 
 -- ---- whether they are zero
 
@@ -54,39 +54,39 @@ module _ (c : Checks) (w : ℕ) (plan symbols : List ℕ) where
   -- ---- their sums
 
   pub sides-none : (d : List ℕ) → length d ≡ c .m * w → SidesTo c w plan symbols d 0 0
-  unfolding free
+  unfolding unusedBelow
   sides-none d e = record { size = e; count = refl; each = λ x b l. absurd (not-suc-le-zero l) }
 
   pub sides-used : {d : List ℕ} {j i : ℕ} → SidesTo c w plan symbols d j i → usedBy plan j ≢ 0 → SidesTo c w plan symbols d (j + 1) i
   sides-used {d} {j} s u = record {
     size = s .size;
-    count = s .count ∙ sym (free-used plan j u);
+    count = s .count ∙ sym (unused-none plan j u);
     each = λ x b l e g. go x b l e g (decLt x j);
   }
     where
-      go : (x b : ℕ) → x < j + 1 → usedBy plan x ≡ 0 → b < w → Dec (x < j) → getD d (free plan x * w + b) 0 ≡ rowSum c w symbols x b
+      go : (x b : ℕ) → x < j + 1 → usedBy plan x ≡ 0 → b < w → Dec (x < j) → getD d (unusedBelow plan x * w + b) 0 ≡ rowSum c w symbols x b
       go x b l e g (yes k) = s .each x b k e g
       go x b l e g (no k) = let q : j ≡ x = omega arith in absurd (u (ap (usedBy plan) q ∙ e))
 
   -- there is room for the next
   pub sides-room : {d : List ℕ} {j i : ℕ} → SidesTo c w plan symbols d j i → j < c .m → i * w + w ≤ length d
-  sides-room {d} {j} {i} s l = omega (arith, slot i (c .m) w (omega (arith, s .count, free-le plan j)), s .size)
+  sides-room {d} {j} {i} s l = omega (arith, slot i (c .m) w (omega (arith, s .count, unused-le plan j)), s .size)
 
   pub sides-put : {d d′ xs : List ℕ} {j i n : ℕ} → SidesTo c w plan symbols d j i → usedBy plan j ≡ 0 → RowOf c j n xs
       → Replaced (λ b. before (byteAt w d b) 0 ⊕ gathered (byteAt w symbols b) xs n) w i d d′ → SidesTo c w plan symbols d′ (j + 1) (i + 1)
   sides-put {d} {d′} {xs} {j} {i} {n} s u r p = record {
     size = p .size ∙ s .size;
-    count = ap (λ (k : ℕ). k + 1) (s .count) ∙ sym (free-unused plan j u);
+    count = ap (λ (k : ℕ). k + 1) (s .count) ∙ sym (unused-one plan j u);
     each = λ x b l e g. go x b l e g (decLt x j);
   }
     where
-      go : (x b : ℕ) → x < j + 1 → usedBy plan x ≡ 0 → b < w → Dec (x < j) → getD d′ (free plan x * w + b) 0 ≡ rowSum c w symbols x b
+      go : (x b : ℕ) → x < j + 1 → usedBy plan x ≡ 0 → b < w → Dec (x < j) → getD d′ (unusedBelow plan x * w + b) 0 ≡ rowSum c w symbols x b
       go x b l e g (yes k) =
-          p .outside (free plan x * w + b) (inl (omega (arith, slot (free plan x) i w (omega (arith, s .count, free-below plan x j k e)))))
+          p .outside (unusedBelow plan x * w + b) (inl (omega (arith, slot (unusedBelow plan x) i w (omega (arith, s .count, unused-below plan x j k e)))))
           ∙ s .each x b k e g
       go x b l e g (no k) =
           let q : x ≡ j = omega arith in
-          ap (λ (y : ℕ). getD d′ (y * w + b) 0) (ap (free plan) q ∙ sym (s .count)) ∙ p .each b g ∙ unit-l (gathered (byteAt w symbols b) xs n)
+          ap (λ (y : ℕ). getD d′ (y * w + b) 0) (ap (unusedBelow plan) q ∙ sym (s .count)) ∙ p .each b g ∙ unit-l (gathered (byteAt w symbols b) xs n)
           ∙ sum-is w symbols r b ∙ ap (λ (y : ℕ). rowSum c w symbols y b) (sym q)
 
   pub sides-all : {d : List ℕ} {j i : ℕ} → SidesTo c w plan symbols d j i → j ≡ c .m → Sides c w plan symbols d

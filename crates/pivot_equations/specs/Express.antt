@@ -4,7 +4,7 @@
 -- Assumes nothing.
 use mathlib.Core.Path.{_≡_}
 use mathlib.Core.Logic.{_⊎_, _≢_}
-use mathlib.Core.Bool.{Bool, true, false, cond, xor}
+use mathlib.Core.Bool.{Bool, false, cond, xor}
 use mathlib.Core.List.{List}
 use Prim.Native.Nat.{ℕ, _+_, _-_, _*_, _/_, _%_, _^_, _<_, _≤_}
 use lib.Dec.{eqb, ltb}
@@ -13,7 +13,7 @@ use Rattle.algebra.specs.Sums.{_⊕_, pick, sum}
 use Rattle.algebra.specs.Codeword.{Checks}
 use Rattle.elimination.specs.Bits.{rowBit}
 use Rattle.elimination.specs.Reduced.{pivotWord}
-use Rattle.peeling.specs.Plan.{kindOf, rowOf, usedBy, free, Plan, Closed}
+use Rattle.peeling.specs.Plan.{kindOf, rowOf, usedBy, unusedBelow, Plan, Closed}
 use Rattle.pivot_equations.specs.declared.express.Rows.{Rows}
 
 -- the rows are those of a plan, for some states, in which no position is open
@@ -28,10 +28,10 @@ pub record Room (c : Checks) (r : Rows) (size : ℕ) : Type 0 where
   pub fit : c .m * (r .packed + 1) ≤ size
   pub enough : r .pivots ≤ 64 * r .packed
 
--- a position of this kind hangs on pivot i: not if it was known or settled before step `early`; by its step's row; as pivot i itself; or, as a pivot
+-- a position of this kind depends on pivot i: not if it was known or settled before step `early`; by its step's row; as pivot i itself; or, as a pivot
 -- that a reduced row has, by that row's other pivots
-unfoldable pub hangs : List ℕ → ℕ → ℕ → ℕ → ℕ → Bool
-hangs l words early kind i =
+unfoldable pub dependsOn : List ℕ → ℕ → ℕ → ℕ → ℕ → Bool
+dependsOn l words early kind i =
     cond (ltb early kind)
     (cond (ltb 1024 kind)
     (cond (ltb 4096 kind)
@@ -40,9 +40,9 @@ hangs l words early kind i =
     (rowBit l ((kind - 1) * (words + 1)) i))
     false
 
--- position p hangs on pivot i, as a number
-abbrev pub hang : List ℕ → List ℕ → ℕ → ℕ → ℕ → ℕ → ℕ
-hang plan l words early p i = pick (hangs l words early (kindOf plan p) i) 1
+-- position p depends on pivot i, as a number
+abbrev pub coefficient : List ℕ → List ℕ → ℕ → ℕ → ℕ → ℕ → ℕ
+coefficient plan l words early p i = pick (dependsOn l words early (kindOf plan p) i) 1
 
 -- what stands for a position of this kind is among the first `rows` rows, and is not row t
 pub record Reads (l : List ℕ) (words early rows t kind : ℕ) : Type 0 where
@@ -58,13 +58,13 @@ pub record OnlyRow (l l′ : List ℕ) (words t : ℕ) : Type 0 where
 -- row t has a position of this kind added
 pub record Added (l l′ : List ℕ) (words early t kind : ℕ) : Type 0 where
   pub only : OnlyRow l l′ words t
-  pub bits : (i : ℕ) → i < 64 * words → rowBit l′ (t * (words + 1)) i ≡ xor (rowBit l (t * (words + 1)) i) (hangs l words early kind i)
+  pub bits : (i : ℕ) → i < 64 * words → rowBit l′ (t * (words + 1)) i ≡ xor (rowBit l (t * (words + 1)) i) (dependsOn l words early kind i)
 
 -- row t is the sum of the positions of check row j other than p
 pub record RowIs (c : Checks) (plan l l′ : List ℕ) (words early t j p : ℕ) : Type 0 where
   pub only : OnlyRow l l′ words t
   pub bits : (i : ℕ) → i < 64 * words
-      → pick (rowBit l′ (t * (words + 1)) i) 1 ≡ sum (c .has j) (λ x. cond (eqb x p) 0 (hang plan l words early x i)) (c .n)
+      → pick (rowBit l′ (t * (words + 1)) i) 1 ≡ sum (c .has j) (λ x. cond (eqb x p) 0 (coefficient plan l words early x i)) (c .n)
 
 -- every pivot has a place in a row: its number, or one of the rows behind the steps
 abbrev pub Places : Checks → List ℕ → List ℕ → ℕ → ℕ → ℕ → Type 0
@@ -75,7 +75,7 @@ Places c plan l words steps rows = (p : ℕ) → p < c .n → 1024 < kindOf plan
 
 -- the rows of the steps hold: each step's check row adds up to no pivot
 abbrev pub StepsExpressed : Checks → List ℕ → List ℕ → ℕ → ℕ → ℕ → Type 0
-StepsExpressed c plan l words early steps = (t i : ℕ) → t < steps → i < 64 * words → sum (c .has (rowOf plan t)) (λ x. hang plan l words early x i) (c .n) ≡ 0
+StepsExpressed c plan l words early steps = (t i : ℕ) → t < steps → i < 64 * words → sum (c .has (rowOf plan t)) (λ x. coefficient plan l words early x i) (c .n) ≡ 0
 
 -- l and l′ have the same rows from `from` on
 pub record SameFrom (l l′ : List ℕ) (words from : ℕ) : Type 0 where
@@ -90,7 +90,7 @@ pub record SameBelow (l l′ : List ℕ) (words from : ℕ) : Type 0 where
 -- the rows behind the steps are those of the check rows that no step used
 abbrev pub RestExpressed : Checks → List ℕ → List ℕ → ℕ → ℕ → ℕ → Type 0
 RestExpressed c plan l words early steps = (j i : ℕ) → j < c .m → usedBy plan j ≡ 0 → i < 64 * words
-    → pick (rowBit l ((steps + free plan j) * (words + 1)) i) 1 ≡ sum (c .has j) (λ x. hang plan l words early x i) (c .n)
+    → pick (rowBit l ((steps + unusedBelow plan j) * (words + 1)) i) 1 ≡ sum (c .has j) (λ x. coefficient plan l words early x i) (c .n)
 
 -- ---- inner steps
 
@@ -109,4 +109,4 @@ pub record ReadsAll (c : Checks) (plan l : List ℕ) (words early rows t p : ℕ
 -- RestExpressed for the check rows below `to`
 abbrev pub RestTo : Checks → List ℕ → List ℕ → ℕ → ℕ → ℕ → ℕ → Type 0
 RestTo c plan l words early steps to = (j i : ℕ) → j < to → usedBy plan j ≡ 0 → i < 64 * words
-    → pick (rowBit l ((steps + free plan j) * (words + 1)) i) 1 ≡ sum (c .has j) (λ x. hang plan l words early x i) (c .n)
+    → pick (rowBit l ((steps + unusedBelow plan j) * (words + 1)) i) 1 ≡ sum (c .has j) (λ x. coefficient plan l words early x i) (c .n)

@@ -9,7 +9,7 @@ use lib.Dec.{eqb}
 use lib.ListN.{length, getD}
 use Rattle.algebra.specs.Codeword.{Checks}
 use Rattle.symbol_sums.specs.Gather.{gathered}
-use Rattle.peeling.specs.Plan.{usedBy, free}
+use Rattle.peeling.specs.Plan.{usedBy, unusedBelow}
 use Rattle.peeling.specs.Values.{rowSum}
 
 -- r is the answer to: does check row j add up to zero, or did a step use it?
@@ -20,8 +20,8 @@ PassIs c w plan symbols j false = (usedBy plan j ≡ 0) × ((b : ℕ) × ((b < w
 -- the sums of those of the first j check rows that no step used, i of them, stand one after the other
 pub record SidesTo (c : Checks) (w : ℕ) (plan symbols d : List ℕ) (j i : ℕ) : Type 0 where
   pub size : length d ≡ c .m * w
-  pub count : i ≡ free plan j
-  pub each : (x b : ℕ) → x < j → usedBy plan x ≡ 0 → b < w → getD d (free plan x * w + b) 0 ≡ rowSum c w symbols x b
+  pub count : i ≡ unusedBelow plan j
+  pub each : (x b : ℕ) → x < j → usedBy plan x ≡ 0 → b < w → getD d (unusedBelow plan x * w + b) 0 ≡ rowSum c w symbols x b
 
 -- the first k numbers of xs′ are those of the first n of xs that are not p
 pub record Others (xs : List ℕ) (n p : ℕ) (xs′ : List ℕ) (k : ℕ) : Type 0 where

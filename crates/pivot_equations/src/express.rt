@@ -15,7 +15,7 @@ ghost use Prim.Native.Nat.{_+_, _*_, _/_, _≤_, _<_};
 ghost use lib.ListN.{length};
 ghost use Rattle.ccsds.specs.Tables.{codeOf};
 ghost use Rattle.peeling.specs.Table.{checks, Table};
-ghost use Rattle.peeling.specs.Plan.{kindOf, free, Unsolved};
+ghost use Rattle.peeling.specs.Plan.{kindOf, unusedBelow, Unsolved};
 ghost use Rattle.pivot_equations.specs.Express.{Reads, Added, RowIs, Places, StepsExpressed, SameFrom, SameBelow, RestExpressed, flipRowBit, kindBut, ReadsAll, RestTo, Planned, Room};
 
 // The rows of the equations: `steps` rows of the steps, the first `early` of which are not made, and `rest` rows of the check rows that no step used;
@@ -185,10 +185,10 @@ fn remaining_row(
     requires { ⌜ Room (checks s) r (length (now words)) ⌝ }
     requires { ⌜ Places (checks s) (now plan) (now words) (r .packed) (r .steps) (checks s .m) ⌝ }
     requires { ⌜ Unsolved (now plan) (r .pivots) ⌝ }
-    requires { ⌜ (j < codeOf (s .number) .m) × (t ≡ r .steps + free (now plan) j) ⌝ }
+    requires { ⌜ (j < codeOf (s .number) .m) × (t ≡ r .steps + unusedBelow (now plan) j) ⌝ }
     requires { ⌜ RestTo (checks s) (now plan) (now words) (r .packed) (r .early) (r .steps) j ⌝ }
     ensures { λ _. ⌜ length (now (xs .exit)) ≡ 64 ⌝ }
-    ensures { λ h. ⌜ h ≡ r .steps + free (now (plan .entry)) (j + 1) ⌝ }
+    ensures { λ h. ⌜ h ≡ r .steps + unusedBelow (now (plan .entry)) (j + 1) ⌝ }
     ensures { λ _. ⌜ RestTo (checks s) (now (plan .entry)) (now (words .exit)) (r .packed) (r .early) (r .steps) (j + 1) ⌝ }
     ensures { λ _. ⌜ SameBelow (now (words .entry)) (now (words .exit)) (r .packed) (r .steps) ⌝ }
 {

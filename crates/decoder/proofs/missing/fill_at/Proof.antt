@@ -1,4 +1,4 @@
--- `decoder::missing::fill_at` meets its contract, by the state at the position and by what it hangs on.
+-- `decoder::missing::fill_at` meets its contract, by the state at the position and by what it depends on.
 -- Assumes nothing.
 use mathlib.Core.Path.{subst}
 use native.Mathlib.Omega.{arith}

@@ -4,7 +4,7 @@ use Prim.Native.Nat.{_-_, _≤_}
 use native.Mathlib.Omega.{arith}
 use Rattle.peeling.specs.Table.{checks}
 use Rattle.decoder.specs.Pivots.{Put}
-use Rattle.decoder.proofs.Putting.{put-none, put-all, put-room, put-more}
+use Rattle.decoder.proofs.PivotSymbols.{put-none, put-all, put-room, put-more}
 use Rattle.decoder.proofs.pivots.put.Statement.{statement}
 use Rattle.decoder.proofs.pivots.put.Tie as tie
 

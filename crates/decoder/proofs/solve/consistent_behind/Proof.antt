@@ -7,7 +7,7 @@ use native.Mathlib.Omega.{arith}
 use lib.ListN.{length, length-drop}
 use Rattle.elimination.specs.Reduced.{Reduced}
 use Rattle.elimination.specs.Consistency.{ConsistentIs}
-use Rattle.decoder.proofs.Behind.{part-all}
+use Rattle.decoder.proofs.RowsBehindSteps.{part-all}
 use borrow.Author.Needs.{needs}
 use Rattle.decoder.proofs.solve.consistent_behind.Statement.{statement}
 use Rattle.decoder.proofs.solve.consistent_behind.Tie as tie

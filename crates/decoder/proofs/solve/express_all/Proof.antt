@@ -1,8 +1,8 @@
--- `decoder::solve::express_all` meets its contract: what the steps hang on stays as the rows behind them are made.
+-- `decoder::solve::express_all` meets its contract: what the steps depend on stays as the rows behind them are made.
 -- Assumes nothing.
 use Rattle.decoder.proofs.Assembly.{room-at}
 use Rattle.decoder.proofs.ReadOff.{places-unsolved}
-use Rattle.decoder.proofs.Behind.{steps-stay}
+use Rattle.decoder.proofs.RowsBehindSteps.{steps-stay}
 use borrow.Author.Needs.{needs}
 use Rattle.decoder.proofs.solve.express_all.Statement.{statement}
 use Rattle.decoder.proofs.solve.express_all.Tie as tie

@@ -34,7 +34,7 @@ returns c =
     record {
       rows = c .before .before .before .before .before .before .before .before .before .express-all .last .1 .1 .1 .1 .1 .1 .0;
       sides = c .before .before .before .before .before .before .before .before .before .before .before .before .before .sums .last .1 .1 .1 .1 .1 .1 .0;
-      count = omega (arith, p .1 .0 .0 .made .steps-free, p .1 .1 .0 .1);
+      count = omega (arith, p .1 .0 .0 .made .steps-unused, p .1 .1 .0 .1);
       step-rows = c .before .before .before .before .before .before .before .before .before .express-all .ensures .0;
       rest-rows = c .before .before .before .before .before .before .before .before .before .express-all .ensures .1;
       sums = c .before .before .before .before .before .before .before .before .before .before .before .before .before .sums .ensures;

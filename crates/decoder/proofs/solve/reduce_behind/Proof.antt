@@ -8,7 +8,7 @@ use lib.ListN.{length}
 use Rattle.elimination.specs.System.{SameSolutions}
 use Rattle.elimination.specs.Reduced.{Reduced}
 use Rattle.decoder.specs.Equations.{behind}
-use Rattle.decoder.proofs.Behind.{part-all, part-back}
+use Rattle.decoder.proofs.RowsBehindSteps.{part-all, part-back}
 use borrow.Author.Needs.{needs}
 use Rattle.decoder.proofs.solve.reduce_behind.Statement.{statement}
 use Rattle.decoder.proofs.solve.reduce_behind.Tie as tie

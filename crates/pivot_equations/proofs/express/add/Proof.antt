@@ -7,46 +7,33 @@ use Rattle.pivot_equations.proofs.RowChanges.{add-none, add-step, add-p
 use borrow.Author.Needs.{needs}
 use Rattle.pivot_equations.proofs.express.add.Statement.{statement}
 use Rattle.pivot_equations.proofs.express.add.Tie as tie
-use Rattle.pivot_equations.proofs.express.add.Reads as reads
-use Rattle.pivot_equations.proofs.express.add.Lts as lts
-use Rattle.pivot_equations.proofs.express.flip.Reads as flip-reads
-use Rattle.elimination.proofs.parts.xor_words.Reads as xor-words-reads
 
--- src/express.rt:29:18
 add-stride : tie.Need-add-stride
 add-stride c = search needs
 
--- src/express.rt:30:16
 mul-kind : tie.Need-mul-kind
 mul-kind c = search needs
 
--- src/express.rt:30:16
 shared-slice-read-kind : tie.Need-shared-slice-read-kind
 shared-slice-read-kind c = search needs
 
--- src/express.rt:30:16
 cast-kind : tie.Need-cast-kind
 cast-kind c = omega (arith, c .shared-slice-known2 .given (c .before .before .before .args .p))
 
--- src/express.rt:32:9
 returns : tie.Need-returns
 returns c = add-none (omega arith)
 
--- src/express.rt:35:40
 sub-xor-words : tie.Need-sub-xor-words
 sub-xor-words c = search needs
 
--- src/express.rt:35:39
 mul-xor-words : tie.Need-mul-xor-words
 mul-xor-words c =
     let kind = getD (c .before .before .before .before .before .before .args .plan .now) (c .before .before .before .before .before .before .args .p) 0 in
     let h = c .before .before .before .before .before .before .pre .1 .1 .step (omega arith) (omega arith) in omega (arith, slot (kind - 1) (c .before .before .before .before .before .before .args .rows) (c .before .before .before .before .before .before .args .packed + 1) (h .1))
 
--- src/express.rt:35:60
 mul-xor-words-2 : tie.Need-mul-xor-words-2
 mul-xor-words-2 c = omega (arith, slot (c .before .before .before .before .before .before .args .t) (c .before .before .before .before .before .before .args .rows) (c .before .before .before .before .before .before .args .packed + 1) (c .before .before .before .before .before .before .pre .1 .0 .0))
 
--- src/express.rt:35:9
 xor-words-requires : tie.Need-xor-words-requires
 xor-words-requires c κs =
     let kind = getD (c .before .before .before .before .before .before .args .plan .now) (c .before .before .before .before .before .before .args .p) 0 in
@@ -55,72 +42,58 @@ xor-words-requires c κs =
     let b = slot (c .before .before .before .before .before .before .args .t) (c .before .before .before .before .before .before .args .rows) (c .before .before .before .before .before .before .args .packed + 1) (c .before .before .before .before .before .before .pre .1 .0 .0) in
     (rows-beside (kind - 1) (c .before .before .before .before .before .before .args .t) (c .before .before .before .before .before .before .args .packed + 1) (c .before .before .before .before .before .before .args .packed) (h .0) (omega arith), (omega arith, omega arith))
 
--- src/express.rt:36:9
 same-length : tie.Need-same-length
 same-length c = search needs
 
--- src/express.rt:36:9
 returns-2 : tie.Need-returns-2
 returns-2 c =
     let b = slot (c .before .before .before .before .before .before .before .before .before .args .t) (c .before .before .before .before .before .before .before .before .before .args .rows) (c .before .before .before .before .before .before .before .before .before .args .packed + 1) (c .before .before .before .before .before .before .before .before .before .pre .1 .0 .0) in
     add-step (c .before .before .before .before .before .before .before .before .before .args .words .now) (c .before .before .before .before .before .before .before .before .before .args .packed) (c .before .before .before .before .before .before .before .before .before .args .early) (c .before .before .before .before .before .before .before .before .before .args .rows) (c .before .before .before .before .before .before .before .before .before .args .t) (getD (c .before .before .before .before .before .before .before .before .before .args .plan .now) (c .before .before .before .before .before .before .before .before .before .args .p) 0) (omega arith) (c .before .before .before .before .before .before .before .before .before .pre .1 .1) (omega arith) (omega arith) (c .before .before .xor-words .ensures)
 
--- src/express.rt:39:21
 mul-flip : tie.Need-mul-flip
 mul-flip c = omega (arith, slot (c .before .before .before .before .before .before .before .args .t) (c .before .before .before .before .before .before .before .args .rows) (c .before .before .before .before .before .before .before .args .packed + 1) (c .before .before .before .before .before .before .before .pre .1 .0 .0))
 
--- src/express.rt:39:33
 sub-flip : tie.Need-sub-flip
 sub-flip c = search needs
 
--- src/express.rt:39:9
 flip-requires : tie.Need-flip-requires
 flip-requires c κs =
     let h = c .before .before .before .before .before .before .before .pre .1 .1 .pivot (omega arith) (omega arith) in omega (arith, slot (c .before .before .before .before .before .before .before .args .t) (c .before .before .before .before .before .before .before .args .rows) (c .before .before .before .before .before .before .before .args .packed + 1) (c .before .before .before .before .before .before .before .pre .1 .0 .0))
 
--- src/express.rt:40:9
 same-length-2 : tie.Need-same-length-2
 same-length-2 c = search needs
 
--- src/express.rt:40:9
 returns-3 : tie.Need-returns-3
 returns-3 c =
     let b = slot (c .before .before .before .before .before .before .before .before .before .before .args .t) (c .before .before .before .before .before .before .before .before .before .before .args .rows) (c .before .before .before .before .before .before .before .before .before .before .args .packed + 1) (c .before .before .before .before .before .before .before .before .before .before .pre .1 .0 .0) in
     add-pivot (c .before .before .before .before .before .before .before .before .before .before .args .words .now) (c .before .before .before .before .before .before .before .before .before .before .args .packed) (c .before .before .before .before .before .before .before .before .before .before .args .early) (c .before .before .before .before .before .before .before .before .before .before .args .rows) (c .before .before .before .before .before .before .before .before .before .before .args .t) (getD (c .before .before .before .before .before .before .before .before .before .before .args .plan .now) (c .before .before .before .before .before .before .before .before .before .before .args .p) 0) (omega arith) (c .before .before .before .before .before .before .before .before .before .before .pre .1 .1) (omega arith) (omega arith) (omega arith) (c .before .before .flip .ensures)
 
--- src/express.rt:42:14
 sub-h : tie.Need-sub-h
 sub-h c = search needs
 
--- src/express.rt:42:13
 mul-h : tie.Need-mul-h
 mul-h c =
     let kind = getD (c .before .before .before .before .before .before .args .plan .now) (c .before .before .before .before .before .before .args .p) 0 in
     let h = c .before .before .before .before .before .before .pre .1 .1 .solved (omega arith) in omega (arith, slot (kind - 4097) (c .before .before .before .before .before .before .args .rows) (c .before .before .before .before .before .before .args .packed + 1) (h .1 .0))
 
--- src/express.rt:43:19
 add-u : tie.Need-add-u
 add-u c =
     let kind = getD (c .before .before .before .before .before .before .args .plan .now) (c .before .before .before .before .before .before .args .p) 0 in
     let h = c .before .before .before .before .before .before .pre .1 .1 .solved (omega arith) in omega (arith, slot (kind - 4097) (c .before .before .before .before .before .before .args .rows) (c .before .before .before .before .before .before .args .packed + 1) (h .1 .0))
 
--- src/express.rt:43:13
 mul-u : tie.Need-mul-u
 mul-u c =
     let kind = getD (c .before .before .before .before .before .before .args .plan .now) (c .before .before .before .before .before .before .args .p) 0 in
     let h = c .before .before .before .before .before .before .pre .1 .1 .solved (omega arith) in omega (arith, slot (kind - 4097) (c .before .before .before .before .before .before .args .rows) (c .before .before .before .before .before .before .args .packed + 1) (h .1 .0))
 
--- src/express.rt:43:13
 slice-read-u : tie.Need-slice-read-u
 slice-read-u c =
     let kind = getD (c .before .before .before .before .before .before .before .args .plan .now) (c .before .before .before .before .before .before .before .args .p) 0 in
     let h = c .before .before .before .before .before .before .before .pre .1 .1 .solved (omega arith) in omega (arith, slot (kind - 4097) (c .before .before .before .before .before .before .before .args .rows) (c .before .before .before .before .before .before .before .args .packed + 1) (h .1 .0))
 
--- src/express.rt:44:38
 mul-xor-words-3 : tie.Need-mul-xor-words-3
 mul-xor-words-3 c = omega (arith, slot (c .before .before .before .before .before .before .before .before .args .t) (c .before .before .before .before .before .before .before .before .args .rows) (c .before .before .before .before .before .before .before .before .args .packed + 1) (c .before .before .before .before .before .before .before .before .pre .1 .0 .0))
 
--- src/express.rt:44:5
 xor-words-requires-2 : tie.Need-xor-words-requires-2
 xor-words-requires-2 c κs =
     let kind = getD (c .before .before .before .before .before .before .before .before .args .plan .now) (c .before .before .before .before .before .before .before .before .args .p) 0 in
@@ -129,24 +102,19 @@ xor-words-requires-2 c κs =
     let b = slot (c .before .before .before .before .before .before .before .before .args .t) (c .before .before .before .before .before .before .before .before .args .rows) (c .before .before .before .before .before .before .before .before .args .packed + 1) (c .before .before .before .before .before .before .before .before .pre .1 .0 .0) in
     (rows-beside (kind - 4097) (c .before .before .before .before .before .before .before .before .args .t) (c .before .before .before .before .before .before .before .before .args .packed + 1) (c .before .before .before .before .before .before .before .before .args .packed) (h .0) (omega arith), (omega arith, omega arith))
 
--- src/express.rt:45:17
 mul-flip-2 : tie.Need-mul-flip-2
 mul-flip-2 c = omega (arith, slot (c .before .before .before .before .before .before .before .before .before .before .before .before .args .t) (c .before .before .before .before .before .before .before .before .before .before .before .before .args .rows) (c .before .before .before .before .before .before .before .before .before .before .before .before .args .packed + 1) (c .before .before .before .before .before .before .before .before .before .before .before .before .pre .1 .0 .0))
 
--- src/express.rt:45:29
 sub-flip-2 : tie.Need-sub-flip-2
 sub-flip-2 c = c .before .before .before .before .before .before .before .before .before .before .before .before .pre .1 .1 .solved (omega arith) .1 .1 .0
 
--- src/express.rt:45:5
 flip-requires-2 : tie.Need-flip-requires-2
 flip-requires-2 c κs =
     let h = c .before .before .before .before .before .before .before .before .before .before .before .before .pre .1 .1 .solved (omega arith) in omega (arith, slot (c .before .before .before .before .before .before .before .before .before .before .before .before .args .t) (c .before .before .before .before .before .before .before .before .before .before .before .before .args .rows) (c .before .before .before .before .before .before .before .before .before .before .before .before .args .packed + 1) (c .before .before .before .before .before .before .before .before .before .before .before .before .pre .1 .0 .0), c .before .before .before .xor-words2 .kept .0)
 
--- src/express.rt:23:1
 same-length-3 : tie.Need-same-length-3
 same-length-3 c = search needs
 
--- src/express.rt:23:1
 returns-4 : tie.Need-returns-4
 returns-4 c =
     let b = slot (c .before .before .before .before .before .before .before .before .before .before .before .before .before .before .before .args .t) (c .before .before .before .before .before .before .before .before .before .before .before .before .before .before .before .args .rows) (c .before .before .before .before .before .before .before .before .before .before .before .before .before .before .before .args .packed + 1) (c .before .before .before .before .before .before .before .before .before .before .before .before .before .before .before .pre .1 .0 .0) in

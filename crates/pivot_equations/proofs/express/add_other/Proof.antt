@@ -3,23 +3,16 @@ use Rattle.pivot_equations.proofs.RowSums.{reads-other, added-other, ad
 use borrow.Author.Needs.{needs}
 use Rattle.pivot_equations.proofs.express.add_other.Statement.{statement}
 use Rattle.pivot_equations.proofs.express.add_other.Tie as tie
-use Rattle.pivot_equations.proofs.express.add_other.Reads as reads
-use Rattle.pivot_equations.proofs.express.add_other.Lts as lts
-use Rattle.pivot_equations.proofs.express.add.Reads as add-reads
 
--- src/express.rt:65:9
 returns : tie.Need-returns
 returns c = added-own (c .before .before .before .args .plan .now) (c .before .before .before .args .p) (c .before .before .before .args .x) (omega arith)
 
--- src/express.rt:67:5
 add-requires : tie.Need-add-requires
 add-requires c κs = (c .before .before .before .before .pre .0, (c .before .before .before .before .pre .1 .0, reads-other (c .before .before .before .before .args .plan .now) (c .before .before .before .before .args .p) (c .before .before .before .before .args .x) (λ e. omega arith) (c .before .before .before .before .pre .1 .1)))
 
--- src/express.rt:49:1
 same-length : tie.Need-same-length
 same-length c = search needs
 
--- src/express.rt:49:1
 returns-2 : tie.Need-returns-2
 returns-2 c = added-other (c .before .before .before .before .before .before .before .args .plan .now) (c .before .before .before .before .before .before .before .args .p) (c .before .before .before .before .before .before .before .args .x) (λ e. omega arith) (c .before .before .add .ensures)
 

@@ -6,35 +6,27 @@ use Rattle.algebra.specs.Codeword.{Checks}
 use Rattle.peeling.specs.Table.{checks}
 use Rattle.peeling.specs.Plan.{usedBy}
 use Rattle.peeling.proofs.CodeSizes.{row-count}
-use Rattle.peeling.proofs.UnusedRows.{free-used, free-unused}
+use Rattle.peeling.proofs.UnusedRows.{unused-none, unused-one}
 use Rattle.pivot_equations.proofs.Expressed.{below-none, below-only, reads-rows, rest-below, reads-rest, rest-more, rest-skip}
 use borrow.Author.Needs.{needs}
 use Rattle.pivot_equations.proofs.express.remaining_row.Statement.{statement}
 use Rattle.pivot_equations.proofs.express.remaining_row.Tie as tie
-use Rattle.pivot_equations.proofs.express.remaining_row.Reads as reads
-use Rattle.pivot_equations.proofs.express.remaining_row.Lts as lts
-use Rattle.pivot_equations.proofs.express.row.Reads as row-reads
 
--- src/express.rt:184:13
 add-if1 : tie.Need-add-if1
 add-if1 c = search needs
 
--- src/express.rt:184:8
 mul-if1 : tie.Need-mul-if1
 mul-if1 c = search needs
 
--- src/express.rt:184:8
 shared-slice-read-if1 : tie.Need-shared-slice-read-if1
 shared-slice-read-if1 c = omega (arith, c .before .before .before .pre .1 .1 .0 .made .rows, c .before .before .before .pre .1 .1 .0 .made .size, row-count (c .before .before .before .args .s .number))
 
--- src/express.rt:185:9
 returns : tie.Need-returns
 returns c =
     let k : Checks = checks (c .before .before .before .before .args .s) in
     let used : usedBy (c .before .before .before .before .args .plan .now) (c .before .before .before .before .args .j) ≢ 0 = λ e. omega arith in
-    (c .before .before .before .before .pre .1 .0, (omega (arith, free-used (c .before .before .before .before .args .plan .now) (c .before .before .before .before .args .j) used), (rest-skip k (c .before .before .before .before .args .plan .now) (c .before .before .before .before .args .words .now) (c .before .before .before .before .args .r .packed) (c .before .before .before .before .args .r .early) (c .before .before .before .before .args .r .steps) (c .before .before .before .before .args .j) used (c .before .before .before .before .pre .1 .1 .1 .1 .1 .1 .1), below-none)))
+    (c .before .before .before .before .pre .1 .0, (omega (arith, unused-none (c .before .before .before .before .args .plan .now) (c .before .before .before .before .args .j) used), (rest-skip k (c .before .before .before .before .args .plan .now) (c .before .before .before .before .args .words .now) (c .before .before .before .before .args .r .packed) (c .before .before .before .before .args .r .early) (c .before .before .before .before .args .r .steps) (c .before .before .before .before .args .j) used (c .before .before .before .before .pre .1 .1 .1 .1 .1 .1 .1), below-none)))
 
--- src/express.rt:187:5
 row-requires : tie.Need-row-requires
 row-requires c κs =
     let k : Checks = checks (c .before .before .before .before .before .before .args .s) in
@@ -45,7 +37,6 @@ row-requires c κs =
     let b = rest-below (c .before .before .before .before .before .before .pre .1 .1 .0 .made) (c .before .before .before .before .before .before .pre .1 .1 .0 .closed) (c .before .before .before .before .before .before .pre .1 .1 .1 .1 .1 .0) (c .before .before .before .before .before .before .args .j) h unused in
     (c .before .before .before .before .before .before .pre .0, (c .before .before .before .before .before .before .pre .1 .0, ((c .before .before .before .before .before .before .pre .1 .1 .1 .0 .few, omega (arith, c .before .before .before .before .before .before .pre .1 .1 .1 .0 .fit)), ((omega arith, (c .before .before .before .before .before .before .pre .1 .1 .1 .1 .1 .1 .0 .0, c .before .before .before .before .before .before .pre .1 .1 .0 .made .size)), reads-rows e (reads-rest (c .before .before .before .before .before .before .pre .1 .1 .0 .made) (c .before .before .before .before .before .before .pre .1 .1 .0 .closed) (c .before .before .before .before .before .before .pre .1 .1 .1 .1 .1 .0) (c .before .before .before .before .before .before .pre .1 .1 .1 .1 .0) (omega arith))))))
 
--- src/express.rt:188:5
 add-result : tie.Need-add-result
 add-result c =
     let k : Checks = checks (c .before .before .before .before .before .before .before .before .before .args .s) in
@@ -53,17 +44,15 @@ add-result c =
     let h : c .before .before .before .before .before .before .before .before .before .args .j < k .m = omega (arith, c .before .before .before .before .before .before .before .before .before .pre .1 .1 .1 .1 .1 .1 .0 .0, row-count (c .before .before .before .before .before .before .before .before .before .args .s .number)) in
     omega (arith, c .before .before .before .before .before .before .before .before .before .pre .1 .1 .1 .1 .1 .1 .0 .1, rest-below (c .before .before .before .before .before .before .before .before .before .pre .1 .1 .0 .made) (c .before .before .before .before .before .before .before .before .before .pre .1 .1 .0 .closed) (c .before .before .before .before .before .before .before .before .before .pre .1 .1 .1 .1 .1 .0) (c .before .before .before .before .before .before .before .before .before .args .j) h unused, c .before .before .before .before .before .before .before .before .before .pre .1 .1 .0 .made .rows)
 
--- src/express.rt:154:1
 same-length : tie.Need-same-length
 same-length c = search needs
 
--- src/express.rt:154:1
 returns-2 : tie.Need-returns-2
 returns-2 c =
     let unused : usedBy (c .before .before .before .before .before .before .before .before .before .args .plan .now) (c .before .before .before .before .before .before .before .before .before .args .j) ≡ 0 = omega arith in
     let e = c .before .before .before .before .before .before .before .before .before .pre .1 .1 .1 .1 .1 .1 .0 .1 in
     let r = c .before .before .row .ensures in
-    (r .0, (omega (arith, free-unused (c .before .before .before .before .before .before .before .before .before .args .plan .now) (c .before .before .before .before .before .before .before .before .before .args .j) unused), (rest-more (c .before .before .before .before .before .before .before .before .before .pre .1 .1 .0 .made) (c .before .before .before .before .before .before .before .before .before .pre .1 .1 .0 .closed) (c .before .before .before .before .before .before .before .before .before .pre .1 .1 .1 .1 .1 .0) (c .before .before .before .before .before .before .before .before .before .pre .1 .1 .1 .1 .0) (c .before .before .before .before .before .before .before .before .before .args .j) e unused (r .1) (c .before .before .before .before .before .before .before .before .before .pre .1 .1 .1 .1 .1 .1 .1), below-only (r .1 .only) (omega arith))))
+    (r .0, (omega (arith, unused-one (c .before .before .before .before .before .before .before .before .before .args .plan .now) (c .before .before .before .before .before .before .before .before .before .args .j) unused), (rest-more (c .before .before .before .before .before .before .before .before .before .pre .1 .1 .0 .made) (c .before .before .before .before .before .before .before .before .before .pre .1 .1 .0 .closed) (c .before .before .before .before .before .before .before .before .before .pre .1 .1 .1 .1 .1 .0) (c .before .before .before .before .before .before .before .before .before .pre .1 .1 .1 .1 .0) (c .before .before .before .before .before .before .before .before .before .args .j) e unused (r .1) (c .before .before .before .before .before .before .before .before .before .pre .1 .1 .1 .1 .1 .1 .1), below-only (r .1 .only) (omega arith))))
 
 pub remaining-row-spec : {M : Type 1} → statement M
 remaining-row-spec =

@@ -10,9 +10,6 @@ use Rattle.peeling.proofs.StepLaws.{few-steps}
 use Rattle.pivot_equations.proofs.Expressed.{from-none, from-more, places-from, reads-rows, reads-step, steps-none, steps-more}
 use Rattle.pivot_equations.proofs.express.steps.Statement.{statement}
 use Rattle.pivot_equations.proofs.express.steps.Tie as tie
-use Rattle.pivot_equations.proofs.express.steps.Reads as reads
-use Rattle.pivot_equations.proofs.express.steps.Lts as lts
-use Rattle.pivot_equations.proofs.express.row.Reads as row-reads
 
 abbrev Inv-loop : tie.InvT-loop
 Inv-loop s r firsts ends classes plan words₀ xs₀ t₀ words xs t =
@@ -21,46 +18,36 @@ Inv-loop s r firsts ends classes plan words₀ xs₀ t₀ words xs t =
 abbrev μ-loop : tie.MeasureT-loop
 μ-loop s r firsts ends classes plan words₀ xs₀ t₀ words xs t = r .steps - t
 
--- src/express.rt:132:5
 no-positions-requires : tie.Need-no-positions-requires Inv-loop μ-loop
 no-positions-requires c κs = tt
 
 loop-holds : tie.Need-loop-holds Inv-loop μ-loop
 loop-holds c = (c .no-positions .ensures, (omega arith, (c .before .before .before .pre .1 .0 .made .early-steps, (steps-none (c .before .before .before .pre .1 .0 .made) (c .before .before .before .pre .1 .0 .closed) (c .before .before .before .args .words .now) (c .before .before .before .args .r .packed), from-none))))
 
--- src/express.rt:140:18
 add-row : tie.Need-add-row Inv-loop μ-loop
 add-row c = omega (arith, few-steps (c .before .before .before .before .before .before .pre .1 .0 .made) .1)
 
--- src/express.rt:140:13
 mul-row : tie.Need-mul-row Inv-loop μ-loop
 mul-row c = omega (arith, few-steps (c .before .before .before .before .before .before .pre .1 .0 .made) .1)
 
--- src/express.rt:140:13
 shared-slice-read-row : tie.Need-shared-slice-read-row Inv-loop μ-loop
 shared-slice-read-row c = omega (arith, few-steps (c .before .before .before .before .before .before .before .pre .1 .0 .made) .1, c .before .before .before .before .before .before .before .pre .1 .0 .made .size)
 
--- src/express.rt:140:13
 cast-row : tie.Need-cast-row Inv-loop μ-loop
 cast-row c = omega (arith, c .shared-slice-known2 .given (6144 + c .before .before .before .loop .t))
 
--- src/express.rt:141:18
 add-row-2 : tie.Need-add-row-2 Inv-loop μ-loop
 add-row-2 c = omega (arith, few-steps (c .before .before .before .before .before .before .before .pre .1 .0 .made) .1)
 
--- src/express.rt:141:13
 mul-row-2 : tie.Need-mul-row-2 Inv-loop μ-loop
 mul-row-2 c = omega (arith, few-steps (c .before .before .before .before .before .before .before .pre .1 .0 .made) .1)
 
--- src/express.rt:141:13
 shared-slice-read-row-2 : tie.Need-shared-slice-read-row-2 Inv-loop μ-loop
 shared-slice-read-row-2 c = omega (arith, few-steps (c .before .before .before .before .before .before .before .before .pre .1 .0 .made) .1, c .before .before .before .before .before .before .before .before .pre .1 .0 .made .size)
 
--- src/express.rt:141:13
 cast-row-2 : tie.Need-cast-row-2 Inv-loop μ-loop
 cast-row-2 c = omega (arith, c .shared-slice-known3 .given (7168 + c .before .before .before .before .loop .t))
 
--- src/express.rt:133:9
 row-requires : tie.Need-row-requires Inv-loop μ-loop
 row-requires c κs =
     let k : Checks = checks (c .before .before .before .before .before .before .before .before .before .before .args .s) in
@@ -72,15 +59,12 @@ row-requires c κs =
     let places : Places k (c .before .before .before .before .before .before .before .before .before .before .args .plan .now) (c .before .before .before .before .before .before .loop .words) (c .before .before .before .before .before .before .before .before .before .before .args .r .packed) (c .before .before .before .before .before .before .before .before .before .before .args .r .steps) (k .m) = places-from k (c .before .before .before .before .before .before .before .before .before .before .args .plan .now) (i .1 .1 .1 .1) (c .before .before .before .before .before .before .before .before .before .before .pre .1 .1 .1) in
     (c .before .before .before .before .before .before .before .before .before .before .pre .0, (i .0, ((c .before .before .before .before .before .before .before .before .before .before .pre .1 .1 .0 .few, omega (arith, i .1 .1 .1 .1 .size, c .before .before .before .before .before .before .before .before .before .before .pre .1 .1 .0 .fit)), ((omega arith, (omega (arith, c .before .before .before .before .before .before .before .before .before .before .pre .1 .0 .made .step (c .before .before .before .before .before .before .loop .t) h .row, row-count (c .before .before .before .before .before .before .before .before .before .before .args .s .number)), c .before .before .before .before .before .before .before .before .before .before .pre .1 .0 .made .size)), reads-rows e (reads-step (c .before .before .before .before .before .before .before .before .before .before .pre .1 .0 .made) (c .before .before .before .before .before .before .before .before .before .before .pre .1 .0 .closed) places h)))))
 
--- src/express.rt:149:9
 add-t : tie.Need-add-t Inv-loop μ-loop
 add-t c = omega arith
 
--- src/express.rt:132:5
 loop-less : tie.Need-loop-less Inv-loop μ-loop
 loop-less c = omega arith
 
--- src/express.rt:132:5
 loop-again : tie.Need-loop-again Inv-loop μ-loop
 loop-again c =
     let k : Checks = checks (c .before .before .before .before .before .before .before .before .before .before .before .before .before .args .s) in
@@ -90,11 +74,9 @@ loop-again c =
     let places : Places k (c .before .before .before .before .before .before .before .before .before .before .before .before .before .args .plan .now) (c .before .before .before .before .before .before .before .before .before .loop .words) (c .before .before .before .before .before .before .before .before .before .before .before .before .before .args .r .packed) (c .before .before .before .before .before .before .before .before .before .before .before .before .before .args .r .steps) (k .m) = places-from k (c .before .before .before .before .before .before .before .before .before .before .before .before .before .args .plan .now) (i .1 .1 .1 .1) (c .before .before .before .before .before .before .before .before .before .before .before .before .before .pre .1 .1 .1) in
     (r .0, (omega arith, (omega arith, (steps-more (c .before .before .before .before .before .before .before .before .before .before .before .before .before .pre .1 .0 .made) (c .before .before .before .before .before .before .before .before .before .before .before .before .before .pre .1 .0 .closed) places (i .1 .0) h (r .1) (i .1 .1 .1 .0), from-more (i .1 .1 .1 .1) (r .1 .only) h))))
 
--- src/express.rt:107:1
 same-length : tie.Need-same-length Inv-loop μ-loop
 same-length c = c .before .before .loop .inv .1 .1 .1 .1 .size
 
--- src/express.rt:107:1
 returns : tie.Need-returns Inv-loop μ-loop
 returns c =
     let i = c .before .before .loop .inv in

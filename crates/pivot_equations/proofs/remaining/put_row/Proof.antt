@@ -2,7 +2,7 @@
 -- Assumes nothing.
 use native.Mathlib.Omega.{arith}
 use Rattle.peeling.proofs.CodeSizes.{few-rows, row-known, row-inside}
-use Rattle.peeling.proofs.UnusedRows.{free-le}
+use Rattle.peeling.proofs.UnusedRows.{unused-le}
 use Rattle.pivot_equations.proofs.UnusedSums.{sides-used, sides-room, sides-put}
 use borrow.Author.Needs.{needs}
 use Rattle.pivot_equations.proofs.remaining.put_row.Statement.{statement}
@@ -27,7 +27,7 @@ put-sum-requires : tie.Need-put-sum-requires
 put-sum-requires c κs = ((omega arith, sides-room _ _ _ _ (c .before .before .before .before .before .before .before .before .before .pre .1 .1 .1) (c .before .before .before .before .before .before .before .before .before .pre .1 .0 .1)), row-inside (c .before .before .of-row .ensures) (c .before .before .before .before .before .before .before .before .before .pre .1 .1 .0 .1))
 
 add-result : tie.Need-add-result
-add-result c = omega (arith, few-rows (c .before .before .before .before .before .before .before .before .before .before .before .before .pre .0), c .before .before .before .before .before .before .before .before .before .before .before .before .pre .1 .1 .1 .count, free-le (c .before .before .before .before .before .before .before .before .before .before .before .before .args .plan .now) (c .before .before .before .before .before .before .before .before .before .before .before .before .args .j), c .before .before .before .before .before .before .before .before .before .before .before .before .pre .1 .0 .1)
+add-result c = omega (arith, few-rows (c .before .before .before .before .before .before .before .before .before .before .before .before .pre .0), c .before .before .before .before .before .before .before .before .before .before .before .before .pre .1 .1 .1 .count, unused-le (c .before .before .before .before .before .before .before .before .before .before .before .before .args .plan .now) (c .before .before .before .before .before .before .before .before .before .before .before .before .args .j), c .before .before .before .before .before .before .before .before .before .before .before .before .pre .1 .0 .1)
 
 same-length : tie.Need-same-length
 same-length c = search needs

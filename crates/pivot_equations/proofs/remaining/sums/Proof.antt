@@ -1,11 +1,10 @@
 -- `pivot_equations::remaining::sums` meets its contract: the sums of the unused of the first j rows are there.
 -- Assumes nothing.
-use mathlib.Core.Path.{_≡_, ap, sym, _∙_}
+use mathlib.Core.Path.{_≡_, sym, _∙_}
 use Prim.Native.Nat.{_≤_, _-_}
 use native.Mathlib.Omega.{arith}
 use lib.ListN.{length}
 use Rattle.peeling.specs.Table.{checks}
-use Rattle.ccsds.specs.Tables.{codeOf}
 use Rattle.pivot_equations.specs.Unused.{SidesTo}
 use Rattle.peeling.proofs.CodeSizes.{layout-rows}
 use Rattle.pivot_equations.proofs.UnusedSums.{sides-none, sides-all}

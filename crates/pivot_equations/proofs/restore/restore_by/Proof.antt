@@ -8,8 +8,8 @@ use Rattle.peeling.proofs.CodeSizes.{row-known}
 use Rattle.pivot_equations.proofs.Restored.{others-inside, others-sum}
 use Rattle.peeling.proofs.SymbolLaws.{replaced-by}
 use borrow.Author.Needs.{needs}
-use Rattle.pivot_equations.proofs.again.restore_by.Statement.{statement}
-use Rattle.pivot_equations.proofs.again.restore_by.Tie as tie
+use Rattle.pivot_equations.proofs.restore.restore_by.Statement.{statement}
+use Rattle.pivot_equations.proofs.restore.restore_by.Tie as tie
 
 of-row-requires : tie.Need-of-row-requires
 of-row-requires c κs = let t = c .before .before .pre .0 in ((t .known, t .given), (row-known t _ (c .before .before .pre .1 .0 .1 .0), ((t .laid, t .counted), c .before .before .pre .1 .0 .0)))

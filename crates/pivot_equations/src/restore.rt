@@ -1,4 +1,4 @@
-// Restoring what hangs on the pivots.
+// Restoring what depends on the pivots.
 use crate::express::Rows;
 use encoder::positions;
 use peeling::peel;
@@ -14,7 +14,7 @@ ghost use Rattle.algebra.specs.Sums.{sum};
 ghost use Rattle.algebra.specs.Codeword.{byteAt};
 ghost use Rattle.symbol_sums.specs.Gather.{Replaced};
 ghost use Rattle.peeling.specs.Table.{checks, Table};
-ghost use Rattle.peeling.specs.Values.{StepsHold, Again};
+ghost use Rattle.peeling.specs.Values.{StepsHold, StepsRestored};
 ghost use Rattle.pivot_equations.specs.Express.{Planned};
 ghost use Rattle.pivot_equations.specs.Unused.{Others};
 
@@ -57,7 +57,7 @@ fn restore_by(
 }
 
 // Restores the positions of the steps from `early` on once more.
-pub fn again(
+pub fn restore_steps(
     s: Shape,
     r: Rows,
     firsts: &[u16; 512],
@@ -69,7 +69,7 @@ pub fn again(
     requires { ⌜ Table s (now firsts) (now ends) (now classes) ⌝ }
     requires { ⌜ Planned (checks s) (now plan) r ⌝ }
     requires { ⌜ (length (now symbols) ≡ checks s .n * s .w) × StepsHold (checks s) (s .w) (now plan) (now symbols) (r .early) ⌝ }
-    ensures { λ _. ⌜ Again (checks s) (s .w) (now (plan .entry)) (now (symbols .entry)) (now (symbols .exit)) (r .early) (r .steps) ⌝ }
+    ensures { λ _. ⌜ StepsRestored (checks s) (s .w) (now (plan .entry)) (now (symbols .entry)) (now (symbols .exit)) (r .early) (r .steps) ⌝ }
 {
     let mut xs = peel::no_positions();
     let mut t = r.early;

@@ -1,4 +1,4 @@
--- What a position hangs on once the pivots are put in: a symbol that hangs on no free pivot is common to all words that agree, and one that hangs
+-- What a position depends on once the pivots are put in: a symbol that depends on no free pivot is common to all words that agree, and one that depends
 -- on a free pivot is not. The names are those of ReadOff.antt; l″ has the steps' rows of the plan after Put.
 -- Assumes nothing.
 use mathlib.Core.Path.{_≡_, refl, sym, ap, ap₂, _∙_, subst}
@@ -25,13 +25,13 @@ use Rattle.elimination.specs.Reduced.{pivotWord, Pivot, RowReduced}
 use Rattle.elimination.specs.Consistency.{Consistent}
 use Rattle.elimination.proofs.Order.{lt-or-le, eq-or-ne}
 use Rattle.peeling.specs.Plan.{kindOf, rowOf, pivotOf, Plan, Closed}
-use Rattle.peeling.specs.Values.{Again}
-use Rattle.pivot_equations.specs.Express.{hangs, Reads, StepsExpressed, SameFrom}
+use Rattle.peeling.specs.Values.{StepsRestored}
+use Rattle.pivot_equations.specs.Express.{dependsOn, Reads, StepsExpressed, SameFrom}
 use Rattle.decoder.specs.Pivots.{Solved, Free, Put, DeterminedIs}
 use Rattle.decoder.specs.Outcome.{Differs}
 use Rattle.decoder.proofs.Triangle.{sum-add, pick-one, vanishes, expressed, plan-triangular}
 use Rattle.peeling.proofs.StepLaws.{few-steps, IsPivot, kind-cases}
-use Rattle.pivot_equations.proofs.Hanging.{hangs-none, hangs-pivot, hangs-solved}
+use Rattle.pivot_equations.proofs.Dependence.{depends-none, depends-pivot, depends-solved}
 use Rattle.pivot_equations.proofs.RowChanges.{xor-false}
 use Rattle.decoder.proofs.Solutions.{Along, agreeing-along, high-absent}
 use Rattle.decoder.proofs.ReadOff.{clash, row-here, row-others, Setting, pivotByte, Behind, agrees-reduced, solves-reduced, pivot-below}
@@ -63,7 +63,7 @@ xor-self false = refl
 
 module _ {c : Checks} {w : ℕ} {block states plan y l lr d lr′ d′ : List ℕ} {words early steps pivots rest : ℕ}
     (G : Setting c w block states plan y l lr d lr′ d′ words early steps pivots rest) {lw plan′ y′ x l″ : List ℕ}
-    (B : Behind lr′ lw words steps rest) (Q : Put c w words steps rest pivots lw d′ plan y plan′ y′) (A : Again c w plan′ y′ x early steps)
+    (B : Behind lr′ lw words steps rest) (Q : Put c w words steps rest pivots lw d′ plan y plan′ y′) (A : StepsRestored c w plan′ y′ x early steps)
     (X : StepsExpressed c plan′ l″ words early steps) (F : SameFrom lw l″ words steps) where
   abbrev IsSolved : ℕ → Type 0
   IsSolved u = Solved w words steps rest lw d′ plan′ y′ u (pivotOf plan u)
@@ -71,9 +71,9 @@ module _ {c : Checks} {w : ℕ} {block states plan y l lr d lr′ d′ : List �
   abbrev IsFree : ℕ → Type 0
   IsFree u = Free w words steps rest lw plan y plan′ y′ u (pivotOf plan u)
 
-  -- position p hangs on pivot i
+  -- position p depends on pivot i
   abbrev D : ℕ → ℕ → Bool
-  D p i = hangs l″ words early (kindOf plan′ p) i
+  D p i = dependsOn l″ words early (kindOf plan′ p) i
 
   few-early : early ≤ 1024
   few-early = omega (arith, G .made .early-steps, few-steps (G .made))
@@ -107,7 +107,7 @@ module _ {c : Checks} {w : ℕ} {block states plan y l lr d lr′ d′ : List �
       P′ = plan-put G B Q
 
       step : early < kindOf plan′ p → kindOf plan′ p ≤ 1024 → (kindOf plan′ p ≤ steps) ⊎ IsPivot plan′ pivots p → (kindOf plan′ p - 1 ≢ c .m) × (kindOf plan′ p - 1 < c .m)
-      step h k (inl e) = (λ q. omega (arith, G .made .steps-free), omega (arith, G .made .steps-free))
+      step h k (inl e) = (λ q. omega (arith, G .made .steps-unused), omega (arith, G .made .steps-unused))
       step h k (inr (u, (hu, e))) = let f : 1024 < kindOf plan′ p = subst (λ (q : ℕ). 1024 < kindOf plan′ q) e (P′ .0 .pivot u hu .kind .0) in absurd (omega arith)
 
   pub reads-here : (p : ℕ) → p < c .n → 4096 < kindOf plan′ p
@@ -130,26 +130,26 @@ module _ {c : Checks} {w : ℕ} {block states plan y l lr d lr′ d′ : List �
       go (inl k) = absurd (omega (arith, kind-same G B Q p k, few-steps (G .made)))
       go (inr (u, (hu, e))) = pivot u hu e (Q .pivot u hu)
 
-  known-hangs : (p i : ℕ) → p < c .n → isKnown states p ≡ true → D p i ≡ false
-  known-hangs p i hp e = hangs-none l″ words early (kindOf plan′ p) i (omega (arith, plan-put G B Q .0 .known p hp e))
+  known-depends : (p i : ℕ) → p < c .n → isKnown states p ≡ true → D p i ≡ false
+  known-depends p i hp e = depends-none l″ words early (kindOf plan′ p) i (omega (arith, plan-put G B Q .0 .known p hp e))
 
-  free-hangs : (u i : ℕ) → u < pivots → IsFree u → D (pivotOf plan u) i ≡ eqb i u
-  free-hangs u i hu f =
+  free-depends : (u i : ℕ) → u < pivots → IsFree u → D (pivotOf plan u) i ≡ eqb i u
+  free-depends u i hu f =
       let k : kindOf plan′ (pivotOf plan u) ≡ 1025 + u = f .kind ∙ G .unsolved u hu in
-      hangs-pivot l″ words early (kindOf plan′ (pivotOf plan u)) i u (omega (arith, few-early)) k (pivot-few G B Q u hu)
+      depends-pivot l″ words early (kindOf plan′ (pivotOf plan u)) i u (omega (arith, few-early)) k (pivot-few G B Q u hu)
 
-  solved-hangs : (u i : ℕ) (s : IsSolved u) → i < 64 * words → D (pivotOf plan u) i ≡ xor (rowBit lr′ (s .row * (words + 1)) i) (eqb i u)
-  solved-hangs u i s hi =
-      hangs-solved l″ words early (kindOf plan′ (pivotOf plan u)) i (steps + s .row) u (omega (arith, few-early, s .kind)) (s .kind) (omega (arith, word-solved s))
+  solved-depends : (u i : ℕ) (s : IsSolved u) → i < 64 * words → D (pivotOf plan u) i ≡ xor (rowBit lr′ (s .row * (words + 1)) i) (eqb i u)
+  solved-depends u i s hi =
+      depends-solved l″ words early (kindOf plan′ (pivotOf plan u)) i (steps + s .row) u (omega (arith, few-early, s .kind)) (s .kind) (omega (arith, word-solved s))
       ∙ ap (λ (b : Bool). xor b (eqb i u)) (bit-kept (s .row) i (s .below) hi)
 
-  -- a word that agrees is x plus the pivots that each position hangs on
+  -- a word that agrees is x plus the pivots that each position depends on
   spread : (z : List ℕ) → AgreesWith c w block states z → (p b : ℕ) → p < c .n → b < w
       → byteAt w z b p ≡ byteAt w x b p ⊕ sum (D p) (λ u. pivotByte w plan z u b) pivots
   spread z a p b hp hb =
       expressed (plan-triangular (G .made) (G .closed)) (byteAt w z b) (byteAt w x b) D v pivots
       (λ q hq e. a .same q hq e b hb ∙ sym (x-known G B Q A q b hq hb e) ∙ sym (unit (byteAt w x b q))
-      ∙ ap (_⊕_ (byteAt w x b q)) (sym (sum-none (D q) v pivots (λ i h. known-hangs q i hq e))))
+      ∙ ap (_⊕_ (byteAt w x b q)) (sym (sum-none (D q) v pivots (λ i h. known-depends q i hq e))))
       (λ u hu. at-pivot u hu (Q .pivot u hu))
       (λ t ht. agreeing-along (G .made) a .holds t b ht hb) (λ t ht. x-holds G B Q A t b ht hb)
       (λ t i ht hi. rw (row-same G B Q t) at (X t i ht (omega (arith, G .room)))) p hp
@@ -164,13 +164,13 @@ module _ {c : Checks} {w : ℕ} {block states plan y l lr d lr′ d′ : List �
       at-pivot u hu (inl s) =
           let row : ℕ → Bool = rowBit lr′ (s .row * (words + 1)) in
           let e : byteAt w x b (pivotOf plan u) ≡ sum row v pivots = x-row G B Q A (s .row) u b (s .below) (solved-word G B Q s) hb ∙ sym (solves-reduced G a (s .row) b (s .below) hb) in
-          sym (ap₂ _⊕_ e (sum-tests (D (pivotOf plan u)) (λ i. xor (row i) (eqb i u)) v pivots (λ i h. solved-hangs u i s (omega (arith, G .room)))
+          sym (ap₂ _⊕_ e (sum-tests (D (pivotOf plan u)) (λ i. xor (row i) (eqb i u)) v pivots (λ i h. solved-depends u i s (omega (arith, G .room)))
           ∙ sum-xor row (λ i. eqb i u) v pivots ∙ ap (_⊕_ (sum row v pivots)) (alone u hu))
           ∙ cancel-l (sum row v pivots) (v u))
       at-pivot u hu (inr f) =
-          sym (ap₂ _⊕_ (x-free G B Q A u b hu hb f) (sum-tests (D (pivotOf plan u)) (λ i. eqb i u) v pivots (λ i h. free-hangs u i hu f) ∙ alone u hu) ∙ unit-l (v u))
+          sym (ap₂ _⊕_ (x-free G B Q A u b hu hb f) (sum-tests (D (pivotOf plan u)) (λ i. eqb i u) v pivots (λ i h. free-depends u i hu f) ∙ alone u hu) ∙ unit-l (v u))
 
-  -- a position that hangs on no pivot
+  -- a position that depends on no pivot
   pub determined : (p : ℕ) → p < c .n → DeterminedIs l″ words early (kindOf plan′ p) true → Common w (AgreesWith c w block states) p
   determined p hp none z z′ a a′ b hb = same z a ∙ sym (same z′ a′)
     where
@@ -180,36 +180,36 @@ module _ {c : Checks} {w : ℕ} {block states plan y l lr d lr′ d′ : List �
           ∙ ap (_⊕_ (byteAt w x b p)) (sum-none (D p) (λ u. pivotByte w plan z u b) pivots (λ i h. none i (omega (arith, G .room))))
           ∙ unit (byteAt w x b p)
 
-  -- on a pivot on which no pivot hangs, nothing does
+  -- on a pivot on which no pivot depends, nothing does
   absent : (i : ℕ) → i < 64 * words → ((u : ℕ) → u < pivots → D (pivotOf plan u) i ≡ false) → (p : ℕ) → p < c .n → D p i ≡ false
   absent i hi none p hp =
       pick-one (D p i) false (vanishes (plan-triangular (G .made) (G .closed)) (λ q. pick (D q i) 1)
-      (λ q hq e. ap (λ (b : Bool). pick b 1) (known-hangs q i hq e)) (λ u hu. ap (λ (b : Bool). pick b 1) (none u hu))
+      (λ q hq e. ap (λ (b : Bool). pick b 1) (known-depends q i hq e)) (λ u hu. ap (λ (b : Bool). pick b 1) (none u hu))
       (λ t ht. rw (row-same G B Q t) at (X t i ht hi)) p hp)
 
-  -- so a position hangs on free pivots only
+  -- so a position depends on free pivots only
   loose : (p i : ℕ) → p < c .n → i < 64 * words → D p i ≡ true → (i < pivots) × IsFree i
   loose p i hp hi t = go (lt-or-le i pivots)
     where
       high : pivots ≤ i → (u : ℕ) → u < pivots → IsSolved u ⊎ IsFree u → D (pivotOf plan u) i ≡ false
       high h u hu (inl s) =
-          solved-hangs u i s hi
+          solved-depends u i s hi
           ∙ ap₂ xor (G .same .absent i hi (high-absent (G .made) (G .closed) (G .unsolved) (G .values) (G .step-rows) (G .system) (G .room) i h hi) (s .row) (s .below))
           (ne-eqb i u (λ e. omega arith)) ∙ xor-false false
-      high h u hu (inr f) = free-hangs u i hu f ∙ ne-eqb i u (λ e. omega arith)
+      high h u hu (inr f) = free-depends u i hu f ∙ ne-eqb i u (λ e. omega arith)
 
       rows : (s : IsSolved i) (u : ℕ) → (q : IsSolved u) → (u ≡ i) ⊎ (u ≢ i) → D (pivotOf plan u) i ≡ false
       rows s u q (inl e) =
-          solved-hangs u i q hi
+          solved-depends u i q hi
           ∙ ap₂ xor (row-here lr′ rest words (G .reduced) (q .row) i (q .below) (solved-word G B Q q ∙ ap (λ (v : ℕ). v + 1) e)) (eq-eqb i u (sym e)) ∙ xor-self true
       rows s u q (inr ne) =
           let away : q .row ≢ s .row = λ e. let k : u + 1 ≡ i + 1 = sym (solved-word G B Q q) ∙ ap (pivotWord lr′ words) e ∙ solved-word G B Q s in ne (omega arith) in
-          solved-hangs u i q hi
+          solved-depends u i q hi
           ∙ ap₂ xor (row-others lr′ rest words (G .reduced) (s .row) (q .row) i (s .below) (q .below) away (solved-word G B Q s)) (ne-eqb i u (λ e. ne (sym e))) ∙ xor-false false
 
       low : IsSolved i → (u : ℕ) → u < pivots → IsSolved u ⊎ IsFree u → D (pivotOf plan u) i ≡ false
       low s u hu (inl q) = rows s u q (eq-or-ne u i)
-      low s u hu (inr f) = free-hangs u i hu f ∙ ne-eqb i u (λ e. f .none (s .row) (s .below) (s .word ∙ ap (λ (v : ℕ). v + 1) e))
+      low s u hu (inr f) = free-depends u i hu f ∙ ne-eqb i u (λ e. f .none (s .row) (s .below) (s .word ∙ ap (λ (v : ℕ). v + 1) e))
 
       its : i < pivots → IsSolved i ⊎ IsFree i → (i < pivots) × IsFree i
       its h (inl s) = absurd (clash t (absent i hi (λ u hu. low s u hu (Q .pivot u hu)) p hp))
@@ -219,7 +219,7 @@ module _ {c : Checks} {w : ℕ} {block states plan y l lr d lr′ d′ : List �
       go (inl h) = its h (Q .pivot i h)
       go (inr h) = absurd (clash t (absent i hi (λ u hu. high h u hu (Q .pivot u hu)) p hp))
 
-  -- ---- x with 1 added to the first byte of each symbol that hangs on free pivot i
+  -- ---- x with 1 added to the first byte of each symbol that depends on free pivot i
 
   module _ (bytes : (t : ℕ) → getD x t 0 < 256) (consistent : Consistent lr′ d′ rest words w) (i : ℕ) (hi : i < pivots) (f : IsFree i) where
     abbrev change : ℕ → ℕ → ℕ
@@ -264,7 +264,7 @@ module _ {c : Checks} {w : ℕ} {block states plan y l lr d lr′ d′ : List �
       bytes = moved-bytes;
       known-byte = λ p b hp hb e.
           moved-byte p b hp hb
-          ∙ ap₂ _⊕_ (x-known G B Q A p b hp hb e) (ap (λ (k : Bool). pick (eqb b 0) (pick k 1)) (known-hangs p i hp e) ∙ pick-none (eqb b 0)) ∙ unit (byteAt w block b p);
+          ∙ ap₂ _⊕_ (x-known G B Q A p b hp hb e) (ap (λ (k : Bool). pick (eqb b 0) (pick k 1)) (known-depends p i hp e) ∙ pick-none (eqb b 0)) ∙ unit (byteAt w block b p);
       holds = λ t b ht hb.
           moved-sum (c .has (rowOf plan t)) (λ q. q) b (c .n) hb (λ q h. h) (rw (row-same G B Q t) at (X t i ht (omega (arith, G .room)))) ∙ x-holds G B Q A t b ht hb;
     }
@@ -291,23 +291,23 @@ module _ {c : Checks} {w : ℕ} {block states plan y l lr d lr′ d′ : List �
             one : (u : ℕ) → u < pivots → sum (λ q. eqb q u) (λ q. pick (row i) 1) pivots ≡ pick (row i) 1
             one u hu = sum-only (λ q. eqb q u) (λ q. pick (row i) 1) u pivots hu (eq-eqb u u refl) (λ q h e. eqb-true q u e)
 
-            at-hangs : D (pivotOf plan at) i ≡ row i
-            at-hangs =
+            at-depends : D (pivotOf plan at) i ≡ row i
+            at-depends =
                 let s = row-solved G B Q r at hr (v .word) in
-                solved-hangs at i (s .0) (omega (arith, G .room))
+                solved-depends at i (s .0) (omega (arith, G .room))
                 ∙ ap₂ (λ (j : ℕ) (b : Bool). xor (rowBit lr′ (j * (words + 1)) i) b) (s .1) (ne-eqb i at (λ e. apart (sym e))) ∙ xor-false (row i)
 
             term : (q : ℕ) → q < pivots → (q ≡ at) ⊎ (q ≢ at) → (q ≡ i) ⊎ (q ≢ i) → (b : Bool) → row q ≡ b
                 → pick (row q) (pick (D (pivotOf plan q) i) 1) ≡ pick (xor (eqb q at) (eqb q i)) (pick (row i) 1)
             term q hq (inl e) (inl k) b t = absurd (apart (sym e ∙ k))
             term q hq (inl e) (inr k) b t =
-                ap₂ (λ (a h : Bool). pick a (pick h 1)) (ap row e ∙ v .here) (ap (λ (u : ℕ). D (pivotOf plan u) i) e ∙ at-hangs)
+                ap₂ (λ (a h : Bool). pick a (pick h 1)) (ap row e ∙ v .here) (ap (λ (u : ℕ). D (pivotOf plan u) i) e ∙ at-depends)
                 ∙ sym (ap (λ (a : Bool). pick a (pick (row i) 1)) (ap₂ xor (eq-eqb q at e) (ne-eqb q i k) ∙ xor-false true))
             term q hq (inr e) (inl k) b t =
-                ap₂ (λ (a h : Bool). pick a (pick h 1)) (ap row k) (ap (λ (u : ℕ). D (pivotOf plan u) i) k ∙ free-hangs i i hi f ∙ eq-eqb i i refl)
+                ap₂ (λ (a h : Bool). pick a (pick h 1)) (ap row k) (ap (λ (u : ℕ). D (pivotOf plan u) i) k ∙ free-depends i i hi f ∙ eq-eqb i i refl)
                 ∙ sym (ap (λ (a : Bool). pick a (pick (row i) 1)) (ap₂ xor (ne-eqb q at e) (eq-eqb q i k) ∙ xor-on true))
             term q hq (inr e) (inr k) true t =
-                ap (λ (h : Bool). pick (row q) (pick h 1)) (free-hangs q i hq (other-free G B Q r at q hr (v .word) hq e t) ∙ ne-eqb i q (λ j. k (sym j))) ∙ pick-none (row q)
+                ap (λ (h : Bool). pick (row q) (pick h 1)) (free-depends q i hq (other-free G B Q r at q hr (v .word) hq e t) ∙ ne-eqb i q (λ j. k (sym j))) ∙ pick-none (row q)
                 ∙ sym (ap (λ (a : Bool). pick a (pick (row i) 1)) (ap₂ xor (ne-eqb q at e) (ne-eqb q i k) ∙ xor-false false))
             term q hq (inr e) (inr k) false t =
                 ap (λ (a : Bool). pick a (pick (D (pivotOf plan q) i) 1)) t
@@ -337,6 +337,6 @@ module _ {c : Checks} {w : ℕ} {block states plan y l lr d lr′ d′ : List �
       ),
     )
 
-  -- a position that hangs on a pivot
+  -- a position that depends on a pivot
   pub undetermined : ((t : ℕ) → getD x t 0 < 256) → Consistent lr′ d′ rest words w → (p : ℕ) → p < c .n → DeterminedIs l″ words early (kindOf plan′ p) false → Differs c w block states x p
   undetermined bytes consistent p hp (i, (hi, t)) = let f = loose p i hp hi t in moved-differs bytes consistent i (f .0) (f .1) p hp t

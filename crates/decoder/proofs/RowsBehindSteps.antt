@@ -17,10 +17,10 @@ use Rattle.algebra.proofs.Codeword.{slot}
 use Rattle.elimination.specs.Bits.{rowBit, testBit}
 use Rattle.elimination.proofs.Order.{lt-or-le}
 use Rattle.peeling.specs.Plan.{kindOf, rowOf, Plan, Closed, Unsolved}
-use Rattle.pivot_equations.specs.Express.{hangs, hang, StepsExpressed, SameBelow}
+use Rattle.pivot_equations.specs.Express.{dependsOn, coefficient, StepsExpressed, SameBelow}
 use Rattle.decoder.specs.Equations.{behind}
 use Rattle.peeling.proofs.StepLaws.{few-steps, IsPivot, kind-cases}
-use Rattle.pivot_equations.proofs.Hanging.{hangs-none, hangs-step, hangs-pivot}
+use Rattle.pivot_equations.proofs.Dependence.{depends-none, depends-step, depends-pivot}
 
 -- row i behind the steps is row steps + i
 module _ (l : List ℕ) (words steps : ℕ) where
@@ -36,7 +36,7 @@ module _ (l : List ℕ) (words steps : ℕ) where
 -- ---- before any pivot is solved
 
 module _ {c : Checks} {states plan : List ℕ} {early steps pivots : ℕ} (P : Plan c states plan early steps pivots) (closed : Closed c plan) (U : Unsolved plan pivots) where
-  -- rows that change behind the steps leave what the steps hang on
+  -- rows that change behind the steps leave what the steps depend on
   module _ (l l′ : List ℕ) (words : ℕ) (S : SameBelow l l′ words steps) where
     same-row : (t i : ℕ) → t < steps → i < 64 * words → rowBit l′ (t * (words + 1)) i ≡ rowBit l (t * (words + 1)) i
     unfolding rowBit
@@ -45,24 +45,24 @@ module _ {c : Checks} {states plan : List ℕ} {early steps pivots : ℕ} (P : P
         let r : t * (words + 1) + (words + 1) ≤ steps * (words + 1) = slot t steps (words + 1) h in
         ap (λ (v : ℕ). testBit v (i % 64)) (S .below (t * (words + 1) + i / 64) (omega arith))
 
-    same-hangs : (p i : ℕ) → p < c .n → i < 64 * words → hangs l′ words early (kindOf plan p) i ≡ hangs l words early (kindOf plan p) i
-    same-hangs p i h g = go (kind-cases P closed p h) (lt-or-le early (kindOf plan p))
+    same-depends : (p i : ℕ) → p < c .n → i < 64 * words → dependsOn l′ words early (kindOf plan p) i ≡ dependsOn l words early (kindOf plan p) i
+    same-depends p i h g = go (kind-cases P closed p h) (lt-or-le early (kindOf plan p))
       where
         go : (kindOf plan p ≤ steps) ⊎ IsPivot plan pivots p → (early < kindOf plan p) ⊎ (kindOf plan p ≤ early)
-            → hangs l′ words early (kindOf plan p) i ≡ hangs l words early (kindOf plan p) i
-        go k (inr none) = hangs-none l′ words early (kindOf plan p) i none ∙ sym (hangs-none l words early (kindOf plan p) i none)
+            → dependsOn l′ words early (kindOf plan p) i ≡ dependsOn l words early (kindOf plan p) i
+        go k (inr none) = depends-none l′ words early (kindOf plan p) i none ∙ sym (depends-none l words early (kindOf plan p) i none)
         go (inl b) (inl some) =
             let few : kindOf plan p ≤ 1024 = omega (arith, few-steps P) in
-            hangs-step l′ words early (kindOf plan p) i some few ∙ same-row (kindOf plan p - 1) i (omega arith) g
-            ∙ sym (hangs-step l words early (kindOf plan p) i some few)
+            depends-step l′ words early (kindOf plan p) i some few ∙ same-row (kindOf plan p - 1) i (omega arith) g
+            ∙ sym (depends-step l words early (kindOf plan p) i some few)
         go (inr (u, (hu, q))) (inl some) =
             let e : kindOf plan p ≡ 1025 + u = ap (kindOf plan) (sym q) ∙ U u hu in
             let few : u < 3072 = omega (arith, P .pivots-few, P .positions) in
-            hangs-pivot l′ words early (kindOf plan p) i u some e few ∙ sym (hangs-pivot l words early (kindOf plan p) i u some e few)
+            depends-pivot l′ words early (kindOf plan p) i u some e few ∙ sym (depends-pivot l words early (kindOf plan p) i u some e few)
 
     pub steps-stay : StepsExpressed c plan l words early steps → StepsExpressed c plan l′ words early steps
     steps-stay X t i h g =
-        sum-ext (c .has (rowOf plan t)) (λ x. hang plan l′ words early x i) (λ x. hang plan l words early x i) (c .n) (λ p q. ap (λ (b : Bool). pick b 1) (same-hangs p i q g))
+        sum-ext (c .has (rowOf plan t)) (λ x. coefficient plan l′ words early x i) (λ x. coefficient plan l words early x i) (c .n) (λ p q. ap (λ (b : Bool). pick b 1) (same-depends p i q g))
         ∙ X t i h g
 
 -- a part up to the end is what is left behind its start

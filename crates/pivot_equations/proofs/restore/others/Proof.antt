@@ -6,8 +6,8 @@ use Prim.Native.Nat.{_≤_, _-_}
 use native.Mathlib.Omega.{arith}
 use Rattle.pivot_equations.specs.Unused.{Others}
 use Rattle.pivot_equations.proofs.Restored.{others-none, others-skip, others-take, others-at}
-use Rattle.pivot_equations.proofs.again.others.Statement.{statement}
-use Rattle.pivot_equations.proofs.again.others.Tie as tie
+use Rattle.pivot_equations.proofs.restore.others.Statement.{statement}
+use Rattle.pivot_equations.proofs.restore.others.Tie as tie
 
 abbrev Inv-loop : tie.InvT-loop
 Inv-loop xs₀ n p k₀ i₀ xs k i = (i ≤ n) × Others xs₀ i p xs k

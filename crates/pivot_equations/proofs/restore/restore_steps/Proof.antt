@@ -1,19 +1,19 @@
--- `pivot_equations::again::again` meets its contract: the first t steps hold.
+-- `pivot_equations::restore::restore_steps` meets its contract: the first t steps hold.
 -- Assumes nothing.
 use mathlib.Core.Path.{_≡_, _∙_}
 use Prim.Native.Nat.{_≤_, _<_, _+_, _-_}
 use native.Mathlib.Omega.{arith}
 use lib.ListN.{length}
 use Rattle.peeling.specs.Table.{checks}
-use Rattle.peeling.specs.Values.{Again}
+use Rattle.peeling.specs.Values.{StepsRestored}
 use Rattle.peeling.proofs.StepLaws.{few-steps}
-use Rattle.pivot_equations.proofs.Restored.{again-none, again-more, again-all}
-use Rattle.pivot_equations.proofs.again.again.Statement.{statement}
-use Rattle.pivot_equations.proofs.again.again.Tie as tie
+use Rattle.pivot_equations.proofs.Restored.{restored-none, restored-more, restored-all}
+use Rattle.pivot_equations.proofs.restore.restore_steps.Statement.{statement}
+use Rattle.pivot_equations.proofs.restore.restore_steps.Tie as tie
 
 abbrev Inv-loop : tie.InvT-loop
 Inv-loop s r firsts ends classes plan symbols₀ xs₀ t₀ symbols xs t =
-    ((r .early ≤ t) × (t ≤ r .steps)) × (length xs ≡ 64) × Again (checks s) (s .w) plan symbols₀ symbols (r .early) t
+    ((r .early ≤ t) × (t ≤ r .steps)) × (length xs ≡ 64) × StepsRestored (checks s) (s .w) plan symbols₀ symbols (r .early) t
 
 abbrev μ-loop : tie.MeasureT-loop
 μ-loop s r firsts ends classes plan symbols₀ xs₀ t₀ symbols xs t = r .steps - t
@@ -25,7 +25,7 @@ no-positions-requires : tie.Need-no-positions-requires Inv-loop μ-loop
 no-positions-requires c κs = tt
 
 loop-holds : tie.Need-loop-holds Inv-loop μ-loop
-loop-holds c = ((omega arith, omega (arith, c .before .before .before .pre .1 .0 .made .early-steps)), c .no-positions .ensures, again-none _ _ (c .before .before .before .pre .1 .0 .made) (c .before .before .before .pre .1 .1 .1))
+loop-holds c = ((omega arith, omega (arith, c .before .before .before .pre .1 .0 .made .early-steps)), c .no-positions .ensures, restored-none _ _ (c .before .before .before .pre .1 .0 .made) (c .before .before .before .pre .1 .1 .1))
 
 add-restore-by : tie.Need-add-restore-by Inv-loop μ-loop
 add-restore-by c = omega (arith, few c)
@@ -63,16 +63,16 @@ loop-less : tie.Need-loop-less Inv-loop μ-loop
 loop-less c = omega arith
 
 loop-again : tie.Need-loop-again Inv-loop μ-loop
-loop-again c = ((omega arith, omega arith), c .before .before .restore-by .ensures .0, again-more _ _ (c .before .before .before .before .before .before .before .before .before .before .before .before .before .pre .1 .0 .made) (c .before .before .before .before .before .before .before .before .before .loop .inv .0 .0) (omega arith) (c .before .before .before .before .before .before .before .before .before .loop .inv .2) (c .before .before .restore-by .ensures .1))
+loop-again c = ((omega arith, omega arith), c .before .before .restore-by .ensures .0, restored-more _ _ (c .before .before .before .before .before .before .before .before .before .before .before .before .before .pre .1 .0 .made) (c .before .before .before .before .before .before .before .before .before .loop .inv .0 .0) (omega arith) (c .before .before .before .before .before .before .before .before .before .loop .inv .2) (c .before .before .restore-by .ensures .1))
 
 same-length : tie.Need-same-length Inv-loop μ-loop
 same-length c = c .before .before .loop .inv .2 .size
 
 returns : tie.Need-returns Inv-loop μ-loop
-returns c = again-all _ _ (c .before .before .before .before .before .before .pre .1 .0 .made) (c .before .before .loop .inv .2) (omega arith)
+returns c = restored-all _ _ (c .before .before .before .before .before .before .pre .1 .0 .made) (c .before .before .loop .inv .2) (omega arith)
 
-pub again-spec : {M : Type 1} → statement M
-again-spec =
+pub restore-steps-spec : {M : Type 1} → statement M
+restore-steps-spec =
     tie.close
     (tie.spec
     Inv-loop

@@ -1,4 +1,4 @@
--- On which pivots a position hangs, by its kind.
+-- On which pivots a position depends, by its kind.
 -- Assumes nothing.
 use mathlib.Core.Path.{_≡_}
 use mathlib.Core.Bool.{false, xor}
@@ -9,30 +9,30 @@ use lib.Dec.{eqb}
 use borrow.Author.Tests.{lt-ltb, le-ltb}
 use Rattle.elimination.specs.Bits.{rowBit}
 use Rattle.elimination.specs.Reduced.{pivotWord}
-use Rattle.pivot_equations.specs.Express.{hangs}
+use Rattle.pivot_equations.specs.Express.{dependsOn}
 
 module _ (l : List ℕ) (words early kind i : ℕ) where
   -- known, or settled before step `early`: on nothing
-  pub hangs-none : kind ≤ early → hangs l words early kind i ≡ false
-  unfolding hangs
-  hangs-none h = rw (le-ltb early kind h)
+  pub depends-none : kind ≤ early → dependsOn l words early kind i ≡ false
+  unfolding dependsOn
+  depends-none h = rw (le-ltb early kind h)
 
   -- settled by a step: on what the step's row has
-  pub hangs-step : early < kind → kind ≤ 1024 → hangs l words early kind i ≡ rowBit l ((kind - 1) * (words + 1)) i
-  unfolding hangs
-  hangs-step h g = rw (lt-ltb early kind h, le-ltb 1024 kind g)
+  pub depends-step : early < kind → kind ≤ 1024 → dependsOn l words early kind i ≡ rowBit l ((kind - 1) * (words + 1)) i
+  unfolding dependsOn
+  depends-step h g = rw (lt-ltb early kind h, le-ltb 1024 kind g)
 
   -- pivot u: on itself alone
-  pub hangs-pivot : (u : ℕ) → early < kind → kind ≡ 1025 + u → u < 3072 → hangs l words early kind i ≡ eqb i u
-  unfolding hangs
-  hangs-pivot u h e g =
+  pub depends-pivot : (u : ℕ) → early < kind → kind ≡ 1025 + u → u < 3072 → dependsOn l words early kind i ≡ eqb i u
+  unfolding dependsOn
+  depends-pivot u h e g =
       let k : kind - 1025 ≡ u = omega arith in
       rw (lt-ltb early kind h, lt-ltb 1024 kind (omega arith), le-ltb 4096 kind (omega arith), k)
 
   -- the pivot u that reduced row r has: on the row's others
-  pub hangs-solved : (r u : ℕ) → early < kind → kind ≡ 4097 + r → u ≡ pivotWord l words r - 1
-      → hangs l words early kind i ≡ xor (rowBit l (r * (words + 1)) i) (eqb i u)
-  unfolding hangs
-  hangs-solved r u h e f =
+  pub depends-solved : (r u : ℕ) → early < kind → kind ≡ 4097 + r → u ≡ pivotWord l words r - 1
+      → dependsOn l words early kind i ≡ xor (rowBit l (r * (words + 1)) i) (eqb i u)
+  unfolding dependsOn
+  depends-solved r u h e f =
       let k : kind - 4097 ≡ r = omega arith in
       rw (lt-ltb early kind h, lt-ltb 1024 kind (omega arith), lt-ltb 4096 kind (omega arith), k, f)
