@@ -10,11 +10,16 @@ ghost use Rattle.block.specs.Block.{blockRefusal};
 pub fn check_block(b: Block, symbolsLength: usize, marksLength: usize) -> u8
     ensures { λ r. ⌜ r ≡ blockRefusal b symbolsLength marksLength ⌝ }
 {
-    let earlier = checks::check_label(b.code, b.w, b.protocol, b.lsc);
-    if earlier != 0 {
-        return earlier;
-    }
     let code = Code { number: b.code };
+    if !code.known() {
+        return refusal::CODE;
+    }
+    if Code::wrong_width(b.w) {
+        return refusal::WIDTH;
+    }
+    if checks::wrong_label(b.protocol, b.lsc) {
+        return refusal::LABEL;
+    }
     if symbolsLength != code.block_bytes(b.w) {
         return refusal::LENGTH;
     }

@@ -11,8 +11,8 @@ use borrow.Author.Tests.{not-false, eq-eqb, ne-eqb, eqb-true, eqb-false, ltb-fal
 use Rattle.ccsds.specs.Tables.{codeOf, isCode, Known}
 use Rattle.ccsds.specs.RefusalTable.{Refusal}
 use Rattle.ccsds.specs.RefusalTable as refusal
-use Rattle.ccsds.specs.Refusals.{wrongCode, wrongWidth, wrongLabel, wrongLength, wrongPosition, codeConditions, labelConditions, encoderConditions, Outcome, refused, answered, _⟫_, refuseIf, outcome, afterwards, bytesOf}
-use Rattle.ccsds.proofs.RefusalOrder.{chain, parts-none, first-none}
+use Rattle.ccsds.specs.Refusals.{firstOf, wrongCode, wrongWidth, wrongLabel, wrongLength, wrongPosition, codeConditions, labelConditions, encoderConditions, Outcome, refused, answered, _⟫_, refuseIf, outcome, afterwards, bytesOf}
+use Rattle.ccsds.proofs.RefusalOrder.{chain, in-order, parts-none, first-is, first-on, first-end, first-none}
 
 -- ---- the conditions
 
@@ -95,6 +95,27 @@ label-none number w protocol lsc z =
     let a = parts-none (codeConditions number w) ((refusal.label, wrongLabel protocol lsc) ∷ []) z in
     let c = code-none number w (a .0) in
     (c .0, c .1, first-none refusal.label (wrongLabel protocol lsc) _ (a .1) .0)
+
+-- the label's conditions, one after the other, by what known, the width and the label's test say
+module _ (number w protocol lsc : ℕ) where
+  pub label-code : (k : Bool) → k ≡ isCode number → not k ≡ true → 1 ≡ firstOf (labelConditions number w protocol lsc)
+  unfolding wrongCode
+  label-code k e h = sym (in-order _ refl ∙ first-is _ _ _ (ap not (sym e) ∙ h))
+
+  module _ (k : Bool) (e : k ≡ isCode number) (h : not k ≡ false) where
+    code : wrongCode number ≡ false
+    unfolding wrongCode
+    code = ap not (sym e) ∙ h
+
+    pub label-width : (t : Bool) → t ≡ wrongWidth w → t ≡ true → 2 ≡ firstOf (labelConditions number w protocol lsc)
+    label-width t f g = sym (in-order _ refl ∙ first-on _ _ _ code ∙ first-is _ _ _ (sym f ∙ g))
+
+    module _ (t : Bool) (f : t ≡ wrongWidth w) (g : t ≡ false) where
+      pub label-label : (l : Bool) → l ≡ wrongLabel protocol lsc → l ≡ true → 3 ≡ firstOf (labelConditions number w protocol lsc)
+      label-label l q r = sym (in-order _ refl ∙ first-on _ _ _ code ∙ first-on _ _ _ (sym f ∙ g) ∙ first-is _ _ _ (sym q ∙ r))
+
+      pub label-passed : (l : Bool) → l ≡ wrongLabel protocol lsc → l ≡ false → 0 ≡ firstOf (labelConditions number w protocol lsc)
+      label-passed l q r = sym (in-order _ refl ∙ first-on _ _ _ code ∙ first-on _ _ _ (sym f ∙ g) ∙ first-on _ _ _ (sym q ∙ r) ∙ first-end)
 
 pub encoder-none : (number w i p : ℕ) → chain (encoderConditions number w i p) ≡ 0
     → (wrongCode number ≡ false) × (wrongWidth w ≡ false) × (i ≡ codeOf number .k * w) × (p ≡ codeOf number .m * w)

@@ -2,7 +2,7 @@
 use crate::code::Code;
 use crate::refusal;
 ghost use mathlib.Core.Path.{_≡_};
-ghost use Rattle.ccsds.specs.Refusals.{firstOf, codeConditions, labelConditions, encoderConditions, wrongLabel};
+ghost use Rattle.ccsds.specs.Refusals.{firstOf, codeConditions, encoderConditions, wrongLabel};
 
 pub fn wrong_label(protocol: usize, lsc: usize) -> bool
     ensures { λ r. ⌜ r ≡ wrongLabel protocol lsc ⌝ }
@@ -26,20 +26,6 @@ pub fn check_code(number: usize, w: usize) -> u8
     }
     if Code::wrong_width(w) {
         return refusal::WIDTH;
-    }
-    0
-}
-
-// 1 to 3, or 0.
-pub fn check_label(number: usize, w: usize, protocol: usize, lsc: usize) -> u8
-    ensures { λ r. ⌜ r ≡ firstOf (labelConditions number w protocol lsc) ⌝ }
-{
-    let earlier = check_code(number, w);
-    if earlier != 0 {
-        return earlier;
-    }
-    if wrong_label(protocol, lsc) {
-        return refusal::LABEL;
     }
     0
 }

@@ -55,11 +55,16 @@ fn check_write(
 ) -> u8
     ensures { λ r. ⌜ r ≡ writeRefusal number w protocol lsc lwc symbolLength outLength ⌝ }
 {
-    let earlier = checks::check_label(number, w, protocol, lsc);
-    if earlier != 0 {
-        return earlier;
-    }
     let code = Code { number };
+    if !code.known() {
+        return refusal::CODE;
+    }
+    if Code::wrong_width(w) {
+        return refusal::WIDTH;
+    }
+    if checks::wrong_label(protocol, lsc) {
+        return refusal::LABEL;
+    }
     let size = code.unit_bytes(w);
     let misplaced = code.wrong_position(lwc);
     if outLength != size {

@@ -1,6 +1,5 @@
 // A quick reader for the units that a receiver expects: those whose bytes before the symbol are as write makes them for a code, a W, a protocol ID
 // and an LSC, whatever their LWC. Internal: block's take.
-use ccsds::checks;
 use ccsds::code::Code;
 use ccsds::reader::Extension;
 use ccsds::reader::Parameters;
@@ -86,7 +85,11 @@ fn symbol_after(s: &[u8], w: usize, k: usize, n: usize) -> usize
 pub fn read(number: usize, w: usize, protocol: usize, lsc: usize, s: &[u8]) -> Expected
     ensures { λ r. ⌜ Agrees r (readUnit (now (s .entry))) ⌝ }
 {
-    if checks::check_code(number, w) != 0 {
+    let code = Code { number };
+    if !code.known() {
+        return Expected::Other;
+    }
+    if Code::wrong_width(w) {
         return Expected::Other;
     }
     if s.len() < 15 {
@@ -95,7 +98,6 @@ pub fn read(number: usize, w: usize, protocol: usize, lsc: usize, s: &[u8]) -> E
     if !is_header(s, protocol, lsc) {
         return Expected::Other;
     }
-    let code = Code { number };
     let k = code.k();
     let n = code.n();
     let symbol = symbol_after(s, w, k, n);

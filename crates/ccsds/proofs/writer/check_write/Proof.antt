@@ -3,20 +3,27 @@
 use mathlib.Core.Path.{_≡_, refl, sym, _∙_}
 use mathlib.Core.Bool.{false}
 use mathlib.Core.List.{[], _∷_}
+use native.Mathlib.Omega.{arith}
 use borrow.Author.Needs.{needs}
 use Rattle.ccsds.specs.Codes.{nOf}
 use Rattle.ccsds.specs.Tables.{codeOf}
 use Rattle.ccsds.specs.RefusalTable as refusal
-use Rattle.ccsds.specs.Refusals.{labelConditions, wrongLength, wrongPosition}
+use Rattle.ccsds.specs.Refusals.{firstOf, labelConditions, wrongLength, wrongPosition}
 use Rattle.ccsds.specs.Writer.{unitLength, writeRefusal}
 use Rattle.ccsds.proofs.RefusalOrder.{chain, in-order, part-refuses, part-passed, first-is, first-on, first-end}
-use Rattle.ccsds.proofs.Refusals.{label-none, length-same, length-wrong}
+use Rattle.ccsds.proofs.Refusals.{label-none, label-code, label-width, label-label, label-passed, length-same, length-wrong}
 use Rattle.ccsds.proofs.UnitLaws.{unit-right}
 use Rattle.ccsds.proofs.writer.check_write.Statement.{statement}
 use Rattle.ccsds.proofs.writer.check_write.Tie as tie
 
--- the code, the width and the label are right
-passed : (c : tie.Else1) → let a = c .before .before .args in
+-- the label's conditions do not apply
+label : (c : tie.Else3) → let a = c .before .before .before .before .before .before .args in 0 ≡ firstOf (labelConditions (a .number) (a .w) (a .protocol) (a .lsc))
+label c =
+    let w = c .before .before in
+    let k = w .before .before in
+    label-passed _ _ _ _ _ (k .before .known .ensures) (k .if1 .left) _ (w .before .wrong-width .ensures) (w .if2 .left) _ (c .before .wrong-label .ensures) (c .if3 .left)
+
+passed : (c : tie.Else3) → let a = c .before .before .before .before .before .before .args in
     writeRefusal (a .number) (a .w) (a .protocol) (a .lsc) (a .lwc) (a .symbolLength) (a .outLength)
     ≡ chain (
     (refusal.length, wrongLength (a .outLength) (unitLength (codeOf (a .number)) (a .w)))
@@ -26,31 +33,54 @@ passed : (c : tie.Else1) → let a = c .before .before .args in
     )
 unfolding writeRefusal
 passed c =
-    let a = c .before .before .args in
-    part-passed (labelConditions (a .number) (a .w) (a .protocol) (a .lsc)) _ refl refl _ (c .before .check-label .ensures) (c .if1 .left)
+    let a = c .before .before .before .before .before .before .args in
+    part-passed (labelConditions (a .number) (a .w) (a .protocol) (a .lsc)) _ refl refl _ (label c) refl
 
 -- each of the two that are found first, and the tests that they pass
-output : (c : tie.After-wrong-position) → let a = c .before .before .before .before .args in
+output : (c : tie.After-wrong-position) → let a = c .before .before .before .before .before .before .before .before .args in
     c .before .unit-bytes .result ≡ unitLength (codeOf (a .number)) (a .w)
 output c =
-    let e = c .before .before in
-    let n = label-none _ _ _ _ (sym (in-order _ refl) ∙ sym (e .before .check-label .ensures) ∙ e .if1 .left) in
+    let n = label-none _ _ _ _ (sym (in-order _ refl) ∙ sym (label (c .before .before))) in
     c .before .unit-bytes .ensures ∙ unit-right _ _ (n .0) (n .1)
 
-size : (c : tie.Else2) → let a = c .before .before .before .before .before .args in wrongLength (a .outLength) (unitLength (codeOf (a .number)) (a .w)) ≡ false
-size c = length-same _ _ (c .if2 .left ∙ output (c .before))
+size : (c : tie.Else4) → let a = c .before .before .before .before .before .before .before .before .before .args in wrongLength (a .outLength) (unitLength (codeOf (a .number)) (a .w)) ≡ false
+size c = length-same _ _ (c .if4 .left ∙ output (c .before))
 
-placed : (c : tie.Else3) → let a = c .before .before .before .before .before .before .args in wrongPosition (nOf (codeOf (a .number))) (a .lwc) ≡ false
-placed c = sym (c .before .before .wrong-position .ensures) ∙ c .if3 .left
+placed : (c : tie.Else5) → let a = c .before .before .before .before .before .before .before .before .before .before .args in wrongPosition (nOf (codeOf (a .number))) (a .lwc) ≡ false
+placed c = sym (c .before .before .wrong-position .ensures) ∙ c .if5 .left
 
-check-label-requires : tie.Need-check-label-requires
-check-label-requires c κs = search needs
+known-requires : tie.Need-known-requires
+known-requires c κs = search needs
 
 returns : tie.Need-returns
 unfolding writeRefusal
 returns c =
     let a = c .before .before .args in
-    part-refuses (labelConditions (a .number) (a .w) (a .protocol) (a .lsc)) _ refl refl _ (c .before .check-label .ensures) (c .if1 .taken)
+    part-refuses (labelConditions (a .number) (a .w) (a .protocol) (a .lsc)) _ refl refl 1 (label-code _ _ _ _ _ (c .before .known .ensures) (c .if1 .taken)) (λ e. omega arith)
+
+wrong-width-requires : tie.Need-wrong-width-requires
+wrong-width-requires c κs = search needs
+
+returns-2 : tie.Need-returns-2
+unfolding writeRefusal
+returns-2 c =
+    let k = c .before .before in
+    let a = k .before .before .args in
+    part-refuses (labelConditions (a .number) (a .w) (a .protocol) (a .lsc)) _ refl refl 2
+    (label-width _ _ _ _ _ (k .before .known .ensures) (k .if1 .left) _ (c .before .wrong-width .ensures) (c .if2 .taken)) (λ e. omega arith)
+
+wrong-label-requires : tie.Need-wrong-label-requires
+wrong-label-requires c κs = search needs
+
+returns-3 : tie.Need-returns-3
+unfolding writeRefusal
+returns-3 c =
+    let w = c .before .before in
+    let k = w .before .before in
+    let a = k .before .before .args in
+    part-refuses (labelConditions (a .number) (a .w) (a .protocol) (a .lsc)) _ refl refl 3
+    (label-label _ _ _ _ _ (k .before .known .ensures) (k .if1 .left) _ (w .before .wrong-width .ensures) (w .if2 .left) _ (c .before .wrong-label .ensures) (c .if3 .taken))
+    (λ e. omega arith)
 
 unit-bytes-requires : tie.Need-unit-bytes-requires
 unit-bytes-requires c κs = search needs
@@ -58,35 +88,39 @@ unit-bytes-requires c κs = search needs
 wrong-position-requires : tie.Need-wrong-position-requires
 wrong-position-requires c κs = search needs
 
-returns-2 : tie.Need-returns-2
-returns-2 c = let p = c .before in sym (passed (p .before .before) ∙ first-is _ _ _ (length-wrong _ _ (λ e. c .if2 .taken (e ∙ sym (output p)))))
-
-returns-3 : tie.Need-returns-3
-returns-3 c =
-    let p = c .before .before in
-    sym (passed (p .before .before) ∙ first-on _ _ _ (size (c .before)) ∙ first-is _ _ _ (sym (p .wrong-position .ensures) ∙ c .if3 .taken))
-
 returns-4 : tie.Need-returns-4
-returns-4 c =
-    let e = c .before in
-    let p = e .before .before in
-    sym (passed (p .before .before) ∙ first-on _ _ _ (size (e .before)) ∙ first-on _ _ _ (placed e) ∙ first-is _ _ _ (length-wrong _ _ (c .if4 .taken)))
+returns-4 c = let p = c .before in sym (passed (p .before .before) ∙ first-is _ _ _ (length-wrong _ _ (λ e. c .if4 .taken (e ∙ sym (output p)))))
 
 returns-5 : tie.Need-returns-5
 returns-5 c =
+    let p = c .before .before in
+    sym (passed (p .before .before) ∙ first-on _ _ _ (size (c .before)) ∙ first-is _ _ _ (sym (p .wrong-position .ensures) ∙ c .if5 .taken))
+
+returns-6 : tie.Need-returns-6
+returns-6 c =
     let e = c .before in
     let p = e .before .before in
-    sym (passed (p .before .before) ∙ first-on _ _ _ (size (e .before)) ∙ first-on _ _ _ (placed e) ∙ first-on _ _ _ (length-same _ _ (c .if4 .left)) ∙ first-end)
+    sym (passed (p .before .before) ∙ first-on _ _ _ (size (e .before)) ∙ first-on _ _ _ (placed e) ∙ first-is _ _ _ (length-wrong _ _ (c .if6 .taken)))
+
+returns-7 : tie.Need-returns-7
+returns-7 c =
+    let e = c .before in
+    let p = e .before .before in
+    sym (passed (p .before .before) ∙ first-on _ _ _ (size (e .before)) ∙ first-on _ _ _ (placed e) ∙ first-on _ _ _ (length-same _ _ (c .if6 .left)) ∙ first-end)
 
 pub check-write-spec : {M : Type 1} → statement M
 check-write-spec =
     tie.close
     (tie.spec
-    check-label-requires
+    known-requires
     returns
+    wrong-width-requires
+    returns-2
+    wrong-label-requires
+    returns-3
     unit-bytes-requires
     wrong-position-requires
-    returns-2
-    returns-3
     returns-4
-    returns-5)
+    returns-5
+    returns-6
+    returns-7)
