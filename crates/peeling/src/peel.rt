@@ -241,6 +241,18 @@ fn put_off(
     }
 }
 
+// The next row to try; m where there is none, or none may be tried any more.
+fn next_row(fuel: usize, m: usize, ready: &mut [u64; 16]) -> usize
+    requires { ⌜ length (now ready) ≡ 16 ⌝ }
+    ensures { λ r. ⌜ (r < m → 0 < fuel) ⌝ }
+    ensures { λ _. ⌜ length (now (ready .exit)) ≡ 16 ⌝ }
+{
+    if fuel == 0 {
+        return m;
+    }
+    hints::next(ready)
+}
+
 // One step, or a check row that turned out not to be ready, or one position put off.
 fn turn(
     s: Shape,
@@ -264,11 +276,8 @@ fn turn(
     ensures { λ _. ⌜ Hinted (now (table .entry)) (now (counts .exit)) (now (ready .exit)) ⌝ }
     ensures { λ h. ⌜ Continued (checks s) (s .w) (now (plan .entry)) (now (symbols .entry)) g (now (plan .exit)) (now (symbols .exit)) h ⌝ }
 {
-    if g.fuel == 0 {
-        return put_off(s, g, table, plan, symbols, counts, ready);
-    }
     let l = s.layout;
-    let r = hints::next(ready);
+    let r = next_row(g.fuel, l.m, ready);
     if r >= l.m {
         return put_off(s, g, table, plan, symbols, counts, ready);
     }
