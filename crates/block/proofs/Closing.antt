@@ -1,6 +1,6 @@
 -- A close put together: the marks from what the decoder tells, the report, and the call by its refusal.
 -- Assumes nothing.
-use mathlib.Core.Path.{_≡_, refl, sym, ap, _∙_, subst, fun-ext}
+use mathlib.Core.Path.{_≡_, refl, sym, ap, _∙_, subst}
 use mathlib.Core.Bool.{Bool, true, false, cond}
 use mathlib.Core.List.{List}
 use Prim.Native.Nat.{ℕ, _<_, _≤_}
@@ -8,8 +8,8 @@ use native.Mathlib.Omega.{arith}
 use lib.Dec.{eqb}
 use lib.ListN.{length, getD, replicate}
 use lib.Seq.{ext-getD}
-use Rattle.algebra.specs.Lists.{tab, count}
-use Rattle.algebra.specs.Agreeing.{Verdict, agreeing, verdictOf, determined, filledSymbols}
+use Rattle.algebra.specs.Lists.{count}
+use Rattle.algebra.specs.Agreeing.{Verdict, agreeing, verdictOf, determined}
 use Rattle.algebra.proofs.Lists.{length-tab, getD-tab}
 use Rattle.algebra.proofs.SameKnown.{SameKnown, same-agreeing, same-filled}
 use Rattle.ccsds.specs.Refusals.{refused, answered}
@@ -96,6 +96,7 @@ module _ (b : Block) (s k states : List ℕ) (pos : 0 < b .w) (size : length k �
         ext-getD 0 states′ k′ (states-size ∙ sym (M .size ∙ size)) (λ i h.
         let l : i < checks b .n = omega (arith, states-size) in
         state-at i l ∙ sym (mark-at i l ∙ mark-by (statusOf b k i) (determined (b .w) (agreeingWords b s k) i)))
+
     pub verdict-after : verdictBy ok (count missingMark k′) ≡ verdictOf (agreeingWords b s k)
     verdict-after = ap (λ (l : List ℕ). verdictBy ok (count 0 l)) (sym states-marks) ∙ D .verdict-is ∙ ap verdictOf agreeing-are
 

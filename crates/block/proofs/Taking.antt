@@ -1,12 +1,11 @@
 -- The refusals of a unit row by row, what is known of one that is admitted, and the ways of a take.
 -- Assumes nothing.
 use mathlib.Core.Path.{_≡_, refl, sym, ap, _∙_, subst}
-use mathlib.Core.Bool.{true, false, cond}
+use mathlib.Core.Bool.{true, false}
 use mathlib.Core.List.{List}
-use Prim.Native.Nat.{ℕ, zero, suc, _-_, _*_, _≤_, _<_}
+use Prim.Native.Nat.{ℕ, zero, suc, _-_, _≤_, _<_}
 use native.Mathlib.Omega.{arith}
-use lib.ListN.{length, getD, drop, set, length-drop}
-use borrow.Author.Tests.{lt-ltb, le-ltb, ne-eqb}
+use lib.ListN.{length, getD, drop, length-drop}
 use Rattle.ccsds.specs.Codes.{nOf}
 use Rattle.ccsds.specs.Tables.{codeOf}
 use Rattle.ccsds.specs.RefusalTable as refusal
@@ -15,9 +14,8 @@ use Rattle.ccsds.specs.Reader.{Parts, readUnit}
 use Rattle.ccsds.proofs.RefusalOrder.{in-order, first-is, first-on, first-end, first-none}
 use Rattle.ccsds.proofs.Refusals.{position-right, length-right, length-same, length-wrong, refused-by, answered-by}
 use Rattle.block.specs.Block.{checks, blockRefusal}
-use Rattle.block.specs.Status.{wrongMark, Status, heard, missing, statusOf}
-use Rattle.algebra.specs.Codeword.{symbolAt}
-use Rattle.block.specs.Take.{wrongParameters, foreign, unitRefusal, AdmittedUnit, admission, TakeResult, kept, repeated, Take, sameBytes, stored, unchanged, takeAt, takeSymbol, takeAdmitted, takeBy, takeOf}
+use Rattle.block.specs.Status.{wrongMark, Status, statusOf}
+use Rattle.block.specs.Take.{wrongParameters, foreign, unitRefusal, AdmittedUnit, admission, TakeResult, Take, unchanged, takeAt, takeSymbol, takeAdmitted, takeBy, takeOf}
 use Rattle.block.specs.declared.Block.{Block}
 use Rattle.block.proofs.BlockRefusal.{checks-n}
 

@@ -44,7 +44,7 @@ module _ (b : Block) (symbols marks : List ℕ) where
   unfoldable pub agreeingWords : List (List ℕ)
   agreeingWords = agreeing (checks b) (b .w) (known b marks) symbols
 
-  -- Heard positions stay as they are; those where all agreeingWords have the same symbol get it and mark 2; all others get zero bytes and mark 0.
+  -- Heard positions stay as they are; those where all agreeing codewords have the same symbol get it and mark 2; all others get zero bytes and mark 0.
   unfoldable pub symbolsAfter : List ℕ
   symbolsAfter = filledSymbols (checks b) (b .w) (known b marks) symbols
 

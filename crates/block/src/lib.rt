@@ -2,7 +2,7 @@
 mod checks;
 pub mod close;
 pub mod open;
-mod status;
+pub mod status;
 pub mod take;
 
 // A block's record: its code's number, the bytes of a symbol, its protocol ID and its block number.

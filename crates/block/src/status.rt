@@ -11,7 +11,9 @@ ghost use Rattle.block.specs.Status.{wrongMark, statusBy, isHeard, markA
 ghost use Rattle.block.specs.inner.States.{StatesAre, MarksAre};
 
 pub const MISSING: u8 = 0;
+
 pub const HEARD: u8 = 1;
+
 pub const FILLED: u8 = 2;
 
 // What a position is: heard, or missing, whether an earlier close filled it or not.

@@ -108,7 +108,13 @@ fn admit(b: Block, unit: &[u8]) -> Admitted
 }
 
 // Takes an admitted unit's symbol, by the mark at its position.
-fn take_symbol(b: Block, symbols: &mut [u8], marks: &mut [u8], position: usize, symbol: &[u8]) -> Taken
+fn take_symbol(
+    b: Block,
+    symbols: &mut [u8],
+    marks: &mut [u8],
+    position: usize,
+    symbol: &[u8],
+) -> Taken
     requires { ⌜ position < length (now marks) ⌝ }
     requires { ⌜ position * b .w + b .w ≤ length (now symbols) ⌝ }
     requires { ⌜ length (now symbol) ≡ b .w ⌝ }

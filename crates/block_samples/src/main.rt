@@ -96,7 +96,7 @@ fn print_position(marks: &[u8], p: usize) {
     if p >= marks.len() {
         return;
     }
-    if marks[p] != 2 {
+    if marks[p] != block::status::FILLED {
         report::print(b" not");
     }
     report::print(b" filled");

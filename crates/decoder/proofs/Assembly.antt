@@ -28,7 +28,7 @@ use Rattle.decoder.specs.Pivots.{Put, AllSolvedIs, DeterminedIs, Readabl
 use Rattle.pivot_equations.specs.Express.{Planned, Room, Places, StepsExpressed, SameFrom}
 use Rattle.pivot_equations.specs.declared.express.Rows.{Rows}
 use Rattle.decoder.specs.Equations.{behind, RowsRoom, Solvable, PutIn}
-use Rattle.decoder.specs.MissingPositions.{missing, Cleared, FilledMissing, FillRoom, FilledDetermined, Settles, DependsOnPivot}
+use Rattle.decoder.specs.MissingPositions.{missing, Cleared, FilledMissing, FillRoom, FilledDetermined, DeterminedAt, DependsOnPivot}
 use Rattle.decoder.specs.Outcome.{Stays, Fills, Leaves, Differs, Outcome}
 use Rattle.decoder.proofs.StepsOnly.{steps-only-common, steps-only-agrees, steps-only-refuted}
 use Rattle.decoder.proofs.RowsBehindSteps.{behind-at, behind-bit}
@@ -139,7 +139,7 @@ module _ (c : Checks) (w : ℕ) (y states s′ m′ : List ℕ) (sy : length y �
       below : (i : ℕ) → i < c .n → i < length states
       below i h = subst (λ (n : ℕ). i < n) (sym sm) h
 
-      go : (i : ℕ) → i < c .n → isKnown states i ≡ false → Settles w early words l plan x s′ m′ i ⊎ DependsOnPivot w early words l plan s′ m′ i
+      go : (i : ℕ) → i < c .n → isKnown states i ≡ false → DeterminedAt w early words l plan x s′ m′ i ⊎ DependsOnPivot w early words l plan s′ m′ i
           → Fills c w y states x s′ m′ i ⊎ (Leaves w s′ m′ i × Differs c w y states x i)
       go i h e (inl S) = inl (record { state = S .state; bytes = S .bytes; common = f i h e (S .determined) })
       go i h e (inr H) = inr (H .leaves, g i h e (H .determined))

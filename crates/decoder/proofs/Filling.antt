@@ -105,8 +105,8 @@ module _ (w early words : ℕ) (l plan s states : List ℕ) (p : ℕ) where
       same i = record { state = refl; bytes = λ b q. refl }
 
   module _ (t : isKnown states p ≡ false) (h : p < length states) where
-    pub one-settled : DeterminedIs l words early (kindOf plan p) true → FilledOne w early words l plan s states s (set states p 2) p
-    one-settled d = record {
+    pub one-determined : DeterminedIs l words early (kindOf plan p) true → FilledOne w early words l plan s states s (set states p 2) p
+    one-determined d = record {
       at = record {
         known = λ e. absurd (false≢true (sym t ∙ e));
         missing = λ e. inl (record { determined = d; state = getD-set-same states p 2 0 h; bytes = λ b q. refl });

@@ -33,7 +33,7 @@ pub record Untouched (w : ℕ) (symbols states symbols′ states′ : List ℕ) 
   pub bytes : (b : ℕ) → b < w → byteAt w symbols′ b i ≡ byteAt w symbols b i
 
 -- position i depends on no pivot, has state 2 and keeps its symbol
-pub record Settles (w early words : ℕ) (l plan symbols symbols′ states′ : List ℕ) (i : ℕ) : Type 0 where
+pub record DeterminedAt (w early words : ℕ) (l plan symbols symbols′ states′ : List ℕ) (i : ℕ) : Type 0 where
   pub determined : DeterminedIs l words early (kindOf plan i) true
   pub state : getD states′ i 0 ≡ 2
   pub bytes : (b : ℕ) → b < w → byteAt w symbols′ b i ≡ byteAt w symbols b i
@@ -43,10 +43,10 @@ pub record DependsOnPivot (w early words : ℕ) (l plan symbols′ states′ : L
   pub determined : DeterminedIs l words early (kindOf plan i) false
   pub leaves : Leaves w symbols′ states′ i
 
--- position i is as it was, if known, and else settled or left
+-- position i is as it was, if known, and else determined or left
 pub record FilledAt (w early words : ℕ) (l plan symbols states symbols′ states′ : List ℕ) (i : ℕ) : Type 0 where
   pub known : isKnown states i ≡ true → Untouched w symbols states symbols′ states′ i
-  pub missing : isKnown states i ≡ false → Settles w early words l plan symbols symbols′ states′ i ⊎ DependsOnPivot w early words l plan symbols′ states′ i
+  pub missing : isKnown states i ≡ false → DeterminedAt w early words l plan symbols symbols′ states′ i ⊎ DependsOnPivot w early words l plan symbols′ states′ i
 
 -- one position, and no other
 pub record FilledOne (w early words : ℕ) (l plan symbols states symbols′ states′ : List ℕ) (p : ℕ) : Type 0 where

@@ -4,15 +4,15 @@ use mathlib.Core.Path.{_≡_, refl, sym, ap, _∙_}
 use mathlib.Core.Bool.{Bool, true, false, xor, _&&_, Bool·beq}
 use mathlib.Core.Logic.{_⊎_, _≢_, inl, inr, ⊎-elim}
 use mathlib.Core.List.{List, [], _∷_}
-use Prim.Native.Nat.{ℕ, suc, _+_, _-_, _<_, _≤_}
+use Prim.Native.Nat.{ℕ, suc, _-_, _<_, _≤_}
 use native.Mathlib.Decide.{decLt}
 use native.Mathlib.Omega.{arith}
 use lib.Dec.{T, ltb, ltb→lt}
 use Rattle.algebra.specs.Sums.{pick}
-use Rattle.algebra.specs.Codeword.{byteAt, codeword}
+use Rattle.algebra.specs.Codeword.{byteAt}
 use Rattle.algebra.proofs.Sums.{odd, sum-tests, sum-terms, sum-pick, sum-alone}
 use Rattle.algebra.proofs.Staircase.{codeword-parity, parity-odd}
-use Rattle.ccsds.specs.Codes.{Params, rowOf, checkRowOf, touches, checksOf}
+use Rattle.ccsds.specs.Codes.{Params, rowOf, checkRowOf, touches}
 use Rattle.ccsds.specs.Tables.{codeOf, codeIn, codes, isCode, numberIn, c1, c2, rows1, rows2}
 use Rattle.encoder.specs.Samples.{CodeSample, CodeHolds, inRuns, SdnvHolds, Sample, ofCode, ofSdnv, Each, samples, SingleSymbol}
 use Rattle.wire.specs.Sdnv.{sdnvFrom, group, sdnvBytes}

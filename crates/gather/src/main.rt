@@ -45,16 +45,16 @@ fn next(b: Block, symbols: &mut [u8], marks: &mut [u8], number: usize) -> bool {
 }
 
 // Above the number of units of any input: that many would take at least 2^65 bytes.
-const NEVER: usize = 18446744073709551615;
+const LAST_NUMBER: usize = 18446744073709551615;
 
-// Gathers every unit. Nothing proves that an input ends; with NEVER the loop does.
+// Gathers every unit. Nothing proves that an input ends; with LAST_NUMBER the loop does.
 fn gather_all(b: Block, symbols: &mut [u8], marks: &mut [u8]) {
     let mut number = 1;
-    while number < NEVER {
+    while number < LAST_NUMBER {
         if next(b, symbols, marks, number) {
             number += 1;
         } else {
-            number = NEVER;
+            number = LAST_NUMBER;
         }
     }
 }

@@ -10,12 +10,6 @@ ghost use Rattle.ccsds.specs.Tables.{codeOf};
 ghost use Rattle.ccsds.specs.inner.Layout.{LayoutOf};
 ghost use Rattle.peeling.specs.Hints.{Fits};
 
-fn wide(x: u16) -> usize
-    ensures { λ r. ⌜ r < 65536 ⌝ }
-{
-    x as usize
-}
-
 fn narrow(x: usize) -> u16 {
     (x % 65536) as u16
 }
@@ -69,7 +63,7 @@ fn shifted(m: usize, table: &[u16; 512], row: usize, n: usize, o: usize, js: &mu
 {
     let mut i = 0;
     while i < n {
-        let j = wide(table[row * 8 + i]) + o;
+        let j = tables::wide(table[row * 8 + i]) + o;
         js[i] = if j < m { j } else { j - m };
         i += 1;
     }

@@ -1,5 +1,4 @@
--- What is claimed of SDNV numbers and units, beside the contracts. Proved in proofs/: SdnvRound (numbers), FirstByte and EndsEarly (what
--- decides), UnitClaims and CanonicalUnit (units).
+-- What is claimed of units, beside the contracts. Proved in proofs/: FirstByte and EndsEarly (what decides), UnitClaims and CanonicalUnit.
 -- Assumes nothing.
 use mathlib.Core.Path.{_≡_}
 use mathlib.Core.Bool.{false}

@@ -1,6 +1,6 @@
 -- `block::close::close` meets its contract.
 -- Assumes nothing.
-use mathlib.Core.Path.{_≡_, sym, ap, _∙_}
+use mathlib.Core.Path.{sym, ap, _∙_}
 use Prim.Native.Nat.{ℕ, _≤_}
 use native.Mathlib.Omega.{arith}
 use lib.ListN.{length, replicate}
@@ -17,7 +17,7 @@ room : (c : tie.After-blank) → length (c .before .before .before .before .befo
 room c =
     let a = c .before .before .before .before .before .before .before .before .before .before .before .args in
     let f : length (a .marks .now) ≤ 3072 =
-        marks-few (a .b) (a .symbols .now) (a .marks .now) (a .work-words .now) (a .work-bytes .now) (sym (c .before .before .check-close .ensures) ∙ c .before .if1 .left) in
+    marks-few (a .b) (a .symbols .now) (a .marks .now) (a .work-words .now) (a .work-bytes .now) (sym (c .before .before .check-close .ensures) ∙ c .before .if1 .left) in
     omega (arith, f, c .blank .ensures)
 
 check-close-requires : tie.Need-check-close-requires

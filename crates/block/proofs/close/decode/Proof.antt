@@ -1,6 +1,6 @@
 -- `block::close::decode` meets its contract.
 -- Assumes nothing.
-use mathlib.Core.Path.{sym, _∙_}
+use mathlib.Core.Path.{_∙_}
 use Rattle.algebra.specs.Staircase.{staircase}
 use Rattle.block.specs.Block.{checks}
 use Rattle.block.proofs.Closing.{symbols-after, marks-after, verdict-after}

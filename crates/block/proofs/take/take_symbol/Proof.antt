@@ -103,7 +103,7 @@ returns-4 c =
     let b = k .before .before .before .before .before .before .before .before .before in
     let a = b .args in
     let r = apart (at-right (a .b) (a .symbols .now) (a .marks .now) (record { position = a .position; symbol = a .symbol .now })
-        (sym (k .before .before .before .before .wrong .ensures) ∙ k .before .before .before .if1 .left) missing (is-missing k)) in
+    (sym (k .before .before .before .before .wrong .ensures) ∙ k .before .before .before .if1 .left) missing (is-missing k)) in
     (r .0, (stores (a .symbols .now) (a .symbol .now) _ (a .position * a .b .w) (a .b .w) (b .pre .1 .1) (b .pre .1 .0) (c .before .before .put-from .ensures) ∙ r .1 .0, r .1 .1))
 
 pub take-symbol-spec : {M : Type 1} → statement M

@@ -77,11 +77,11 @@ wide-requires-2 c κs = search needs
 
 returns : tie.Need-returns
 unfolding rows1
-returns c = c .wide .ensures ∙ at-1 (c .before .before) (c .before .match .keys1) .1
+returns c = c .wide .ensures .0 ∙ at-1 (c .before .before) (c .before .match .keys1) .1
 
 returns-2 : tie.Need-returns-2
 unfolding rows2
-returns-2 c = c .wide2 .ensures ∙ at-2 (c .before .before) (c .before .match .keys2) .1
+returns-2 c = c .wide2 .ensures .0 ∙ at-2 (c .before .before) (c .before .match .keys2) .1
 
 -- no other number has a row
 returns-3 : tie.Need-returns-3

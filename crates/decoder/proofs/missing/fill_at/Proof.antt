@@ -6,7 +6,7 @@ use lib.ListN.{length}
 use Rattle.algebra.proofs.Codeword.{slot}
 use Rattle.decoder.specs.Pivots.{DeterminedIs}
 use Rattle.decoder.proofs.Clearing.{known-one, known-not}
-use Rattle.decoder.proofs.Filling.{one-known, one-settled, one-left}
+use Rattle.decoder.proofs.Filling.{one-known, one-determined, one-left}
 use borrow.Author.Needs.{needs}
 use Rattle.decoder.proofs.missing.fill_at.Statement.{statement}
 use Rattle.decoder.proofs.missing.fill_at.Tie as tie
@@ -36,7 +36,7 @@ returns-2 : tie.Need-returns-2
 returns-2 c =
     let e = c .before .before in
     let s = start e in
-    one-settled _ _ _ _ _ _ (s .args .states .now) _ (known-not (s .args .states .now) (s .args .p) (e .if1 .left)) (s .pre .1 .0 .0)
+    one-determined _ _ _ _ _ _ (s .args .states .now) _ (known-not (s .args .states .now) (s .args .p) (e .if1 .left)) (s .pre .1 .0 .0)
     (subst (DeterminedIs _ _ _ _) (c .if2 .taken) (c .before .determined .ensures))
 
 clear-at-requires : tie.Need-clear-at-requires
