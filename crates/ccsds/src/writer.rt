@@ -66,11 +66,10 @@ fn check_write(
         return refusal::LABEL;
     }
     let size = code.unit_bytes(w);
-    let misplaced = code.wrong_position(lwc);
     if outLength != size {
         return refusal::LENGTH;
     }
-    if misplaced {
+    if code.wrong_position(lwc) {
         return refusal::POSITION;
     }
     if symbolLength != w {

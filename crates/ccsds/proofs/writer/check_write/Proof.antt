@@ -36,18 +36,18 @@ passed c =
     let a = c .before .before .before .before .before .before .args in
     part-passed (labelConditions (a .number) (a .w) (a .protocol) (a .lsc)) _ refl refl _ (label c) refl
 
--- each of the two that are found first, and the tests that they pass
-output : (c : tie.After-wrong-position) → let a = c .before .before .before .before .before .before .before .before .args in
-    c .before .unit-bytes .result ≡ unitLength (codeOf (a .number)) (a .w)
+-- the size that is found, and the tests that pass
+output : (c : tie.After-unit-bytes) → let a = c .before .before .before .before .before .before .before .args in
+    c .unit-bytes .result ≡ unitLength (codeOf (a .number)) (a .w)
 output c =
-    let n = label-none _ _ _ _ (sym (in-order _ refl) ∙ sym (label (c .before .before))) in
-    c .before .unit-bytes .ensures ∙ unit-right _ _ (n .0) (n .1)
+    let n = label-none _ _ _ _ (sym (in-order _ refl) ∙ sym (label (c .before))) in
+    c .unit-bytes .ensures ∙ unit-right _ _ (n .0) (n .1)
 
-size : (c : tie.Else4) → let a = c .before .before .before .before .before .before .before .before .before .args in wrongLength (a .outLength) (unitLength (codeOf (a .number)) (a .w)) ≡ false
+size : (c : tie.Else4) → let a = c .before .before .before .before .before .before .before .before .args in wrongLength (a .outLength) (unitLength (codeOf (a .number)) (a .w)) ≡ false
 size c = length-same _ _ (c .if4 .left ∙ output (c .before))
 
 placed : (c : tie.Else5) → let a = c .before .before .before .before .before .before .before .before .before .before .args in wrongPosition (nOf (codeOf (a .number))) (a .lwc) ≡ false
-placed c = sym (c .before .before .wrong-position .ensures) ∙ c .if5 .left
+placed c = sym (c .before .wrong-position .ensures) ∙ c .if5 .left
 
 known-requires : tie.Need-known-requires
 known-requires c κs = search needs
@@ -85,28 +85,28 @@ returns-3 c =
 unit-bytes-requires : tie.Need-unit-bytes-requires
 unit-bytes-requires c κs = search needs
 
+returns-4 : tie.Need-returns-4
+returns-4 c = let p = c .before in sym (passed (p .before) ∙ first-is _ _ _ (length-wrong _ _ (λ e. c .if4 .taken (e ∙ sym (output p)))))
+
 wrong-position-requires : tie.Need-wrong-position-requires
 wrong-position-requires c κs = search needs
 
-returns-4 : tie.Need-returns-4
-returns-4 c = let p = c .before in sym (passed (p .before .before) ∙ first-is _ _ _ (length-wrong _ _ (λ e. c .if4 .taken (e ∙ sym (output p)))))
-
 returns-5 : tie.Need-returns-5
 returns-5 c =
-    let p = c .before .before in
-    sym (passed (p .before .before) ∙ first-on _ _ _ (size (c .before)) ∙ first-is _ _ _ (sym (p .wrong-position .ensures) ∙ c .if5 .taken))
+    let s = c .before .before in
+    sym (passed (s .before .before) ∙ first-on _ _ _ (size s) ∙ first-is _ _ _ (sym (c .before .wrong-position .ensures) ∙ c .if5 .taken))
 
 returns-6 : tie.Need-returns-6
 returns-6 c =
     let e = c .before in
-    let p = e .before .before in
-    sym (passed (p .before .before) ∙ first-on _ _ _ (size (e .before)) ∙ first-on _ _ _ (placed e) ∙ first-is _ _ _ (length-wrong _ _ (c .if6 .taken)))
+    let s = e .before .before in
+    sym (passed (s .before .before) ∙ first-on _ _ _ (size s) ∙ first-on _ _ _ (placed e) ∙ first-is _ _ _ (length-wrong _ _ (c .if6 .taken)))
 
 returns-7 : tie.Need-returns-7
 returns-7 c =
     let e = c .before in
-    let p = e .before .before in
-    sym (passed (p .before .before) ∙ first-on _ _ _ (size (e .before)) ∙ first-on _ _ _ (placed e) ∙ first-on _ _ _ (length-same _ _ (c .if6 .left)) ∙ first-end)
+    let s = e .before .before in
+    sym (passed (s .before .before) ∙ first-on _ _ _ (size s) ∙ first-on _ _ _ (placed e) ∙ first-on _ _ _ (length-same _ _ (c .if6 .left)) ∙ first-end)
 
 pub check-write-spec : {M : Type 1} → statement M
 check-write-spec =
@@ -119,8 +119,8 @@ check-write-spec =
     wrong-label-requires
     returns-3
     unit-bytes-requires
-    wrong-position-requires
     returns-4
+    wrong-position-requires
     returns-5
     returns-6
     returns-7)
