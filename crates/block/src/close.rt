@@ -77,11 +77,13 @@ struct Counts {
     filled: usize,
 }
 
+// In 16 bits, so that eight are counted at a time.
 fn count_marks(marks: &[u8]) -> Counts
+    requires { ⌜ length (now marks) ≤ 3072 ⌝ }
     ensures { λ r. ⌜ (r .heard ≡ count heardMark (now (marks .entry))) × (r .filled ≡ count filledMark (now (marks .entry))) ⌝ }
 {
-    let mut heard = 0;
-    let mut filled = 0;
+    let mut heard: u16 = 0;
+    let mut filled: u16 = 0;
     let mut i = 0;
     while i < marks.len() {
         if marks[i] == status::HEARD {
@@ -92,6 +94,8 @@ fn count_marks(marks: &[u8]) -> Counts
         }
         i += 1;
     }
+    let heard = heard as usize;
+    let filled = filled as usize;
     Counts { heard, filled }
 }
 
@@ -110,7 +114,7 @@ fn verdict_by(ok: bool, left: usize) -> Verdict
 
 // The report, from the marks afterwards.
 fn make_report(ok: bool, marks: &[u8]) -> Report
-    requires { ⌜ ((i : ℕ) → i < length (now marks) → getD (now marks) i 0 ≤ 2) ⌝ }
+    requires { ⌜ (length (now marks) ≤ 3072) × ((i : ℕ) → i < length (now marks) → getD (now marks) i 0 ≤ 2) ⌝ }
     ensures { λ r. ⌜ reportAs r ≡ reportOf (verdictBy ok (count missingMark (now (marks .entry)))) (now (marks .entry)) ⌝ }
 {
     let counts = count_marks(marks);

@@ -45,13 +45,6 @@ pub put-chunk : (d : List ℕ) (at : ℕ) (s : List ℕ) (from n m : ℕ) {t l k
     → k ≡ put d at s from (n + m)
 put-chunk d at s from n m {t} e h p = put-join d at s from n m t 0 e (λ b q. from-zero t b ∙ h .each b q) p
 
--- the rest
-pub put-rest : (d : List ℕ) (at : ℕ) (s : List ℕ) (from n len : ℕ) {l k : List ℕ} → n ≤ len → l ≡ put d at s from n → k ≡ put l (at + n) s (from + n) (len - n)
-    → k ≡ put d at s from len
-put-rest d at s from n len g e p =
-    let all : n + (len - n) ≡ len = omega arith in
-    put-join d at s from n (len - n) s (from + n) e (λ b q. refl) p ∙ ap (put d at s from) all
-
 -- the same by parts of lists
 pub put-paste : (d : List ℕ) (at : ℕ) (s : List ℕ) (n : ℕ) → at + n ≤ length d → n ≤ length s → put d at s 0 n ≡ paste d at s n
 unfolding put

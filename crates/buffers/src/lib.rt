@@ -135,12 +135,12 @@ fn put_chunks(dst: &mut [u8], at: usize, src: &[u8], from: usize, len: usize) ->
     i
 }
 
-// All of the len bytes, one by one.
-fn put_bytes(dst: &mut [u8], at: usize, src: &[u8], from: usize, len: usize)
-    requires { ⌜ (at + len ≤ length (now dst)) × (from + len ≤ length (now src)) ⌝ }
-    ensures { λ _. ⌜ now (dst .exit) ≡ put (now (dst .entry)) at (now (src .entry)) from len ⌝ }
+// The bytes from the first `done` on, one by one.
+fn put_bytes(dst: &mut [u8], at: usize, src: &[u8], from: usize, done: usize, len: usize)
+    requires { ⌜ (done ≤ len) × (at + len ≤ length (now dst)) × (from + len ≤ length (now src)) ⌝ }
+    ensures { λ _. ⌜ ((d : List ℕ) → now (dst .entry) ≡ put d at (now (src .entry)) from done → now (dst .exit) ≡ put d at (now (src .entry)) from len) ⌝ }
 {
-    let mut i = 0;
+    let mut i = done;
     while i < len {
         dst[at + i] = src[from + i];
         i += 1;
@@ -153,7 +153,7 @@ pub fn put_from(dst: &mut [u8], at: usize, src: &[u8], from: usize, len: usize)
     ensures { λ _. ⌜ now (dst .exit) ≡ put (now (dst .entry)) at (now (src .entry)) from len ⌝ }
 {
     let done = put_chunks(dst, at, src, from, len);
-    put_bytes(dst, at + done, src, from + done, len - done);
+    put_bytes(dst, at, src, from, done, len);
 }
 
 // Sets every byte to 0.

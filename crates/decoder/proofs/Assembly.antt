@@ -20,10 +20,10 @@ use Rattle.algebra.specs.Unique.{Some, Common}
 use Rattle.decoder.specs.Outcome.{AgreesWith}
 use Rattle.elimination.specs.Consistency.{Consistent, ConsistentIs}
 use Rattle.elimination.specs.Reduced.{pivotWord}
-use Rattle.peeling.specs.Table.{checks}
+use Rattle.encoder.specs.inner.Positions.{checks}
 use Rattle.peeling.specs.Plan.{unusedBelow, pivotOf, Plan, Unsolved}
 use Rattle.peeling.specs.Values.{Peeled, HoldIs, StepsHold}
-use Rattle.peeling.specs.declared.peel.Shape.{Shape}
+use Rattle.encoder.specs.declared.positions.Shape.{Shape}
 use Rattle.decoder.specs.Pivots.{Put, AllSolvedIs, DeterminedIs, Readable}
 use Rattle.pivot_equations.specs.Express.{Planned, Room, Places, StepsExpressed, SameFrom}
 use Rattle.pivot_equations.specs.declared.express.Rows.{Rows}

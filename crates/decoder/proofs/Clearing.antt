@@ -4,7 +4,7 @@ use mathlib.Core.Path.{_≡_, refl, sym, ap, _∙_, subst}
 use mathlib.Core.Logic.{_≢_}
 use mathlib.Core.Bool.{Bool, true, false, not, _&&_, cond, false≢true}
 use mathlib.Core.List.{List}
-use Prim.Native.Nat.{ℕ, _+_, _*_, _<_}
+use Prim.Native.Nat.{ℕ, _+_, _*_, _<_, _≤_}
 use native.Mathlib.Decide.{ℕ-discrete, decLt}
 use native.Mathlib.Omega.{arith}
 use lib.Dec.{eqb, ltb}
@@ -17,6 +17,19 @@ use Rattle.algebra.proofs.Codeword.{slot}
 use Rattle.decoder.specs.MissingPositions.{missing, Cleared}
 use Rattle.peeling.proofs.Zeroing.{zerosAt}
 use Rattle.peeling.proofs.SymbolLaws.{replaced-other, zero-symbol}
+
+-- i positions have been gone over, and the buffers are as long as they were
+pub record Upto (symbols states symbols′ states′ : List ℕ) (i : ℕ) : Type 0 where
+  pub to : i ≤ length states
+  pub symbols-size : length symbols′ ≡ length symbols
+  pub states-size : length states′ ≡ length states
+
+pub upto-none : {symbols states : List ℕ} → Upto symbols states symbols states 0
+upto-none = record { to = omega arith; symbols-size = refl; states-size = refl }
+
+pub upto-more : {symbols states s k s′ k′ : List ℕ} {i : ℕ} → Upto symbols states s k i → i < length states → length s′ ≡ length s → length k′ ≡ length k
+    → Upto symbols states s′ k′ (i + 1)
+upto-more u h e f = record { to = omega arith; symbols-size = e ∙ u .symbols-size; states-size = f ∙ u .states-size }
 
 pub cleared-none : (w : ℕ) (s states : List ℕ) → Cleared w s states s states 0
 cleared-none w s states = record { state = λ i. rw (le-ltb i 0 (omega arith)); byte = λ i b h. rw (le-ltb i 0 (omega arith)) }

@@ -1,5 +1,5 @@
 // The pivots.
-use peeling::peel::Shape;
+use encoder::positions::Shape;
 use peeling::plan::FIRST_SOLVED;
 use peeling::plan::LAST_PIVOT;
 use peeling::plan::PIVOTS;
@@ -8,7 +8,7 @@ ghost use mathlib.Core.Path.{_≡_};
 ghost use Prim.Native.Nat.{ℕ, _+_, _*_, _<_, _≤_};
 ghost use lib.ListN.{length};
 ghost use Rattle.elimination.specs.Reduced.{pivotWord};
-ghost use Rattle.peeling.specs.Table.{checks};
+ghost use Rattle.encoder.specs.inner.Positions.{checks};
 ghost use Rattle.peeling.specs.Plan.{pivotOf, Unsolved};
 ghost use Rattle.pivot_equations.specs.Express.{Planned};
 ghost use Rattle.decoder.specs.Pivots.{Put, PutRoom, PutOne, AllSolvedIs};

@@ -4,9 +4,9 @@ use crate::missing;
 use crate::pivots;
 use ccsds::tables;
 use encoder::positions;
+use encoder::positions::Shape;
 use peeling::peel;
 use peeling::peel::Progress;
-use peeling::peel::Shape;
 use pivot_equations::express;
 use pivot_equations::express::Rows;
 use pivot_equations::remaining;
@@ -21,7 +21,7 @@ ghost use Rattle.ccsds.specs.Tables.{codeOf, Known};
 ghost use Rattle.elimination.specs.System.{SameSolutions};
 ghost use Rattle.elimination.specs.Reduced.{Reduced};
 ghost use Rattle.elimination.specs.Consistency.{Consistent, ConsistentIs};
-ghost use Rattle.peeling.specs.Table.{checks, Table};
+ghost use Rattle.encoder.specs.inner.Positions.{checks, Table};
 ghost use Rattle.peeling.specs.Plan.{Unsolved};
 ghost use Rattle.peeling.specs.Values.{Peeled};
 ghost use Rattle.pivot_equations.specs.Express.{StepsExpressed, RestExpressed, Planned, Room};
@@ -29,23 +29,15 @@ ghost use Rattle.decoder.specs.Equations.{behind, RowsRoom, Equations, S
 ghost use Rattle.decoder.specs.Outcome.{Outcome, Decoded};
 
 // Which pivots each step's symbol and each unused check row depends on.
-fn express_all(
-    s: Shape,
-    r: Rows,
-    firsts: &[u16; 512],
-    ends: &[u16; 512],
-    classes: &[usize; 8],
-    plan: &[u16],
-    words: &mut [u64],
-)
-    requires { ⌜ Table s (now firsts) (now ends) (now classes) ⌝ }
+fn express_all(s: Shape, r: Rows, table: &[u16; 1544], plan: &[u16], words: &mut [u64])
+    requires { ⌜ Table s (now table) ⌝ }
     requires { ⌜ Planned (checks s) (now plan) r × Unsolved (now plan) (r .pivots) ⌝ }
     requires { ⌜ Room (checks s) r (length (now words)) ⌝ }
     ensures { λ _. ⌜ StepsExpressed (checks s) (now (plan .entry)) (now (words .exit)) (r .packed) (r .early) (r .steps) ⌝ }
     ensures { λ _. ⌜ RestExpressed (checks s) (now (plan .entry)) (now (words .exit)) (r .packed) (r .early) (r .steps) ⌝ }
 {
-    express::steps(s, r, firsts, ends, classes, plan, words);
-    express::remaining(s, r, firsts, ends, classes, plan, words);
+    express::steps(s, r, table, plan, words);
+    express::remaining(s, r, table, plan, words);
 }
 
 // Reduces the rows behind the steps.
@@ -89,22 +81,20 @@ fn consistent_behind(r: Rows, w: usize, words: &[u64], bytes: &[u8]) -> bool
 fn reduce(
     s: Shape,
     r: Rows,
-    firsts: &[u16; 512],
-    ends: &[u16; 512],
-    classes: &[usize; 8],
+    table: &[u16; 1544],
     plan: &[u16],
     symbols: &[u8],
     words: &mut [u64],
     bytes: &mut [u8],
 )
-    requires { ⌜ Table s (now firsts) (now ends) (now classes) ⌝ }
+    requires { ⌜ Table s (now table) ⌝ }
     requires { ⌜ Planned (checks s) (now plan) r × Unsolved (now plan) (r .pivots) ⌝ }
     requires { ⌜ Room (checks s) r (length (now words)) × (r .steps + r .rest ≡ checks s .m) ⌝ }
     requires { ⌜ (length (now symbols) ≡ checks s .n * s .w) × (length (now bytes) ≡ checks s .m * s .w) ⌝ }
     ensures { λ _. ⌜ Equations (checks s) (s .w) (now (plan .entry)) (now (symbols .entry)) (r .packed) (r .early) (r .steps) (r .rest) (now (words .exit)) (now (bytes .exit)) ⌝ }
 {
-    remaining::sums(s, firsts, ends, classes, plan, symbols, bytes);
-    express_all(s, r, firsts, ends, classes, plan, words);
+    remaining::sums(s, table, plan, symbols, bytes);
+    express_all(s, r, table, plan, words);
     reduce_behind(r, s.w, words, bytes);
 }
 
@@ -112,47 +102,43 @@ fn reduce(
 fn put_in(
     s: Shape,
     r: Rows,
-    firsts: &[u16; 512],
-    ends: &[u16; 512],
-    classes: &[usize; 8],
+    table: &[u16; 1544],
     words: &[u64],
     bytes: &[u8],
     plan: &mut [u16],
     symbols: &mut [u8],
 )
-    requires { ⌜ Table s (now firsts) (now ends) (now classes) ⌝ }
+    requires { ⌜ Table s (now table) ⌝ }
     requires { ⌜ ((states : List ℕ) × Solvable (checks s) (s .w) states (now plan) (now symbols) r (now words) (now bytes)) ⌝ }
     ensures { λ _. ⌜ PutIn (checks s) (s .w) (r .packed) (r .early) (r .steps) (r .rest) (r .pivots) (now (words .entry)) (now (bytes .entry)) (now (plan .entry)) (now (symbols .entry)) (now (plan .exit)) (now (symbols .exit)) ⌝ }
 {
     pivots::put(s, r, words, bytes, plan, symbols);
-    restore::restore_steps(s, r, firsts, ends, classes, plan, symbols);
+    restore::restore_steps(s, r, table, plan, symbols);
 }
 
 // Fills what depends on no free pivot, where the reduced rows have a solution.
 fn fill(
     s: Shape,
     r: Rows,
-    firsts: &[u16; 512],
-    ends: &[u16; 512],
-    classes: &[usize; 8],
+    table: &[u16; 1544],
     plan: &mut [u16],
     symbols: &mut [u8],
     states: &mut [u8],
     words: &mut [u64],
     bytes: &[u8],
 )
-    requires { ⌜ Table s (now firsts) (now ends) (now classes) ⌝ }
+    requires { ⌜ Table s (now table) ⌝ }
     requires { ⌜ Solvable (checks s) (s .w) (now states) (now plan) (now symbols) r (now words) (now bytes) ⌝ }
     requires { ⌜ Consistent (behind (r .packed) (r .steps) (now words)) (now bytes) (r .rest) (r .packed) (s .w) ⌝ }
     requires { ⌜ length (now states) ≡ checks s .n ⌝ }
     ensures { λ _. ⌜ Outcome (checks s) (s .w) (now (symbols .entry)) (now (states .entry)) (now (symbols .exit)) (now (states .exit)) true ⌝ }
 {
-    put_in(s, r, firsts, ends, classes, words, bytes, plan, symbols);
+    put_in(s, r, table, words, bytes, plan, symbols);
     if pivots::all_solved(r.pivots, plan) {
         missing::fill_missing(states);
         return;
     }
-    express::steps(s, r, firsts, ends, classes, plan, words);
+    express::steps(s, r, table, plan, words);
     missing::fill_determined(s.w, r, plan, words, symbols, states);
 }
 
@@ -160,43 +146,32 @@ fn fill(
 fn by_pivots(
     s: Shape,
     g: Progress,
-    firsts: &[u16; 512],
-    ends: &[u16; 512],
-    classes: &[usize; 8],
+    table: &[u16; 1544],
     plan: &mut [u16],
     symbols: &mut [u8],
     states: &mut [u8],
     words: &mut [u64],
     bytes: &mut [u8],
 ) -> bool
-    requires { ⌜ Table s (now firsts) (now ends) (now classes) ⌝ }
+    requires { ⌜ Table s (now table) ⌝ }
     requires { ⌜ Peeled (checks s) (s .w) (now symbols) (now states) (now plan) (now symbols) (g .early) (g .steps) (g .pivots) ⌝ }
     requires { ⌜ (length (now words) ≡ checks s .m * (checks s .n / 64 + 1)) × (length (now bytes) ≡ checks s .m * s .w) ⌝ }
     requires { ⌜ (0 < s .w) × (length (now states) ≡ checks s .n) ⌝ }
     ensures { λ ok. ⌜ Outcome (checks s) (s .w) (now (symbols .entry)) (now (states .entry)) (now (symbols .exit)) (now (states .exit)) ok ⌝ }
 {
     let l = s.layout;
+    let rest = l.m - g.steps;
+    let packed = (g.pivots + 63) / 64;
     let r = Rows {
         early: g.early,
         steps: g.steps,
-        rest: l.m - g.steps,
+        rest: rest,
         pivots: g.pivots,
-        packed: (g.pivots + 63) / 64,
+        packed: packed,
     };
-    reduce(s, r, firsts, ends, classes, plan, symbols, words, bytes);
+    reduce(s, r, table, plan, symbols, words, bytes);
     if consistent_behind(r, s.w, words, bytes) {
-        fill(
-            s,
-            r,
-            firsts,
-            ends,
-            classes,
-            plan,
-            symbols,
-            states,
-            words,
-            bytes,
-        );
+        fill(s, r, table, plan, symbols, states, words, bytes);
         return true;
     }
     missing::clear_missing(s.w, symbols, states);
@@ -207,19 +182,17 @@ fn by_pivots(
 fn by_steps(
     s: Shape,
     g: Progress,
-    firsts: &[u16; 512],
-    ends: &[u16; 512],
-    classes: &[usize; 8],
+    table: &[u16; 1544],
     plan: &[u16],
     symbols: &mut [u8],
     states: &mut [u8],
 ) -> bool
-    requires { ⌜ Table s (now firsts) (now ends) (now classes) ⌝ }
+    requires { ⌜ Table s (now table) ⌝ }
     requires { ⌜ Peeled (checks s) (s .w) (now symbols) (now states) (now plan) (now symbols) (g .early) (g .steps) (g .pivots) × (g .pivots ≡ 0) ⌝ }
     requires { ⌜ length (now states) ≡ checks s .n ⌝ }
     ensures { λ ok. ⌜ Outcome (checks s) (s .w) (now (symbols .entry)) (now (states .entry)) (now (symbols .exit)) (now (states .exit)) ok ⌝ }
 {
-    if remaining::hold(s, firsts, ends, classes, plan, symbols) {
+    if remaining::hold(s, table, plan, symbols) {
         missing::fill_missing(states);
         return true;
     }
@@ -232,13 +205,6 @@ fn blank() -> [u16; 9216]
     ensures { λ r. ⌜ r ≡ replicate 9216 0 ⌝ }
 {
     [0u16; 9216]
-}
-
-// The arrays of the classes before any entry.
-fn no_entries() -> [u16; 512]
-    ensures { λ r. ⌜ r ≡ replicate 512 0 ⌝ }
-{
-    [0u16; 512]
 }
 
 // Fills the symbols of a block that its known symbols determine, with state 2, and clears the others that are missing; false where no codeword agrees
@@ -262,25 +228,12 @@ pub fn solve(
         layout: l,
         w: w,
     };
-    let mut firsts = no_entries();
-    let mut ends = no_entries();
-    let mut classes = [0usize; 8];
+    let mut table = positions::blank();
     let mut plan = blank();
-    positions::lay(number, l, &mut firsts, &mut ends, &mut classes);
-    let g = peel::peel(s, &firsts, &ends, &classes, states, &mut plan, symbols);
+    positions::lay(number, l, &mut table);
+    let g = peel::peel(s, &table, states, &mut plan, symbols);
     if g.pivots == 0 {
-        return by_steps(s, g, &firsts, &ends, &classes, &plan, symbols, states);
+        return by_steps(s, g, &table, &plan, symbols, states);
     }
-    by_pivots(
-        s,
-        g,
-        &firsts,
-        &ends,
-        &classes,
-        &mut plan,
-        symbols,
-        states,
-        words,
-        bytes,
-    )
+    by_pivots(s, g, &table, &mut plan, symbols, states, words, bytes)
 }

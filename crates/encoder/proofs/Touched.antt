@@ -18,7 +18,7 @@ use Rattle.algebra.proofs.Codeword.{slot}
 use Rattle.ccsds.specs.Codes.{Params, rowOf, checkRowOf, hits, touches}
 use Rattle.ccsds.proofs.Table.{getD-map}
 use Rattle.ccsds.proofs.Valid.{Valid, Apart, some-a, row-apart, hit-once, address-lt}
-use Rattle.encoder.specs.inner.Positions.{Entry, entryIf, classIn, classFrom, classOf, positionAt, positions, EntryBounds}
+use Rattle.encoder.specs.inner.Positions.{Entry, entryIf, classIn, classFrom, classOf, positionAt, positions, EntryBounds, WithinRow}
 use Rattle.encoder.proofs.Cycle.{there, back, blocks}
 
 -- ---- one address
@@ -294,12 +294,12 @@ module _ (c : Params) (v : Valid c) (r s : ℕ) (hr : r < c .a) (hs : s < c .q) 
   row-count = positions-count c v (s * c .a + r) ∙ ap (λ (n : ℕ). length (classOf c n)) (digits-mod s hr)
 
   module _ (i : ℕ) (hi : i < length (classOf c r)) {first end : ℕ} (p : EntryBounds (c .q) (getD (classOf c r) i (0, 0)) first end) where
-    pub entry-fits : (first ≤ end) × (end ≤ first + c .q) × (c .q ≤ end) × (end ≤ 4096) × (s < c .q)
+    pub entry-fits : WithinRow first end (c .q) s
     entry-fits =
         let g = entry-good c v r i hi in
         let e : Entry = getD (classOf c r) i (0, 0) in
         let b : e .0 * c .q + c .q ≤ c .k = omega (arith, slot (e .0) (length (c .rows)) (c .q) (g .0), v .whole) in
-        (omega (arith, p .start), omega (arith, p .start, g .1), omega (arith, p .last), omega (arith, p .last, v .few), hs)
+        record { start = (omega (arith, p .start), omega (arith, p .start, g .1)); row = (omega (arith, p .last), omega (arith, p .last, v .few)); step = hs }
 
     pub row-each : end - c .q + (first + c .q - end + s) % c .q ≡ getD (positions c (s * c .a + r)) i 0
     row-each =

@@ -1,18 +1,17 @@
 // The encoder: parity bytes from information bytes.
 use crate::positions;
+use crate::positions::Shape;
 use ccsds::checks;
 use ccsds::code::Code;
 use ccsds::tables;
-use ccsds::tables::Layout;
 ghost use mathlib.Core.Path.{_≡_};
 ghost use Prim.Native.Nat.{_<_, _+_, _*_};
 ghost use lib.ListN.{length};
 ghost use Rattle.ccsds.specs.Codes.{encodeOf};
 ghost use Rattle.ccsds.specs.Tables.{codeOf, Known};
-ghost use Rattle.ccsds.specs.inner.Layout.{LayoutOf};
 ghost use Rattle.ccsds.specs.Refusals.{outcome, afterwards};
 ghost use Rattle.encoder.specs.Encode.{encodeRefusal, encodedAs};
-ghost use Rattle.encoder.specs.inner.Positions.{ClassEntries, ClassCounts};
+ghost use Rattle.encoder.specs.inner.Positions.{Table};
 ghost use Rattle.encoder.specs.inner.Steps.{Sized, Done};
 
 // What encode answers: that it is done, or the number of the refusal.
@@ -21,53 +20,46 @@ pub enum Encoded {
     Refused(u8),
 }
 
-// Parity symbol s * a + r.
+// Parity symbol i * a + r.
 fn put_row(
-    number: usize,
-    l: Layout,
-    w: usize,
-    s: usize,
+    s: Shape,
+    table: &[u16; 1544],
+    i: usize,
     r: usize,
-    firsts: &[u16; 512],
-    ends: &[u16; 512],
-    counts: &[usize; 8],
-    xs: &mut [usize; 64],
+    xs: &mut [u16; 64],
     info: &[u8],
     parity: &mut [u8],
 )
-    requires { ⌜ Known number × LayoutOf (codeOf number) l × (r < codeOf number .a) × (s < codeOf number .q) ⌝ }
-    requires { ⌜ ClassEntries (codeOf number) (now firsts) (now ends) × ClassCounts (codeOf number) (now counts) × (length (now xs) ≡ 64) ⌝ }
-    requires { ⌜ (length (now info) ≡ codeOf number .k * w) × Done (codeOf number) w (now info) (s * codeOf number .a + r) (now parity) ⌝ }
-    ensures { λ _. ⌜ (length (now (xs .exit)) ≡ 64) × Done (codeOf number) w (now (info .entry)) (s * codeOf number .a + r + 1) (now (parity .exit)) ⌝ }
+    requires { ⌜ Table s (now table) × (length (now xs) ≡ 64) ⌝ }
+    requires { ⌜ (i < codeOf (s .number) .q) × (r < codeOf (s .number) .a) ⌝ }
+    requires { ⌜ (length (now info) ≡ codeOf (s .number) .k * s .w) × Done (codeOf (s .number)) (s .w) (now info) (i * codeOf (s .number) .a + r) (now parity) ⌝ }
+    ensures { λ _. ⌜ (length (now (xs .exit)) ≡ 64) × Done (codeOf (s .number)) (s .w) (now (info .entry)) (i * codeOf (s .number) .a + r + 1) (now (parity .exit)) ⌝ }
 {
-    let n = counts[r];
-    let j = s * l.a + r;
-    positions::information(number, l.q, firsts, ends, n, r, s, xs);
-    symbol_sums::put_sum(w, j, j, xs, n, info, parity);
+    let l = s.layout;
+    let j = i * l.a + r;
+    let n = positions::information(s, table, i, r, xs);
+    symbol_sums::put_sum(s.w, j, j, xs, n, info, parity);
 }
 
-// Parity symbols s * a to s * a + a - 1.
+// Parity symbols i * a to i * a + a - 1.
 fn put_rows(
-    number: usize,
-    l: Layout,
-    w: usize,
-    s: usize,
-    firsts: &[u16; 512],
-    ends: &[u16; 512],
-    counts: &[usize; 8],
-    xs: &mut [usize; 64],
+    s: Shape,
+    table: &[u16; 1544],
+    i: usize,
+    xs: &mut [u16; 64],
     info: &[u8],
     parity: &mut [u8],
 )
-    requires { ⌜ Known number × LayoutOf (codeOf number) l × (s < codeOf number .q) ⌝ }
-    requires { ⌜ ClassEntries (codeOf number) (now firsts) (now ends) × ClassCounts (codeOf number) (now counts) × (length (now xs) ≡ 64) ⌝ }
-    requires { ⌜ (length (now info) ≡ codeOf number .k * w) × Done (codeOf number) w (now info) (s * codeOf number .a) (now parity) ⌝ }
-    ensures { λ _. ⌜ (length (now (xs .exit)) ≡ 64) × Done (codeOf number) w (now (info .entry)) (s * codeOf number .a + codeOf number .a) (now (parity .exit)) ⌝ }
+    requires { ⌜ Table s (now table) × (length (now xs) ≡ 64) ⌝ }
+    requires { ⌜ i < codeOf (s .number) .q ⌝ }
+    requires { ⌜ (length (now info) ≡ codeOf (s .number) .k * s .w) × Done (codeOf (s .number)) (s .w) (now info) (i * codeOf (s .number) .a) (now parity) ⌝ }
+    ensures { λ _. ⌜ (length (now (xs .exit)) ≡ 64) × Done (codeOf (s .number)) (s .w) (now (info .entry)) (i * codeOf (s .number) .a + codeOf (s .number) .a) (now (parity .exit)) ⌝ }
 {
+    let l = s.layout;
     let a = l.a;
     let mut r = 0;
     while r < a {
-        put_row(number, l, w, s, r, firsts, ends, counts, xs, info, parity);
+        put_row(s, table, i, r, xs, info, parity);
         r += 1;
     }
 }
@@ -81,26 +73,18 @@ fn encode_sized(number: usize, w: usize, info: &[u8], parity: &mut [u8])
     let l = tables::layout_of(number);
     let code = Code { number };
     let q = code.q();
-    let mut firsts = [0u16; 512];
-    let mut ends = [0u16; 512];
-    let mut counts = [0usize; 8];
-    let mut xs = [0usize; 64];
-    positions::lay(number, l, &mut firsts, &mut ends, &mut counts);
-    let mut s = 0;
-    while s < q {
-        put_rows(
-            number,
-            l,
-            w,
-            s,
-            &firsts,
-            &ends,
-            &counts,
-            &mut xs,
-            info,
-            parity,
-        );
-        s += 1;
+    let s = Shape {
+        number: number,
+        layout: l,
+        w: w,
+    };
+    let mut table = positions::blank();
+    let mut xs = [0u16; 64];
+    positions::lay(number, l, &mut table);
+    let mut i = 0;
+    while i < q {
+        put_rows(s, &table, i, &mut xs, info, parity);
+        i += 1;
     }
 }
 

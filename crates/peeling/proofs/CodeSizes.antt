@@ -11,12 +11,11 @@ use Rattle.algebra.proofs.Codeword.{slot}
 use Rattle.symbol_sums.specs.Gather.{Inside}
 use Rattle.ccsds.specs.Codes.{checksOf}
 use Rattle.ccsds.specs.Tables.{codeOf}
-use Rattle.encoder.specs.inner.Positions.{RowOf}
 use Rattle.ccsds.specs.inner.Layout.{LayoutOf}
 use Rattle.ccsds.specs.declared.tables.Layout.{Layout}
 use Rattle.ccsds.proofs.Valid.{valid-of, few-of}
-use Rattle.peeling.specs.Table.{checks, Table}
-use Rattle.peeling.specs.declared.peel.Shape.{Shape}
+use Rattle.encoder.specs.inner.Positions.{checks, Table, RowOf}
+use Rattle.encoder.specs.declared.positions.Shape.{Shape}
 
 -- its check rows are its parameter m
 pub row-count : (number : ℕ) → checksOf (codeOf number) .m ≡ codeOf number .m
@@ -32,7 +31,7 @@ pub symbols-of : (number : ℕ) (l : Layout) → LayoutOf (codeOf number) l → 
 unfolding staircase
 symbols-of number l g = omega (arith, g .k, g .m)
 
-module _ {s : Shape} {firsts ends classes : List ℕ} (t : Table s firsts ends classes) where
+module _ {s : Shape} {table : List ℕ} (t : Table s table) where
   pub few-rows : checks s .m ≤ 1024
   few-rows = omega (arith, row-count (s .number), valid-of (s .number) (t .known) .few-rows)
 

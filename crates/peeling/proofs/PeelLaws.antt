@@ -18,7 +18,7 @@ use Rattle.algebra.proofs.Codeword.{slot}
 use Rattle.symbol_sums.specs.Gather.{gathered, Inside, Replaced}
 use Rattle.encoder.specs.inner.Positions.{RowOf}
 use Rattle.peeling.specs.Plan.{kindOf, pivotOf, rowOf, positionOf, usedBy, Before, Step, PutOff, Sort}
-use Rattle.peeling.specs.Values.{rowSum}
+use Rattle.peeling.specs.Values.{rowSum, Peeled}
 use Rattle.peeling.specs.Peel.{Opened, SingleIs, NextOpen, State}
 use Rattle.peeling.specs.declared.peel.Progress.{Progress}
 use Rattle.peeling.proofs.PlanLaws.{Settled, Deferred, settled}
@@ -177,11 +177,15 @@ module _ {c : Checks} {w : ℕ} {block states plan symbols : List ℕ} {g : Prog
   settle-alone : (k : ℕ) → k < n → k ≢ i → getD xs k 0 ≢ getD xs i 0
   settle-alone k h d e = one hi .1 k h d (ap (λ (x : ℕ). kindOf plan x) e ∙ one hi .0)
 
-  -- as `settle` requires it
-  pub settle-ready : ((g .steps < 1024) × ((r < 1024) × ((getD xs i 0 < 3072) × (length plan ≡ 9216))))
-      × (((getD xs i 0 * w + w ≤ length symbols) × Inside (set xs i (getD xs (n - 1) 0)) (n - 1) w (length symbols))
-      × ((k : ℕ) → k < n - 1 → getD (set xs i (getD xs (n - 1) 0)) k 0 ≢ getD xs i 0))
-  settle-ready =
+  -- as `settle` requires it of position p
+  abbrev Ready : ℕ → Type 0
+  Ready p =
+      ((g .steps < 1024) × ((r < 1024) × ((p < 3072) × (length plan ≡ 9216))))
+      × (((p * w + w ≤ length symbols) × Inside (set xs i (getD xs (n - 1) 0)) (n - 1) w (length symbols))
+      × ((k : ℕ) → k < n - 1 → getD (set xs i (getD xs (n - 1) 0)) k 0 ≢ p))
+
+  ready : Ready (getD xs i 0)
+  ready =
       let m = S .made in
       let p = R .below i hi in (
         (omega (arith, settle-steps, m .rows), (omega (arith, m .rows), (omega (arith, m .positions), m .size))),
@@ -190,6 +194,9 @@ module _ {c : Checks} {w : ℕ} {block states plan symbols : List ℕ} {g : Prog
           rest-ne R i hi settle-alone,
         ),
       )
+
+  pub settle-ready : (p : ℕ) → p ≡ getD xs i 0 → Ready p
+  settle-ready p e = subst⁻¹ Ready e ready
 
   -- the others are closed
   row-others : (x : ℕ) → x < c .n → c .has r x ≡ true → x ≢ getD xs i 0 → kindOf plan x ≢ 65535
@@ -295,9 +302,9 @@ module _ {c : Checks} {w : ℕ} {block states plan symbols : List ℕ} {g : Prog
               let d : t ≡ g .steps = omega arith in
               ap (λ (k : ℕ). rowSum c w symbols′ k b) (ap (λ (s : ℕ). rowOf plan′ s) d ∙ T .row) ∙ row-holds b hb
 
-      state-settle : (fuel : ℕ)
-          → State c w block states plan′ symbols′ (record { steps = g .steps + 1; pivots = g .pivots; early = early′; cursor = g .cursor; fuel = fuel })
-      state-settle fuel =
+      state-settle : (fuel last : ℕ)
+          → State c w block states plan′ symbols′ (record { steps = g .steps + 1; pivots = g .pivots; early = early′; cursor = g .cursor; fuel = fuel; last = last })
+      state-settle fuel last =
           record {
             made =
                 record {
@@ -328,14 +335,16 @@ module _ {c : Checks} {w : ℕ} {block states plan symbols : List ℕ} {g : Prog
           }
 
   -- from what `settle` ensures
-  pub state-settled : {plan′ symbols′ : List ℕ} (early′ fuel : ℕ)
-      → plan′ ≡ set (set (set (set plan (6144 + g .steps) r) (7168 + g .steps) (getD xs i 0)) (8192 + r) 1) (getD xs i 0) (g .steps + 1)
-      → Replaced (λ b. gathered (byteAt w symbols b) (set xs i (getD xs (n - 1) 0)) (n - 1)) w (getD xs i 0) symbols symbols′
+  pub state-settled : {plan′ symbols′ : List ℕ} (p : ℕ) → p ≡ getD xs i 0 → (early′ fuel last : ℕ)
+      → plan′ ≡ set (set (set (set plan (6144 + g .steps) r) (7168 + g .steps) p) (8192 + r) 1) p (g .steps + 1)
+      → Replaced (λ b. gathered (byteAt w symbols b) (set xs i (getD xs (n - 1) 0)) (n - 1)) w p symbols symbols′
       → early′ ≡ cond (eqb (g .pivots) 0) (g .steps + 1) (g .early)
-      → State c w block states plan′ symbols′ (record { steps = g .steps + 1; pivots = g .pivots; early = early′; cursor = g .cursor; fuel = fuel })
-  state-settled {plan′} early′ fuel e Q f =
-      let h = settle-ready .0 in
-      state-settle (settled plan (g .steps) r (getD xs i 0) (h .1 .1 .1) (h .0) (h .1 .0) (h .1 .1 .0) plan′ e) Q early′ f fuel
+      → State c w block states plan′ symbols′ (record { steps = g .steps + 1; pivots = g .pivots; early = early′; cursor = g .cursor; fuel = fuel; last = last })
+  state-settled {plan′} {symbols′} p d early′ fuel last e Q f =
+      let h = ready .0 in
+      let e′ = e ∙ ap (λ (x : ℕ). set (set (set (set plan (6144 + g .steps) r) (7168 + g .steps) x) (8192 + r) 1) x (g .steps + 1)) d in
+      state-settle (settled plan (g .steps) r (getD xs i 0) (h .1 .1 .1) (h .0) (h .1 .0) (h .1 .1 .0) plan′ e′)
+      (subst (λ (x : ℕ). Replaced (λ b. gathered (byteAt w symbols b) (set xs i (getD xs (n - 1) 0)) (n - 1)) w x symbols symbols′) d Q) early′ f fuel last
 
 -- ---- the position under the cursor
 
@@ -349,10 +358,10 @@ closed-more plan from x below here p f h e = go (decLt p x)
     go (no l) = let d : x ≡ p = omega arith in here (ap (λ (k : ℕ). kindOf plan k) d ∙ e)
 
 module _ {c : Checks} {w : ℕ} {block states plan symbols : List ℕ} {g : Progress} (S : State c w block states plan symbols g) where
-  -- fuel says nothing
-  pub state-late : (fuel : ℕ)
-      → State c w block states plan symbols (record { steps = g .steps; pivots = g .pivots; early = g .early; cursor = g .cursor; fuel = fuel })
-  state-late fuel =
+  -- fuel and the last position say nothing
+  pub state-late : (fuel last : ℕ)
+      → State c w block states plan symbols (record { steps = g .steps; pivots = g .pivots; early = g .early; cursor = g .cursor; fuel = fuel; last = last })
+  state-late fuel last =
       record {
         made = S .made;
         unsolved = S .unsolved;
@@ -364,9 +373,9 @@ module _ {c : Checks} {w : ℕ} {block states plan symbols : List ℕ} {g : Prog
       }
 
   -- the cursor passes over closed positions
-  pub state-pass : {n x : ℕ} → n ≡ c .n → NextOpen plan (g .cursor) n x
-      → State c w block states plan symbols (record { steps = g .steps; pivots = g .pivots; early = g .early; cursor = x; fuel = g .fuel })
-  state-pass {n} {x} e N =
+  pub state-pass : {n x : ℕ} (last : ℕ) → n ≡ c .n → NextOpen plan (g .cursor) n x
+      → State c w block states plan symbols (record { steps = g .steps; pivots = g .pivots; early = g .early; cursor = x; fuel = g .fuel; last = last })
+  state-pass {n} {x} last e N =
       record {
         made = S .made;
         unsolved = S .unsolved;
@@ -441,9 +450,9 @@ module _ {c : Checks} {w : ℕ} {block states plan symbols : List ℕ} {g : Prog
             kind = (omega (arith, now-kind), omega (arith, now-kind, few-pivots));
           }
 
-      pub state-defer : State c w block states plan′ symbols′
-          (record { steps = g .steps; pivots = g .pivots + 1; early = g .early; cursor = g .cursor + 1; fuel = g .fuel })
-      state-defer =
+      pub state-defer : (last : ℕ) → State c w block states plan′ symbols′
+          (record { steps = g .steps; pivots = g .pivots + 1; early = g .early; cursor = g .cursor + 1; fuel = g .fuel; last = last })
+      state-defer last =
           record {
             made =
                 record {
@@ -477,9 +486,9 @@ module _ {c : Checks} {w : ℕ} {block states plan symbols : List ℕ} {g : Prog
 
 -- ---- the beginning
 
-pub state-start : (c : Checks) (w n : ℕ) (states plan symbols : List ℕ) (fuel : ℕ) → c .n ≤ 3072 → c .m ≤ 1024 → length symbols ≡ c .n * w → n ≡ c .n → Opened n states plan
-    → State c w symbols states plan symbols (record { steps = 0; pivots = 0; early = 0; cursor = 0; fuel = fuel })
-state-start c w n states plan symbols fuel hn hm e d o =
+pub state-start : (c : Checks) (w n : ℕ) (states plan symbols : List ℕ) (fuel last : ℕ) → c .n ≤ 3072 → c .m ≤ 1024 → length symbols ≡ c .n * w → n ≡ c .n → Opened n states plan
+    → State c w symbols states plan symbols (record { steps = 0; pivots = 0; early = 0; cursor = 0; fuel = fuel; last = last })
+state-start c w n states plan symbols fuel last hn hm e d o =
     record {
       made =
           record {
@@ -508,3 +517,10 @@ state-start c w n states plan symbols fuel hn hm e d o =
       pivots-below = omega arith;
       closed = λ p h. absurd (omega arith);
     }
+
+-- where no position is missing, it is the end too
+pub nothing-missing : {c : Checks} {w n : ℕ} {states plan symbols : List ℕ} → c .n ≤ 3072 → c .m ≤ 1024 → length symbols ≡ c .n * w → n ≡ c .n → Opened n states plan
+    → ((p : ℕ) → p < n → isKnown states p ≡ true) → Peeled c w symbols states plan symbols 0 0 0
+nothing-missing {c} {w} {n} {states} {plan} {symbols} hn hm e d o k =
+    let S = state-start c w n states plan symbols 0 0 hn hm e d o in
+    record { made = S .made; closed = λ p h z. omega (arith, o .known p (omega arith) (k p (omega arith)), z); unsolved = S .unsolved; values = S .values; begun = S .begun }

@@ -15,7 +15,6 @@ pub record Fits (l : Layout) : Type 0 where
   pub degrees : (l .degree ≤ 8) × (l .rest ≤ 8)
 
 -- the arrays of the hints
-pub record Hinted (table counts ready : List ℕ) : Type 0 where
-  pub table-size : length table ≡ 512
+pub record Hinted (counts ready : List ℕ) : Type 0 where
   pub counts-size : length counts ≡ 1024
   pub ready-size : length ready ≡ 16

@@ -1,6 +1,5 @@
 pub mod States
 pub mod Plan
-pub mod Table
 pub mod Hints
 pub mod Values
 pub mod Peel

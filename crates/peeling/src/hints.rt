@@ -3,16 +3,14 @@
 use crate::states::KNOWN;
 use ccsds::tables;
 use ccsds::tables::Layout;
+use encoder::positions::ADDRESSES;
 ghost use mathlib.Core.Path.{_≡_};
 ghost use Prim.Native.Nat.{_<_, _≤_};
 ghost use lib.ListN.{length};
-ghost use Rattle.ccsds.specs.Tables.{codeOf};
-ghost use Rattle.ccsds.specs.inner.Layout.{LayoutOf};
 ghost use Rattle.peeling.specs.Hints.{Fits};
 
-fn narrow(x: usize) -> u16 {
-    (x % 65536) as u16
-}
+// No position.
+pub const NONE: u16 = 65535;
 
 // No open symbol in any row.
 pub fn no_counts() -> [u8; 1024]
@@ -28,42 +26,14 @@ pub fn no_rows() -> [u64; 16]
     [0u64; 16]
 }
 
-// The addresses of a table row, from index row * 8 on.
-fn put_addresses(ys: &[usize; 8], row: usize, t: &mut [u16; 512])
-    requires { ⌜ (length (now ys) ≡ 8) × (row < 64) × (length (now t) ≡ 512) ⌝ }
-    ensures { λ _. ⌜ length (now (t .exit)) ≡ 512 ⌝ }
-{
-    let mut i = 0;
-    while i < 8 {
-        t[row * 8 + i] = narrow(ys[i]);
-        i += 1;
-    }
-}
-
-// The addresses of a code's table, 8 places a row.
-pub fn addresses(number: usize, l: Layout) -> [u16; 512]
-    requires { ⌜ LayoutOf (codeOf number) l ⌝ }
-    ensures { λ r. ⌜ length r ≡ 512 ⌝ }
-{
-    let mut t = [0u16; 512];
-    let rows = l.rows;
-    let mut row = 0;
-    while row < rows {
-        let ys = tables::addresses(number, l, row);
-        put_addresses(&ys, row, &mut t);
-        row += 1;
-    }
-    t
-}
-
 // The check rows of an information position, which stands o places further in its table row of n addresses.
-fn shifted(m: usize, table: &[u16; 512], row: usize, n: usize, o: usize, js: &mut [usize; 8])
-    requires { ⌜ (length (now table) ≡ 512) × (row < 64) × (n ≤ 8) × (o ≤ 1048576) × (length (now js) ≡ 8) ⌝ }
+fn shifted(m: usize, table: &[u16; 1544], row: usize, n: usize, o: usize, js: &mut [usize; 8])
+    requires { ⌜ (length (now table) ≡ 1544) × (row < 64) × (n ≤ 8) × (o ≤ 1048576) × (length (now js) ≡ 8) ⌝ }
     ensures { λ _. ⌜ length (now (js .exit)) ≡ 8 ⌝ }
 {
     let mut i = 0;
     while i < n {
-        let j = tables::wide(table[row * 8 + i]) + o;
+        let j = tables::wide(table[ADDRESSES + row * 8 + i]) + o;
         js[i] = if j < m { j } else { j - m };
         i += 1;
     }
@@ -78,8 +48,8 @@ fn degree(l: Layout, row: usize) -> usize
 }
 
 // The check rows of position x, at the front of js; returns how many.
-fn column(l: Layout, table: &[u16; 512], x: usize, js: &mut [usize; 8]) -> usize
-    requires { ⌜ Fits l × (x < 65536) × (length (now table) ≡ 512) × (length (now js) ≡ 8) ⌝ }
+fn column(l: Layout, table: &[u16; 1544], x: usize, js: &mut [usize; 8]) -> usize
+    requires { ⌜ Fits l × (x < 65536) × (length (now table) ≡ 1544) × (length (now js) ≡ 8) ⌝ }
     ensures { λ r. ⌜ (r ≤ 8) × (length (now (js .exit)) ≡ 8) ⌝ }
 {
     let m = l.m;
@@ -115,8 +85,8 @@ fn bit(c: u8, v: u8) -> u64 {
 }
 
 // Position x is open: its check rows have one more.
-fn open_column(l: Layout, table: &[u16; 512], x: usize, counts: &mut [u8; 1024])
-    requires { ⌜ Fits l × (x < 65536) × (length (now table) ≡ 512) × (length (now counts) ≡ 1024) ⌝ }
+fn open_column(l: Layout, table: &[u16; 1544], x: usize, counts: &mut [u8; 1024])
+    requires { ⌜ Fits l × (x < 65536) × (length (now table) ≡ 1544) × (length (now counts) ≡ 1024) ⌝ }
     ensures { λ _. ⌜ length (now (counts .exit)) ≡ 1024 ⌝ }
 {
     let mut js = [0usize; 8];
@@ -130,8 +100,8 @@ fn open_column(l: Layout, table: &[u16; 512], x: usize, counts: &mut [u8; 1024])
 }
 
 // The same for a missing position.
-fn open_if_missing(l: Layout, table: &[u16; 512], x: usize, state: u8, counts: &mut [u8; 1024])
-    requires { ⌜ Fits l × (x < 65536) × (length (now table) ≡ 512) × (length (now counts) ≡ 1024) ⌝ }
+fn open_if_missing(l: Layout, table: &[u16; 1544], x: usize, state: u8, counts: &mut [u8; 1024])
+    requires { ⌜ Fits l × (x < 65536) × (length (now table) ≡ 1544) × (length (now counts) ≡ 1024) ⌝ }
     ensures { λ _. ⌜ length (now (counts .exit)) ≡ 1024 ⌝ }
 {
     if state == KNOWN {
@@ -141,8 +111,8 @@ fn open_if_missing(l: Layout, table: &[u16; 512], x: usize, state: u8, counts: &
 }
 
 // The same for each missing position.
-pub fn count(l: Layout, table: &[u16; 512], states: &[u8], counts: &mut [u8; 1024])
-    requires { ⌜ Fits l × (length (now states) ≤ 3072) × (length (now table) ≡ 512) × (length (now counts) ≡ 1024) ⌝ }
+pub fn count(l: Layout, table: &[u16; 1544], states: &[u8], counts: &mut [u8; 1024])
+    requires { ⌜ Fits l × (length (now states) ≤ 3072) × (length (now table) ≡ 1544) × (length (now counts) ≡ 1024) ⌝ }
     ensures { λ _. ⌜ length (now (counts .exit)) ≡ 1024 ⌝ }
 {
     let mut x = 0;
@@ -172,20 +142,17 @@ pub fn first_ready(m: usize, counts: &[u8; 1024], ready: &mut [u64; 16])
     }
 }
 
-// Position x is no longer open: its check rows have one less.
-pub fn close(
-    l: Layout,
-    table: &[u16; 512],
-    x: usize,
-    counts: &mut [u8; 1024],
-    ready: &mut [u64; 16],
-)
-    requires { ⌜ Fits l × (x < 65536) × (length (now table) ≡ 512) ⌝ }
+// Position x is no longer open: its check rows have one less. NONE is no position.
+pub fn close(l: Layout, table: &[u16; 1544], x: u16, counts: &mut [u8; 1024], ready: &mut [u64; 16])
+    requires { ⌜ Fits l × (length (now table) ≡ 1544) ⌝ }
     requires { ⌜ (length (now counts) ≡ 1024) × (length (now ready) ≡ 16) ⌝ }
     ensures { λ _. ⌜ (length (now (counts .exit)) ≡ 1024) × (length (now (ready .exit)) ≡ 16) ⌝ }
 {
+    if x == NONE {
+        return;
+    }
     let mut js = [0usize; 8];
-    let n = column(l, table, x, &mut js);
+    let n = column(l, table, tables::wide(x), &mut js);
     let mut i = 0;
     while i < n {
         let j = js[i] % 1024;

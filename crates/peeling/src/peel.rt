@@ -1,6 +1,7 @@
 // Peeling: a check row with just one open symbol settles it, as the sum of the row's other symbols; where no row is ready, the lowest open position is
 // put off as a pivot, with zero for its symbol. The plan (specs/Plan.antt) says of each position what became of it.
 use crate::hints;
+use crate::hints::NONE;
 use crate::plan::FIRST_PIVOT;
 use crate::plan::OPEN;
 use crate::plan::PIVOTS;
@@ -8,38 +9,48 @@ use crate::plan::STEP_POSITIONS;
 use crate::plan::STEP_ROWS;
 use crate::plan::USED;
 use crate::states::KNOWN;
-use ccsds::tables::Layout;
+use ccsds::tables;
 use encoder::positions;
+use encoder::positions::Shape;
 ghost use mathlib.Core.Path.{_≡_};
 ghost use mathlib.Core.Logic.{_≢_};
-ghost use mathlib.Core.Bool.{cond};
+ghost use mathlib.Core.Bool.{true, cond};
 ghost use Prim.Native.Nat.{ℕ, _+_, _*_, _<_, _≤_};
 ghost use lib.Dec.{eqb};
 ghost use lib.ListN.{length, getD, set, replicate};
 ghost use Rattle.algebra.specs.Codeword.{byteAt};
 ghost use Rattle.symbol_sums.specs.Gather.{gathered, Inside, Replaced};
-ghost use Rattle.ccsds.specs.Tables.{codeOf, Known};
+ghost use Rattle.ccsds.specs.Tables.{codeOf};
 ghost use Rattle.ccsds.specs.inner.Layout.{LayoutOf};
-ghost use Rattle.peeling.specs.Table.{checks, Table};
+ghost use Rattle.encoder.specs.inner.Positions.{checks, Table};
+ghost use Rattle.peeling.specs.States.{isKnown};
 ghost use Rattle.peeling.specs.Values.{Peeled};
 ghost use Rattle.peeling.specs.Hints.{Hinted};
 ghost use Rattle.peeling.specs.Peel.{Opened, SingleIs, NextOpen, Reached, Continued};
 
-// The shape of a block: its code's number and layout, and the bytes of a symbol.
-pub struct Shape {
-    pub number: usize,
-    pub layout: Layout,
-    pub w: usize,
-}
-
-// How far peeling has come: steps made, pivots put off, steps made before the first pivot, the position up to which none is open, and how many rows
-// may still be tried, so that it ends.
+// How far peeling has come: steps made, pivots put off, steps made before the first pivot, the position up to which none is open, how many rows may
+// still be tried, so that it ends, and the position that the last turn settled or put off, or NONE.
 pub struct Progress {
     pub steps: usize,
     pub pivots: usize,
     pub early: usize,
     pub cursor: usize,
     pub fuel: usize,
+    pub last: u16,
+}
+
+// Before the first turn.
+fn beginning() -> Progress
+    ensures { λ g. ⌜ g ≡ (record { steps = 0; pivots = 0; early = 0; cursor = 0; fuel = 32768; last = 65535 }) ⌝ }
+{
+    Progress {
+        steps: 0,
+        pivots: 0,
+        early: 0,
+        cursor: 0,
+        fuel: 32768,
+        last: NONE,
+    }
 }
 
 // What a position with this state is at first.
@@ -68,7 +79,7 @@ fn choose(first: bool, x: usize, y: usize) -> usize
 }
 
 // The index of the only open position; 64 where there is none or more.
-fn single(plan: &[u16], xs: &[usize; 64], n: usize) -> usize
+fn single(plan: &[u16], xs: &[u16; 64], n: usize) -> usize
     requires { ⌜ (n ≤ 64) × (length (now xs) ≡ 64) ⌝ }
     requires { ⌜ ((i : ℕ) → i < n → getD (now xs) i 0 < length (now plan)) ⌝ }
     ensures { λ r. ⌜ SingleIs (now (plan .entry)) (now (xs .entry)) n r ⌝ }
@@ -77,7 +88,7 @@ fn single(plan: &[u16], xs: &[usize; 64], n: usize) -> usize
     let mut found = 0;
     let mut i = 0;
     while i < n {
-        let x = xs[i];
+        let x = tables::wide(xs[i]);
         let open = plan[x] == OPEN;
         at = choose(open, i, at);
         found = choose(open, found + 1, found);
@@ -92,7 +103,7 @@ fn settle(
     t: usize,
     r: usize,
     p: usize,
-    xs: &[usize; 64],
+    xs: &[u16; 64],
     n: usize,
     plan: &mut [u16],
     symbols: &mut [u8],
@@ -123,26 +134,19 @@ fn try_row(
     s: Shape,
     r: usize,
     g: Progress,
-    firsts: &[u16; 512],
-    ends: &[u16; 512],
-    classes: &[usize; 8],
-    table: &[u16; 512],
-    xs: &mut [usize; 64],
+    table: &[u16; 1544],
+    xs: &mut [u16; 64],
     plan: &mut [u16],
     symbols: &mut [u8],
-    counts: &mut [u8; 1024],
-    ready: &mut [u64; 16],
 ) -> Progress
-    requires { ⌜ Hinted (now table) (now counts) (now ready) ⌝ }
-    requires { ⌜ Table s (now firsts) (now ends) (now classes) ⌝ }
+    requires { ⌜ Table s (now table) ⌝ }
     requires { ⌜ length (now xs) ≡ 64 ⌝ }
     requires { ⌜ (r < codeOf (s .number) .m) × (0 < g .fuel) ⌝ }
     requires { ⌜ Reached (checks s) (s .w) (now plan) (now symbols) g ⌝ }
     ensures { λ _. ⌜ length (now (xs .exit)) ≡ 64 ⌝ }
-    ensures { λ _. ⌜ Hinted (now (table .entry)) (now (counts .exit)) (now (ready .exit)) ⌝ }
     ensures { λ h. ⌜ Continued (checks s) (s .w) (now (plan .entry)) (now (symbols .entry)) g (now (plan .exit)) (now (symbols .exit)) h ⌝ }
 {
-    let n = positions::of_row(s.number, s.layout, firsts, ends, classes, r, xs);
+    let n = positions::of_row(s, table, r, xs);
     let i = single(plan, xs, n);
     let t = g.steps;
     let late = Progress {
@@ -151,6 +155,7 @@ fn try_row(
         early: g.early,
         cursor: g.cursor,
         fuel: g.fuel - 1,
+        last: NONE,
     };
     if i >= n {
         return late;
@@ -160,8 +165,7 @@ fn try_row(
     }
     let p = xs[i];
     xs[i] = xs[n - 1];
-    settle(s.w, t, r, p, xs, n - 1, plan, symbols);
-    hints::close(s.layout, table, p, counts, ready);
+    settle(s.w, t, r, tables::wide(p), xs, n - 1, plan, symbols);
     let early = early_steps(g);
     Progress {
         steps: t + 1,
@@ -169,6 +173,7 @@ fn try_row(
         early: early,
         cursor: g.cursor,
         fuel: g.fuel - 1,
+        last: p,
     }
 }
 
@@ -201,20 +206,10 @@ fn next_open(plan: &[u16], from: usize, n: usize) -> usize
 }
 
 // The next open position becomes a pivot.
-fn put_off(
-    s: Shape,
-    g: Progress,
-    table: &[u16; 512],
-    plan: &mut [u16],
-    symbols: &mut [u8],
-    counts: &mut [u8; 1024],
-    ready: &mut [u64; 16],
-) -> Progress
-    requires { ⌜ Hinted (now table) (now counts) (now ready) ⌝ }
-    requires { ⌜ Known (s .number) × LayoutOf (codeOf (s .number)) (s .layout) ⌝ }
+fn put_off(s: Shape, g: Progress, plan: &mut [u16], symbols: &mut [u8]) -> Progress
+    requires { ⌜ LayoutOf (codeOf (s .number)) (s .layout) ⌝ }
     requires { ⌜ g .cursor < checks s .n ⌝ }
     requires { ⌜ Reached (checks s) (s .w) (now plan) (now symbols) g ⌝ }
-    ensures { λ _. ⌜ Hinted (now (table .entry)) (now (counts .exit)) (now (ready .exit)) ⌝ }
     ensures { λ h. ⌜ Continued (checks s) (s .w) (now (plan .entry)) (now (symbols .entry)) g (now (plan .exit)) (now (symbols .exit)) h ⌝ }
 {
     let l = s.layout;
@@ -228,16 +223,17 @@ fn put_off(
             early: g.early,
             cursor: x,
             fuel: g.fuel,
+            last: NONE,
         };
     }
     defer(s.w, u, x, plan, symbols);
-    hints::close(l, table, x, counts, ready);
     Progress {
         steps: g.steps,
         pivots: u + 1,
         early: g.early,
         cursor: x + 1,
         fuel: g.fuel,
+        last: x as u16,
     }
 }
 
@@ -253,101 +249,122 @@ fn next_row(fuel: usize, m: usize, ready: &mut [u64; 16]) -> usize
     hints::next(ready)
 }
 
-// One step, or a check row that turned out not to be ready, or one position put off.
+// One step by check row r, or nothing where it turned out not to be ready; where r is no row, one position put off.
+fn advance(
+    s: Shape,
+    r: usize,
+    g: Progress,
+    table: &[u16; 1544],
+    xs: &mut [u16; 64],
+    plan: &mut [u16],
+    symbols: &mut [u8],
+) -> Progress
+    requires { ⌜ Table s (now table) ⌝ }
+    requires { ⌜ length (now xs) ≡ 64 ⌝ }
+    requires { ⌜ (g .cursor < checks s .n) × (r < s .layout .m → 0 < g .fuel) ⌝ }
+    requires { ⌜ Reached (checks s) (s .w) (now plan) (now symbols) g ⌝ }
+    ensures { λ _. ⌜ length (now (xs .exit)) ≡ 64 ⌝ }
+    ensures { λ h. ⌜ Continued (checks s) (s .w) (now (plan .entry)) (now (symbols .entry)) g (now (plan .exit)) (now (symbols .exit)) h ⌝ }
+{
+    let l = s.layout;
+    if r >= l.m {
+        return put_off(s, g, plan, symbols);
+    }
+    try_row(s, r, g, table, xs, plan, symbols)
+}
+
+// The same by the next row that is ready.
 fn turn(
     s: Shape,
     g: Progress,
-    firsts: &[u16; 512],
-    ends: &[u16; 512],
-    classes: &[usize; 8],
-    table: &[u16; 512],
-    xs: &mut [usize; 64],
+    table: &[u16; 1544],
+    xs: &mut [u16; 64],
     plan: &mut [u16],
     symbols: &mut [u8],
     counts: &mut [u8; 1024],
     ready: &mut [u64; 16],
 ) -> Progress
-    requires { ⌜ Hinted (now table) (now counts) (now ready) ⌝ }
-    requires { ⌜ Table s (now firsts) (now ends) (now classes) ⌝ }
+    requires { ⌜ Table s (now table) ⌝ }
+    requires { ⌜ Hinted (now counts) (now ready) ⌝ }
     requires { ⌜ length (now xs) ≡ 64 ⌝ }
     requires { ⌜ g .cursor < checks s .n ⌝ }
     requires { ⌜ Reached (checks s) (s .w) (now plan) (now symbols) g ⌝ }
     ensures { λ _. ⌜ length (now (xs .exit)) ≡ 64 ⌝ }
-    ensures { λ _. ⌜ Hinted (now (table .entry)) (now (counts .exit)) (now (ready .exit)) ⌝ }
+    ensures { λ _. ⌜ Hinted (now (counts .exit)) (now (ready .exit)) ⌝ }
     ensures { λ h. ⌜ Continued (checks s) (s .w) (now (plan .entry)) (now (symbols .entry)) g (now (plan .exit)) (now (symbols .exit)) h ⌝ }
 {
     let l = s.layout;
     let r = next_row(g.fuel, l.m, ready);
-    if r >= l.m {
-        return put_off(s, g, table, plan, symbols, counts, ready);
-    }
-    try_row(
-        s,
-        r,
-        g,
-        firsts,
-        ends,
-        classes,
-        table,
-        xs,
-        plan,
-        symbols,
-        counts,
-        ready,
-    )
+    let h = advance(s, r, g, table, xs, plan, symbols);
+    hints::close(l, table, h.last, counts, ready);
+    h
 }
 
 // Room for the positions of a check row.
-pub fn no_positions() -> [usize; 64]
+pub fn no_positions() -> [u16; 64]
     ensures { λ r. ⌜ length r ≡ 64 ⌝ }
 {
-    [0usize; 64]
+    [0u16; 64]
+}
+
+// No position is missing. Counted in 16 bits, so that eight states are tested at a time.
+fn none_missing(states: &[u8]) -> bool
+    requires { ⌜ length (now states) ≤ 3072 ⌝ }
+    ensures { λ r. ⌜ (r ≡ true → (p : ℕ) → p < length (now (states .entry)) → isKnown (now (states .entry)) p ≡ true) ⌝ }
+{
+    let mut known: u16 = 0;
+    let mut i = 0;
+    while i < states.len() {
+        if states[i] == KNOWN {
+            known += 1;
+        }
+        i += 1;
+    }
+    known as usize == states.len()
+}
+
+// From where the missing positions are open and nothing is used: settles every one of them by a check row, or puts it off.
+fn peel_open(
+    s: Shape,
+    table: &[u16; 1544],
+    states: &[u8],
+    plan: &mut [u16],
+    symbols: &mut [u8],
+) -> Progress
+    requires { ⌜ Table s (now table) ⌝ }
+    requires { ⌜ Opened (length (now states)) (now states) (now plan) ⌝ }
+    requires { ⌜ (length (now states) ≡ checks s .n) × (length (now symbols) ≡ checks s .n * s .w) ⌝ }
+    ensures { λ g. ⌜ Peeled (checks s) (s .w) (now (symbols .entry)) (now (states .entry)) (now (plan .exit)) (now (symbols .exit)) (g .early) (g .steps) (g .pivots) ⌝ }
+{
+    let mut xs = no_positions();
+    let mut counts = hints::no_counts();
+    let mut ready = hints::no_rows();
+    let l = s.layout;
+    hints::count(l, table, states, &mut counts);
+    hints::first_ready(l.m, &counts, &mut ready);
+    let mut g = beginning();
+    while g.cursor < states.len() {
+        g = turn(s, g, table, &mut xs, plan, symbols, &mut counts, &mut ready);
+    }
+    g
 }
 
 // Settles every missing position by a check row, or puts it off.
 pub fn peel(
     s: Shape,
-    firsts: &[u16; 512],
-    ends: &[u16; 512],
-    classes: &[usize; 8],
+    table: &[u16; 1544],
     states: &[u8],
     plan: &mut [u16],
     symbols: &mut [u8],
 ) -> Progress
-    requires { ⌜ Table s (now firsts) (now ends) (now classes) ⌝ }
+    requires { ⌜ Table s (now table) ⌝ }
     requires { ⌜ now plan ≡ replicate 9216 0 ⌝ }
     requires { ⌜ (length (now states) ≡ checks s .n) × (length (now symbols) ≡ checks s .n * s .w) ⌝ }
     ensures { λ g. ⌜ Peeled (checks s) (s .w) (now (symbols .entry)) (now (states .entry)) (now (plan .exit)) (now (symbols .exit)) (g .early) (g .steps) (g .pivots) ⌝ }
 {
-    let table = hints::addresses(s.number, s.layout);
-    let mut xs = no_positions();
-    let mut counts = hints::no_counts();
-    let mut ready = hints::no_rows();
-    let l = s.layout;
     open_missing(states, plan);
-    hints::count(l, &table, states, &mut counts);
-    hints::first_ready(l.m, &counts, &mut ready);
-    let mut g = Progress {
-        steps: 0,
-        pivots: 0,
-        early: 0,
-        cursor: 0,
-        fuel: 32768,
-    };
-    while g.cursor < states.len() {
-        g = turn(
-            s,
-            g,
-            firsts,
-            ends,
-            classes,
-            &table,
-            &mut xs,
-            plan,
-            symbols,
-            &mut counts,
-            &mut ready,
-        );
+    if none_missing(states) {
+        return beginning();
     }
-    g
+    peel_open(s, table, states, plan, symbols)
 }

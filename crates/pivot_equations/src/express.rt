@@ -1,7 +1,8 @@
 // What each symbol is in terms of the pivots.
+use ccsds::tables;
 use encoder::positions;
+use encoder::positions::Shape;
 use peeling::peel;
-use peeling::peel::Shape;
 use peeling::plan::FIRST_PIVOT;
 use peeling::plan::FIRST_SOLVED;
 use peeling::plan::LAST_PIVOT;
@@ -14,7 +15,7 @@ ghost use mathlib.Core.Path.{_≡_};
 ghost use Prim.Native.Nat.{_+_, _*_, _/_, _≤_, _<_};
 ghost use lib.ListN.{length};
 ghost use Rattle.ccsds.specs.Tables.{codeOf};
-ghost use Rattle.peeling.specs.Table.{checks, Table};
+ghost use Rattle.encoder.specs.inner.Positions.{checks, Table};
 ghost use Rattle.peeling.specs.Plan.{kindOf, unusedBelow, Unsolved};
 ghost use Rattle.pivot_equations.specs.Express.{Reads, Added, RowIs, Places, StepsExpressed, SameFrom, SameBelow, RestExpressed, flipRowBit, kindBut, ReadsAll, RestTo, Planned, Room};
 
@@ -93,53 +94,50 @@ fn add_other(
     add(early, packed, rows, t, x, plan, words);
 }
 
-// Row t becomes the sum of the expressions of the positions of check row j other than p.
+// Row `row` of the equations, which is to be made from check row `check` without position `but`.
+struct Target {
+    row: usize,
+    check: usize,
+    but: usize,
+}
+
+// The row becomes the sum of the expressions of the check row's other positions.
 fn row(
     s: Shape,
     r: Rows,
-    t: usize,
-    j: usize,
-    p: usize,
-    firsts: &[u16; 512],
-    ends: &[u16; 512],
-    classes: &[usize; 8],
-    xs: &mut [usize; 64],
+    e: Target,
+    table: &[u16; 1544],
+    xs: &mut [u16; 64],
     plan: &[u16],
     words: &mut [u64],
 )
-    requires { ⌜ Table s (now firsts) (now ends) (now classes) ⌝ }
+    requires { ⌜ Table s (now table) ⌝ }
     requires { ⌜ length (now xs) ≡ 64 ⌝ }
     requires { ⌜ (r .packed ≤ 48) × (s .layout .m * (r .packed + 1) ≤ length (now words)) ⌝ }
-    requires { ⌜ (t < s .layout .m) × ((j < codeOf (s .number) .m) × (length (now plan) ≡ 9216)) ⌝ }
-    requires { ⌜ ReadsAll (checks s) (now plan) (now words) (r .packed) (r .early) (s .layout .m) t p ⌝ }
+    requires { ⌜ (e .row < s .layout .m) × ((e .check < codeOf (s .number) .m) × (length (now plan) ≡ 9216)) ⌝ }
+    requires { ⌜ ReadsAll (checks s) (now plan) (now words) (r .packed) (r .early) (s .layout .m) (e .row) (e .but) ⌝ }
     ensures { λ _. ⌜ length (now (xs .exit)) ≡ 64 ⌝ }
-    ensures { λ _. ⌜ RowIs (checks s) (now (plan .entry)) (now (words .entry)) (now (words .exit)) (r .packed) (r .early) t j p ⌝ }
+    ensures { λ _. ⌜ RowIs (checks s) (now (plan .entry)) (now (words .entry)) (now (words .exit)) (r .packed) (r .early) (e .row) (e .check) (e .but) ⌝ }
 {
     let l = s.layout;
     let early = r.early;
     let packed = r.packed;
+    let t = e.row;
+    let p = e.but;
     let stride = packed + 1;
     let at = t * stride;
     buffers::clear_words(&mut words[at..at + stride]);
-    let n = positions::of_row(s.number, l, firsts, ends, classes, j, xs);
+    let n = positions::of_row(s, table, e.check, xs);
     let mut i = 0;
     while i < n {
-        add_other(early, packed, l.m, t, p, xs[i], plan, words);
+        add_other(early, packed, l.m, t, p, tables::wide(xs[i]), plan, words);
         i += 1;
     }
 }
 
 // The steps from `early` on.
-pub fn steps(
-    s: Shape,
-    r: Rows,
-    firsts: &[u16; 512],
-    ends: &[u16; 512],
-    classes: &[usize; 8],
-    plan: &[u16],
-    words: &mut [u64],
-)
-    requires { ⌜ Table s (now firsts) (now ends) (now classes) ⌝ }
+pub fn steps(s: Shape, r: Rows, table: &[u16; 1544], plan: &[u16], words: &mut [u64])
+    requires { ⌜ Table s (now table) ⌝ }
     requires { ⌜ Planned (checks s) (now plan) r ⌝ }
     requires { ⌜ Room (checks s) r (length (now words)) ⌝ }
     requires { ⌜ Places (checks s) (now plan) (now words) (r .packed) (r .steps) (checks s .m) ⌝ }
@@ -149,19 +147,14 @@ pub fn steps(
     let mut xs = peel::no_positions();
     let mut t = r.early;
     while t < r.steps {
-        row(
-            s,
-            r,
-            t,
-            plan[STEP_ROWS + t] as usize,
-            plan[STEP_POSITIONS + t] as usize,
-            firsts,
-            ends,
-            classes,
-            &mut xs,
-            plan,
-            words,
-        );
+        let j = plan[STEP_ROWS + t] as usize;
+        let p = plan[STEP_POSITIONS + t] as usize;
+        let e = Target {
+            row: t,
+            check: j,
+            but: p,
+        };
+        row(s, r, e, table, &mut xs, plan, words);
         t += 1;
     }
 }
@@ -172,14 +165,12 @@ fn remaining_row(
     r: Rows,
     t: usize,
     j: usize,
-    firsts: &[u16; 512],
-    ends: &[u16; 512],
-    classes: &[usize; 8],
-    xs: &mut [usize; 64],
+    table: &[u16; 1544],
+    xs: &mut [u16; 64],
     plan: &[u16],
     words: &mut [u64],
 ) -> usize
-    requires { ⌜ Table s (now firsts) (now ends) (now classes) ⌝ }
+    requires { ⌜ Table s (now table) ⌝ }
     requires { ⌜ length (now xs) ≡ 64 ⌝ }
     requires { ⌜ Planned (checks s) (now plan) r ⌝ }
     requires { ⌜ Room (checks s) r (length (now words)) ⌝ }
@@ -195,21 +186,18 @@ fn remaining_row(
     if plan[USED + j] != 0 {
         return t;
     }
-    row(s, r, t, j, PIVOTS, firsts, ends, classes, xs, plan, words);
+    let e = Target {
+        row: t,
+        check: j,
+        but: PIVOTS,
+    };
+    row(s, r, e, table, xs, plan, words);
     t + 1
 }
 
 // The check rows that no step used, after the steps.
-pub fn remaining(
-    s: Shape,
-    r: Rows,
-    firsts: &[u16; 512],
-    ends: &[u16; 512],
-    classes: &[usize; 8],
-    plan: &[u16],
-    words: &mut [u64],
-)
-    requires { ⌜ Table s (now firsts) (now ends) (now classes) ⌝ }
+pub fn remaining(s: Shape, r: Rows, table: &[u16; 1544], plan: &[u16], words: &mut [u64])
+    requires { ⌜ Table s (now table) ⌝ }
     requires { ⌜ Planned (checks s) (now plan) r ⌝ }
     requires { ⌜ Room (checks s) r (length (now words)) ⌝ }
     requires { ⌜ Places (checks s) (now plan) (now words) (r .packed) (r .steps) (checks s .m) ⌝ }
@@ -223,7 +211,7 @@ pub fn remaining(
     let mut t = r.steps;
     let mut j = 0;
     while j < m {
-        t = remaining_row(s, r, t, j, firsts, ends, classes, &mut xs, plan, words);
+        t = remaining_row(s, r, t, j, table, &mut xs, plan, words);
         j += 1;
     }
 }

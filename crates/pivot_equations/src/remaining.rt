@@ -1,12 +1,12 @@
 // The check rows that no step used.
 use encoder::positions;
+use encoder::positions::Shape;
 use peeling::peel;
-use peeling::peel::Shape;
 use peeling::plan::USED;
 ghost use mathlib.Core.Path.{_≡_};
 ghost use Prim.Native.Nat.{_+_, _*_, _<_};
 ghost use lib.ListN.{length};
-ghost use Rattle.peeling.specs.Table.{checks, Table};
+ghost use Rattle.encoder.specs.inner.Positions.{checks, Table};
 ghost use Rattle.peeling.specs.Values.{HoldIs, Sides};
 ghost use Rattle.pivot_equations.specs.Unused.{PassIs, SidesTo};
 
@@ -14,14 +14,12 @@ ghost use Rattle.pivot_equations.specs.Unused.{PassIs, SidesTo};
 fn passes(
     s: Shape,
     j: usize,
-    firsts: &[u16; 512],
-    ends: &[u16; 512],
-    classes: &[usize; 8],
-    xs: &mut [usize; 64],
+    table: &[u16; 1544],
+    xs: &mut [u16; 64],
     plan: &[u16],
     symbols: &[u8],
 ) -> bool
-    requires { ⌜ Table s (now firsts) (now ends) (now classes) ⌝ }
+    requires { ⌜ Table s (now table) ⌝ }
     requires { ⌜ (length (now xs) ≡ 64) × (j < checks s .m) ⌝ }
     requires { ⌜ (length (now plan) ≡ 9216) × (length (now symbols) ≡ checks s .n * s .w) ⌝ }
     ensures { λ _. ⌜ length (now (xs .exit)) ≡ 64 ⌝ }
@@ -30,20 +28,13 @@ fn passes(
     if plan[USED + j] != 0 {
         return true;
     }
-    let n = positions::of_row(s.number, s.layout, firsts, ends, classes, j, xs);
+    let n = positions::of_row(s, table, j, xs);
     symbol_sums::cancels(s.w, xs, n, symbols)
 }
 
 // Each of them adds up to zero.
-pub fn hold(
-    s: Shape,
-    firsts: &[u16; 512],
-    ends: &[u16; 512],
-    classes: &[usize; 8],
-    plan: &[u16],
-    symbols: &[u8],
-) -> bool
-    requires { ⌜ Table s (now firsts) (now ends) (now classes) ⌝ }
+pub fn hold(s: Shape, table: &[u16; 1544], plan: &[u16], symbols: &[u8]) -> bool
+    requires { ⌜ Table s (now table) ⌝ }
     requires { ⌜ (length (now plan) ≡ 9216) × (length (now symbols) ≡ checks s .n * s .w) ⌝ }
     ensures { λ r. ⌜ HoldIs (checks s) (s .w) (now (plan .entry)) (now (symbols .entry)) r ⌝ }
 {
@@ -52,7 +43,7 @@ pub fn hold(
     let mut xs = peel::no_positions();
     let mut j = 0;
     while j < m {
-        if !passes(s, j, firsts, ends, classes, &mut xs, plan, symbols) {
+        if !passes(s, j, table, &mut xs, plan, symbols) {
             return false;
         }
         j += 1;
@@ -65,15 +56,13 @@ fn put_row(
     s: Shape,
     j: usize,
     i: usize,
-    firsts: &[u16; 512],
-    ends: &[u16; 512],
-    classes: &[usize; 8],
-    xs: &mut [usize; 64],
+    table: &[u16; 1544],
+    xs: &mut [u16; 64],
     plan: &[u16],
     symbols: &[u8],
     bytes: &mut [u8],
 ) -> usize
-    requires { ⌜ Table s (now firsts) (now ends) (now classes) ⌝ }
+    requires { ⌜ Table s (now table) ⌝ }
     requires { ⌜ (length (now xs) ≡ 64) × (j < checks s .m) ⌝ }
     requires { ⌜ (length (now plan) ≡ 9216) × (length (now symbols) ≡ checks s .n * s .w) ⌝ }
     requires { ⌜ SidesTo (checks s) (s .w) (now plan) (now symbols) (now bytes) j i ⌝ }
@@ -83,22 +72,14 @@ fn put_row(
     if plan[USED + j] != 0 {
         return i;
     }
-    let n = positions::of_row(s.number, s.layout, firsts, ends, classes, j, xs);
+    let n = positions::of_row(s, table, j, xs);
     symbol_sums::put_sum(s.w, i, 0, xs, n, symbols, bytes);
     i + 1
 }
 
 // Their sums, one after the other.
-pub fn sums(
-    s: Shape,
-    firsts: &[u16; 512],
-    ends: &[u16; 512],
-    classes: &[usize; 8],
-    plan: &[u16],
-    symbols: &[u8],
-    bytes: &mut [u8],
-)
-    requires { ⌜ Table s (now firsts) (now ends) (now classes) ⌝ }
+pub fn sums(s: Shape, table: &[u16; 1544], plan: &[u16], symbols: &[u8], bytes: &mut [u8])
+    requires { ⌜ Table s (now table) ⌝ }
     requires { ⌜ (length (now plan) ≡ 9216) × (length (now symbols) ≡ checks s .n * s .w) ⌝ }
     requires { ⌜ length (now bytes) ≡ checks s .m * s .w ⌝ }
     ensures { λ _. ⌜ Sides (checks s) (s .w) (now (plan .entry)) (now (symbols .entry)) (now (bytes .exit)) ⌝ }
@@ -109,18 +90,7 @@ pub fn sums(
     let mut i = 0;
     let mut j = 0;
     while j < m {
-        i = put_row(
-            s,
-            j,
-            i,
-            firsts,
-            ends,
-            classes,
-            &mut xs,
-            plan,
-            symbols,
-            bytes,
-        );
+        i = put_row(s, j, i, table, &mut xs, plan, symbols, bytes);
         j += 1;
     }
 }

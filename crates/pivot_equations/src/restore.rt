@@ -1,8 +1,9 @@
 // Restoring what depends on the pivots.
 use crate::express::Rows;
+use ccsds::tables;
 use encoder::positions;
+use encoder::positions::Shape;
 use peeling::peel;
-use peeling::peel::Shape;
 use peeling::plan::STEP_POSITIONS;
 use peeling::plan::STEP_ROWS;
 ghost use mathlib.Core.Path.{_≡_};
@@ -13,13 +14,13 @@ ghost use lib.ListN.{length};
 ghost use Rattle.algebra.specs.Sums.{sum};
 ghost use Rattle.algebra.specs.Codeword.{byteAt};
 ghost use Rattle.symbol_sums.specs.Gather.{Replaced};
-ghost use Rattle.peeling.specs.Table.{checks, Table};
+ghost use Rattle.encoder.specs.inner.Positions.{checks, Table};
 ghost use Rattle.peeling.specs.Values.{StepsHold, StepsRestored};
 ghost use Rattle.pivot_equations.specs.Express.{Planned};
 ghost use Rattle.pivot_equations.specs.Unused.{Others};
 
 // Moves those of the first n numbers that are not p to the front; returns how many.
-fn others(xs: &mut [usize; 64], n: usize, p: usize) -> usize
+fn others(xs: &mut [u16; 64], n: usize, p: usize) -> usize
     requires { ⌜ (n ≤ 64) × (length (now xs) ≡ 64) ⌝ }
     ensures { λ k. ⌜ Others (now (xs .entry)) n p (now (xs .exit)) k ⌝ }
 {
@@ -28,7 +29,7 @@ fn others(xs: &mut [usize; 64], n: usize, p: usize) -> usize
     while i < n {
         let x = xs[i];
         xs[k] = x;
-        k = if x == p { k } else { k + 1 };
+        k = if tables::wide(x) == p { k } else { k + 1 };
         i += 1;
     }
     k
@@ -39,34 +40,24 @@ fn restore_by(
     s: Shape,
     j: usize,
     p: usize,
-    firsts: &[u16; 512],
-    ends: &[u16; 512],
-    classes: &[usize; 8],
-    xs: &mut [usize; 64],
+    table: &[u16; 1544],
+    xs: &mut [u16; 64],
     symbols: &mut [u8],
 )
-    requires { ⌜ Table s (now firsts) (now ends) (now classes) ⌝ }
+    requires { ⌜ Table s (now table) ⌝ }
     requires { ⌜ (length (now xs) ≡ 64) × ((j < checks s .m) × (p < checks s .n)) ⌝ }
     requires { ⌜ length (now symbols) ≡ checks s .n * s .w ⌝ }
     ensures { λ _. ⌜ length (now (xs .exit)) ≡ 64 ⌝ }
     ensures { λ _. ⌜ Replaced (λ b. sum (checks s .has j) (λ x. cond (eqb x p) 0 (byteAt (s .w) (now (symbols .entry)) b x)) (checks s .n)) (s .w) p (now (symbols .entry)) (now (symbols .exit)) ⌝ }
 {
-    let n = positions::of_row(s.number, s.layout, firsts, ends, classes, j, xs);
+    let n = positions::of_row(s, table, j, xs);
     let k = others(xs, n, p);
     symbol_sums::restore(s.w, p, xs, k, symbols);
 }
 
 // Restores the positions of the steps from `early` on once more.
-pub fn restore_steps(
-    s: Shape,
-    r: Rows,
-    firsts: &[u16; 512],
-    ends: &[u16; 512],
-    classes: &[usize; 8],
-    plan: &[u16],
-    symbols: &mut [u8],
-)
-    requires { ⌜ Table s (now firsts) (now ends) (now classes) ⌝ }
+pub fn restore_steps(s: Shape, r: Rows, table: &[u16; 1544], plan: &[u16], symbols: &mut [u8])
+    requires { ⌜ Table s (now table) ⌝ }
     requires { ⌜ Planned (checks s) (now plan) r ⌝ }
     requires { ⌜ (length (now symbols) ≡ checks s .n * s .w) × StepsHold (checks s) (s .w) (now plan) (now symbols) (r .early) ⌝ }
     ensures { λ _. ⌜ StepsRestored (checks s) (s .w) (now (plan .entry)) (now (symbols .entry)) (now (symbols .exit)) (r .early) (r .steps) ⌝ }
@@ -78,9 +69,7 @@ pub fn restore_steps(
             s,
             plan[STEP_ROWS + t] as usize,
             plan[STEP_POSITIONS + t] as usize,
-            firsts,
-            ends,
-            classes,
+            table,
             &mut xs,
             symbols,
         );

@@ -52,8 +52,8 @@ module _ {w c : ℕ} {src xs s : List ℕ} where
   pub plus-none : length s ≡ 16 → PlusSymbols w c src xs 0 s s
   plus-none h = record { size = h; each = λ b g. gathered-none (byteAt w src (c + b)) xs (getD s b 0) }
 
-  pub plus-more : {i : ℕ} {t t′ : List ℕ} → PlusSymbols w c src xs i s t → Sum t 0 src (getD xs i 0 * w + c) 16 t′ → PlusSymbols w c src xs (i + 1) s t′
-  plus-more {i} h g = record { size = g .size; each = λ b k. sum-next w c src xs i (getD s b 0) g b k (h .each b k) }
+  pub plus-more : {i o : ℕ} {t t′ : List ℕ} → PlusSymbols w c src xs i s t → o ≡ getD xs i 0 * w + c → Sum t 0 src o 16 t′ → PlusSymbols w c src xs (i + 1) s t′
+  plus-more {i} {t = t} {t′} h e g = record { size = g .size; each = λ b k. sum-next w c src xs i (getD s b 0) (subst (λ (m : ℕ). Sum t 0 src m 16 t′) e g) b k (h .each b k) }
 
   pub plus-all : {i n : ℕ} {t : List ℕ} → PlusSymbols w c src xs i s t → i ≡ n → PlusSymbols w c src xs n s t
   plus-all {i} {n} {t} h e = subst (λ (k : ℕ). PlusSymbols w c src xs k s t) e h
@@ -93,17 +93,17 @@ module _ (f : ℕ → ℕ) (w : ℕ) (src xs : List ℕ) where
   chunk64-none h = record { first = chunk16-none (h .first); second = chunk16-none (h .second); third = chunk16-none (h .third); fourth = chunk16-none (h .fourth) }
 
   -- one position more; its four parts stand 16 apart
-  pub chunk64-more : (i : ℕ) {c : ℕ} {s r : Chunk64} → Chunk64Is (summed f w src xs i) c s → Sum64 s src (getD xs i 0 * w + c) r
+  pub chunk64-more : (i : ℕ) {o c : ℕ} {s r : Chunk64} → Chunk64Is (summed f w src xs i) c s → o ≡ getD xs i 0 * w + c → Sum64 s src o r
       → Chunk64Is (summed f w src xs (i + 1)) c r
-  chunk64-more i {c} {s} {r} h g = record {
-    first = chunk16-more i (h .first) (g .first);
+  chunk64-more i {o} {c} {s} {r} h e g = record {
+    first = chunk16-more i (h .first) (subst (λ (m : ℕ). Sum (s .a) 0 src m 16 (r .a)) e (g .first));
     second = chunk16-more i (h .second) (moved (s .b) (r .b) 16 (g .second));
     third = chunk16-more i (h .third) (moved (s .c) (r .c) 32 (g .third));
     fourth = chunk16-more i (h .fourth) (moved (s .d) (r .d) 48 (g .fourth));
   }
     where
-      moved : (l l′ : List ℕ) (k : ℕ) → Sum l 0 src (getD xs i 0 * w + c + k) 16 l′ → Sum l 0 src (getD xs i 0 * w + (c + k)) 16 l′
-      moved l l′ k g = subst (λ (m : ℕ). Sum l 0 src m 16 l′) (add-assoc (getD xs i 0 * w) c k) g
+      moved : (l l′ : List ℕ) (k : ℕ) → Sum l 0 src (o + k) 16 l′ → Sum l 0 src (getD xs i 0 * w + (c + k)) 16 l′
+      moved l l′ k g = subst (λ (m : ℕ). Sum l 0 src m 16 l′) (ap (λ (m : ℕ). m + k) e ∙ add-assoc (getD xs i 0 * w) c k) g
 
   pub chunk64-all : {i n c : ℕ} {s : Chunk64} → Chunk64Is (summed f w src xs i) c s → i ≡ n → Chunk64Is (summed f w src xs n) c s
   chunk64-all {c = c} {s} h e = subst (λ (k : ℕ). Chunk64Is (summed f w src xs k) c s) e h

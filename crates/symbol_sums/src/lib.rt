@@ -20,15 +20,16 @@ struct Chunk64 {
     d: [u8; 16],
 }
 
-// start plus bytes c to c + 15 of the n symbols xs of src.
-fn gather_16(
-    start: &[u8; 16],
-    w: usize,
-    c: usize,
-    xs: &[usize; 64],
-    n: usize,
-    src: &[u8],
-) -> [u8; 16]
+// Where byte c of symbol x stands.
+fn offset(x: u16, w: usize, c: usize) -> usize
+    requires { ⌜ x * w + c < 18446744073709551616 ⌝ }
+    ensures { λ r. ⌜ r ≡ x * w + c ⌝ }
+{
+    x as usize * w + c
+}
+
+// start plus bytes c to c + 15 of the n symbols xs of src. A position has 16 bits, so that those of a check row are made 8 at a time.
+fn gather_16(start: &[u8; 16], w: usize, c: usize, xs: &[u16; 64], n: usize, src: &[u8]) -> [u8; 16]
     requires { ⌜ (length (now start) ≡ 16) × (c + 16 ≤ w) ⌝ }
     requires { ⌜ Inside (now xs) n w (length (now src)) ⌝ }
     ensures { λ r. ⌜ PlusSymbols w c (now (src .entry)) (now (xs .entry)) n (now (start .entry)) r ⌝ }
@@ -36,7 +37,7 @@ fn gather_16(
     let mut t = *start;
     let mut i = 0;
     while i < n {
-        t = sum_16(&t, 0, src, xs[i] * w + c);
+        t = sum_16(&t, 0, src, offset(xs[i], w, c));
         i += 1;
     }
     t
@@ -60,7 +61,7 @@ fn sum_64(s: Chunk64, src: &[u8], from: usize) -> Chunk64
 }
 
 // The sum of bytes c to c + 63 of the n symbols xs of src. Each position is read once for all of them.
-fn gather_64(w: usize, c: usize, xs: &[usize; 64], n: usize, src: &[u8]) -> Chunk64
+fn gather_64(w: usize, c: usize, xs: &[u16; 64], n: usize, src: &[u8]) -> Chunk64
     requires { ⌜ c + 64 ≤ w ⌝ }
     requires { ⌜ Inside (now xs) n w (length (now src)) ⌝ }
     ensures { λ r. ⌜ Chunk64Is (summed (λ b. 0) w (now (src .entry)) (now (xs .entry)) n) c r ⌝ }
@@ -73,14 +74,14 @@ fn gather_64(w: usize, c: usize, xs: &[usize; 64], n: usize, src: &[u8]) -> Chun
     };
     let mut i = 0;
     while i < n {
-        s = sum_64(s, src, xs[i] * w + c);
+        s = sum_64(s, src, offset(xs[i], w, c));
         i += 1;
     }
     s
 }
 
 // start plus byte c of the n symbols xs of src.
-fn gather_byte(start: u8, w: usize, c: usize, xs: &[usize; 64], n: usize, src: &[u8]) -> u8
+fn gather_byte(start: u8, w: usize, c: usize, xs: &[u16; 64], n: usize, src: &[u8]) -> u8
     requires { ⌜ c < w ⌝ }
     requires { ⌜ Inside (now xs) n w (length (now src)) ⌝ }
     ensures { λ r. ⌜ r ≡ start ⊕ gathered (byteAt w (now (src .entry)) c) (now (xs .entry)) n ⌝ }
@@ -88,7 +89,7 @@ fn gather_byte(start: u8, w: usize, c: usize, xs: &[usize; 64], n: usize, src: &
     let mut t = start;
     let mut i = 0;
     while i < n {
-        t = t ^ src[xs[i] * w + c];
+        t = t ^ src[offset(xs[i], w, c)];
         i += 1;
     }
     t
@@ -139,7 +140,7 @@ fn running_sum_64(
     w: usize,
     prev: usize,
     c: usize,
-    xs: &[usize; 64],
+    xs: &[u16; 64],
     n: usize,
     src: &[u8],
     dst: &[u8],
@@ -151,7 +152,7 @@ fn running_sum_64(
     let mut s = before_64(dst, w, prev, c);
     let mut i = 0;
     while i < n {
-        s = sum_64(s, src, xs[i] * w + c);
+        s = sum_64(s, src, offset(xs[i], w, c));
         i += 1;
     }
     s
@@ -174,7 +175,7 @@ fn put_sum_64(
     j: usize,
     prev: usize,
     c: usize,
-    xs: &[usize; 64],
+    xs: &[u16; 64],
     n: usize,
     src: &[u8],
     dst: &mut [u8],
@@ -193,7 +194,7 @@ fn put_sum_16(
     j: usize,
     prev: usize,
     c: usize,
-    xs: &[usize; 64],
+    xs: &[u16; 64],
     n: usize,
     src: &[u8],
     dst: &mut [u8],
@@ -213,7 +214,7 @@ fn put_sum_byte(
     j: usize,
     prev: usize,
     c: usize,
-    xs: &[usize; 64],
+    xs: &[u16; 64],
     n: usize,
     src: &[u8],
     dst: &mut [u8],
@@ -231,7 +232,7 @@ fn put_sum_wide(
     w: usize,
     j: usize,
     prev: usize,
-    xs: &[usize; 64],
+    xs: &[u16; 64],
     n: usize,
     src: &[u8],
     dst: &mut [u8],
@@ -253,7 +254,7 @@ fn put_sum_chunks(
     w: usize,
     j: usize,
     prev: usize,
-    xs: &[usize; 64],
+    xs: &[u16; 64],
     n: usize,
     src: &[u8],
     dst: &mut [u8],
@@ -278,7 +279,7 @@ fn put_sum_bytes(
     w: usize,
     j: usize,
     prev: usize,
-    xs: &[usize; 64],
+    xs: &[u16; 64],
     n: usize,
     src: &[u8],
     dst: &mut [u8],
@@ -299,7 +300,7 @@ pub fn put_sum(
     w: usize,
     j: usize,
     prev: usize,
-    xs: &[usize; 64],
+    xs: &[u16; 64],
     n: usize,
     src: &[u8],
     dst: &mut [u8],
@@ -316,7 +317,7 @@ pub fn put_sum(
 }
 
 // Writes bytes c to c + 63 of restore's symbol p.
-fn restore_64(w: usize, p: usize, c: usize, xs: &[usize; 64], n: usize, buf: &mut [u8])
+fn restore_64(w: usize, p: usize, c: usize, xs: &[u16; 64], n: usize, buf: &mut [u8])
     requires { ⌜ (c + 64 ≤ w) × (p * w + w ≤ length (now buf)) ⌝ }
     requires { ⌜ Inside (now xs) n w (length (now buf)) ⌝ }
     ensures { λ _. ⌜ SumWritten w p 0 (now (buf .entry)) (now (xs .entry)) n c 64 (now (buf .entry)) (now (buf .exit)) ⌝ }
@@ -326,7 +327,7 @@ fn restore_64(w: usize, p: usize, c: usize, xs: &[usize; 64], n: usize, buf: &mu
 }
 
 // Writes bytes c to c + 15.
-fn restore_16(w: usize, p: usize, c: usize, xs: &[usize; 64], n: usize, buf: &mut [u8])
+fn restore_16(w: usize, p: usize, c: usize, xs: &[u16; 64], n: usize, buf: &mut [u8])
     requires { ⌜ (c + 16 ≤ w) × (p * w + w ≤ length (now buf)) ⌝ }
     requires { ⌜ Inside (now xs) n w (length (now buf)) ⌝ }
     ensures { λ _. ⌜ SumWritten w p 0 (now (buf .entry)) (now (xs .entry)) n c 16 (now (buf .entry)) (now (buf .exit)) ⌝ }
@@ -336,7 +337,7 @@ fn restore_16(w: usize, p: usize, c: usize, xs: &[usize; 64], n: usize, buf: &mu
 }
 
 // Writes byte c.
-fn restore_byte(w: usize, p: usize, c: usize, xs: &[usize; 64], n: usize, buf: &mut [u8])
+fn restore_byte(w: usize, p: usize, c: usize, xs: &[u16; 64], n: usize, buf: &mut [u8])
     requires { ⌜ (c < w) × (p * w + w ≤ length (now buf)) ⌝ }
     requires { ⌜ Inside (now xs) n w (length (now buf)) ⌝ }
     ensures { λ _. ⌜ SumWritten w p 0 (now (buf .entry)) (now (xs .entry)) n c 1 (now (buf .entry)) (now (buf .exit)) ⌝ }
@@ -345,7 +346,7 @@ fn restore_byte(w: usize, p: usize, c: usize, xs: &[usize; 64], n: usize, buf: &
 }
 
 // Writes as many bytes as 64 at a time give; answers how many.
-fn restore_wide(w: usize, p: usize, xs: &[usize; 64], n: usize, buf: &mut [u8]) -> usize
+fn restore_wide(w: usize, p: usize, xs: &[u16; 64], n: usize, buf: &mut [u8]) -> usize
     requires { ⌜ p * w + w ≤ length (now buf) ⌝ }
     requires { ⌜ Inside (now xs) n w (length (now buf)) ⌝ }
     requires { ⌜ ((i : ℕ) → i < n → getD (now xs) i 0 ≢ p) ⌝ }
@@ -360,7 +361,7 @@ fn restore_wide(w: usize, p: usize, xs: &[usize; 64], n: usize, buf: &mut [u8]) 
 }
 
 // restore for symbols of at least 16 bytes. Where the width is no multiple of 16, some bytes are written twice.
-fn restore_chunks(w: usize, p: usize, xs: &[usize; 64], n: usize, buf: &mut [u8])
+fn restore_chunks(w: usize, p: usize, xs: &[u16; 64], n: usize, buf: &mut [u8])
     requires { ⌜ (16 ≤ w) × (p * w + w ≤ length (now buf)) ⌝ }
     requires { ⌜ Inside (now xs) n w (length (now buf)) ⌝ }
     requires { ⌜ ((i : ℕ) → i < n → getD (now xs) i 0 ≢ p) ⌝ }
@@ -378,7 +379,7 @@ fn restore_chunks(w: usize, p: usize, xs: &[usize; 64], n: usize, buf: &mut [u8]
 }
 
 // restore byte by byte.
-fn restore_bytes(w: usize, p: usize, xs: &[usize; 64], n: usize, buf: &mut [u8])
+fn restore_bytes(w: usize, p: usize, xs: &[u16; 64], n: usize, buf: &mut [u8])
     requires { ⌜ p * w + w ≤ length (now buf) ⌝ }
     requires { ⌜ Inside (now xs) n w (length (now buf)) ⌝ }
     requires { ⌜ ((i : ℕ) → i < n → getD (now xs) i 0 ≢ p) ⌝ }
@@ -392,7 +393,7 @@ fn restore_bytes(w: usize, p: usize, xs: &[usize; 64], n: usize, buf: &mut [u8])
 }
 
 // Symbol p of a buffer becomes the sum of the n symbols xs of it, of which it is none.
-pub fn restore(w: usize, p: usize, xs: &[usize; 64], n: usize, buf: &mut [u8])
+pub fn restore(w: usize, p: usize, xs: &[u16; 64], n: usize, buf: &mut [u8])
     requires { ⌜ p * w + w ≤ length (now buf) ⌝ }
     requires { ⌜ Inside (now xs) n w (length (now buf)) ⌝ }
     requires { ⌜ ((i : ℕ) → i < n → getD (now xs) i 0 ≢ p) ⌝ }
@@ -420,7 +421,7 @@ fn or_16<'a>(t: &'a [u8; 16], u: &'a [u8; 16]) -> [u8; 16]
 }
 
 // Bytes c to c + 63 of the n symbols xs of src add up to zero.
-fn cancels_64(w: usize, c: usize, xs: &[usize; 64], n: usize, src: &[u8]) -> bool
+fn cancels_64(w: usize, c: usize, xs: &[u16; 64], n: usize, src: &[u8]) -> bool
     requires { ⌜ c + 64 ≤ w ⌝ }
     requires { ⌜ Inside (now xs) n w (length (now src)) ⌝ }
     ensures { λ r. ⌜ ZeroIs (summed (λ b. 0) w (now (src .entry)) (now (xs .entry)) n) c (c + 64) r ⌝ }
@@ -432,7 +433,7 @@ fn cancels_64(w: usize, c: usize, xs: &[usize; 64], n: usize, src: &[u8]) -> boo
 }
 
 // Bytes c to c + 15.
-fn cancels_16(w: usize, c: usize, xs: &[usize; 64], n: usize, src: &[u8]) -> bool
+fn cancels_16(w: usize, c: usize, xs: &[u16; 64], n: usize, src: &[u8]) -> bool
     requires { ⌜ c + 16 ≤ w ⌝ }
     requires { ⌜ Inside (now xs) n w (length (now src)) ⌝ }
     ensures { λ r. ⌜ ZeroIs (summed (λ b. 0) w (now (src .entry)) (now (xs .entry)) n) c (c + 16) r ⌝ }
@@ -441,7 +442,7 @@ fn cancels_16(w: usize, c: usize, xs: &[usize; 64], n: usize, src: &[u8]) -> boo
 }
 
 // The whole chunks of 64 bytes, as many as there are, add up to zero.
-fn cancels_wide(w: usize, xs: &[usize; 64], n: usize, src: &[u8]) -> bool
+fn cancels_wide(w: usize, xs: &[u16; 64], n: usize, src: &[u8]) -> bool
     requires { ⌜ Inside (now xs) n w (length (now src)) ⌝ }
     ensures { λ r. ⌜ ZeroIs (summed (λ b. 0) w (now (src .entry)) (now (xs .entry)) n) 0 (w - w % 64) r ⌝ }
 {
@@ -456,7 +457,7 @@ fn cancels_wide(w: usize, xs: &[usize; 64], n: usize, src: &[u8]) -> bool
 }
 
 // cancels for symbols of at least 16 bytes. Where the width is no multiple of 16, some bytes are added twice.
-fn cancels_chunks(w: usize, xs: &[usize; 64], n: usize, src: &[u8]) -> bool
+fn cancels_chunks(w: usize, xs: &[u16; 64], n: usize, src: &[u8]) -> bool
     requires { ⌜ 16 ≤ w ⌝ }
     requires { ⌜ Inside (now xs) n w (length (now src)) ⌝ }
     ensures { λ r. ⌜ ZeroIs (summed (λ b. 0) w (now (src .entry)) (now (xs .entry)) n) 0 w r ⌝ }
@@ -478,7 +479,7 @@ fn cancels_chunks(w: usize, xs: &[usize; 64], n: usize, src: &[u8]) -> bool
 }
 
 // cancels byte by byte.
-fn cancels_bytes(w: usize, xs: &[usize; 64], n: usize, src: &[u8]) -> bool
+fn cancels_bytes(w: usize, xs: &[u16; 64], n: usize, src: &[u8]) -> bool
     requires { ⌜ Inside (now xs) n w (length (now src)) ⌝ }
     ensures { λ r. ⌜ ZeroIs (summed (λ b. 0) w (now (src .entry)) (now (xs .entry)) n) 0 w r ⌝ }
 {
@@ -493,7 +494,7 @@ fn cancels_bytes(w: usize, xs: &[usize; 64], n: usize, src: &[u8]) -> bool
 }
 
 // The n symbols xs of src add up to zero.
-pub fn cancels(w: usize, xs: &[usize; 64], n: usize, src: &[u8]) -> bool
+pub fn cancels(w: usize, xs: &[u16; 64], n: usize, src: &[u8]) -> bool
     requires { ⌜ Inside (now xs) n w (length (now src)) ⌝ }
     ensures { λ r. ⌜ CancelIs w (now (src .entry)) (now (xs .entry)) n r ⌝ }
 {

@@ -1,4 +1,4 @@
--- The positions of a check row, computed from the table's addresses, and the arrays that hold them.
+-- The positions of a check row, computed from the table's addresses, and the array that holds them. Internal: no public contract cites it.
 -- Assumes nothing.
 use mathlib.Core.Path.{_≡_}
 use mathlib.Core.Bool.{Bool, true, false, cond}
@@ -9,7 +9,10 @@ use lib.ListN.{length, getD, set}
 use Rattle.algebra.specs.Sums.{sum}
 use Rattle.algebra.specs.Codeword.{Checks}
 use Rattle.symbol_sums.specs.Gather.{gathered}
-use Rattle.ccsds.specs.Codes.{Params}
+use Rattle.ccsds.specs.Codes.{Params, checksOf}
+use Rattle.ccsds.specs.Tables.{codeOf, Known}
+use Rattle.ccsds.specs.inner.Layout.{LayoutOf}
+use Rattle.encoder.specs.declared.positions.Shape.{Shape}
 
 -- the first n of 64 elements of xs are the positions of check row j
 pub record RowOf (c : Checks) (j n : ℕ) (xs : List ℕ) : Type 0 where
@@ -52,63 +55,78 @@ positionAt q s e = e .0 * q + (q - e .1 + s) % q
 unfoldable pub positions : Params → ℕ → List ℕ
 positions c j = map (positionAt (c .q) (j / c .a)) (classOf c (j % c .a))
 
--- ---- the arrays
+-- ---- the laid table: one array of 1,544 numbers
 
--- the arrays of the classes: where the positions of each entry start, where they end, and how many entries each class has
-pub record ClassArrays : Type 0 where
-  pub firsts : List ℕ
-  pub ends : List ℕ
-  pub counts : List ℕ
+-- where the positions of entry i of class r start, and where they end
+abbrev pub firstAt : ℕ → ℕ → ℕ
+firstAt r i = r * 64 + i
 
-abbrev pub classArrays : List ℕ → List ℕ → List ℕ → ClassArrays
-classArrays firsts ends counts = record { firsts = firsts; ends = ends; counts = counts }
+abbrev pub endAt : ℕ → ℕ → ℕ
+endAt r i = 512 + r * 64 + i
 
--- address y of a table row is entered into its class, where there is room
-unfoldable pub entered : ℕ → ℕ → ℕ → ℕ → ClassArrays → ClassArrays
-entered q a row y s =
-    cond (ltb (getD (s .counts) (y % a) 0) 64)
-    (classArrays (set (s .firsts) (y % a * 64 + getD (s .counts) (y % a) 0) (row * q + q - y / a)) (set (s .ends) (y % a * 64 + getD (s .counts) (y % a) 0) (row * q + q))
-    (set (s .counts) (y % a) (getD (s .counts) (y % a) 0 + 1)))
-    s
+-- how many entries class r has
+abbrev pub countAt : ℕ → ℕ
+countAt r = 1024 + r
+
+-- address i of a table row
+abbrev pub addressAt : ℕ → ℕ → ℕ
+addressAt row i = 1032 + row * 8 + i
+
+-- entry n of class r gets its start and its end, and the class one entry more
+abbrev pub entryPut : ℕ → ℕ → ℕ → ℕ → List ℕ → List ℕ
+entryPut r n first end t = set (set (set t (firstAt r n) first) (endAt r n) end) (countAt r) (n + 1)
+
+-- so for a quotient, where the class has room
+abbrev pub entryAdded : ℕ → ℕ → ℕ → ℕ → List ℕ → List ℕ
+entryAdded q row r y t = cond (ltb (getD t (countAt r) 0) 64) (entryPut r (getD t (countAt r) 0) (row * q + q - y) (row * q + q) t) t
+
+-- address y, at place i of a table row, is entered into its class
+unfoldable pub entered : ℕ → ℕ → ℕ → ℕ → ℕ → List ℕ → List ℕ
+entered q a row i y t = entryAdded q row (y % a) (y / a) (set t (addressAt row i) y)
 
 -- the first n addresses of a table row
-unfoldable pub rowEntered : Params → ℕ → ℕ → ClassArrays → ClassArrays
-rowEntered c row zero s = s
-rowEntered c row (suc n) s = entered (c .q) (c .a) row (getD (getD (c .rows) row []) n 0) (rowEntered c row n s)
+unfoldable pub rowEntered : Params → ℕ → ℕ → List ℕ → List ℕ
+rowEntered c row zero t = t
+rowEntered c row (suc n) t = entered (c .q) (c .a) row n (getD (getD (c .rows) row []) n 0) (rowEntered c row n t)
 
 -- the first n table rows
-unfoldable pub tableEntered : Params → ℕ → ClassArrays → ClassArrays
-tableEntered c zero s = s
-tableEntered c (suc n) s = rowEntered c n (length (getD (c .rows) n [])) (tableEntered c n s)
-
--- the three arrays are those of s
-pub record ArraysAre (s : ClassArrays) (f e n : List ℕ) : Type 0 where
-  pub firsts : f ≡ s .firsts
-  pub ends : e ≡ s .ends
-  pub counts : n ≡ s .counts
+unfoldable pub tableEntered : Params → ℕ → List ℕ → List ℕ
+tableEntered c zero t = t
+tableEntered c (suc n) t = rowEntered c n (length (getD (c .rows) n [])) (tableEntered c n t)
 
 -- where an entry's positions start and end
 pub record EntryBounds (q : ℕ) (e : Entry) (first end : ℕ) : Type 0 where
   pub last : end ≡ e .0 * q + q
   pub start : first + e .1 ≡ end
 
+-- an entry's positions start and end within a table row of q positions, and i is a step in it
+pub record WithinRow (first end q i : ℕ) : Type 0 where
+  pub start : (first ≤ end) × (end ≤ first + q)
+  pub row : (q ≤ end) × (end ≤ 4096)
+  pub step : i < q
+
 -- there are at most 8 classes, of at most 62 entries each
 pub record ClassSizes (c : Params) : Type 0 where
   pub classes : c .a ≤ 8
   pub entries : (r : ℕ) → r < c .a → length (classOf c r) ≤ 62
 
--- the classes of c stand in the arrays, 64 places each
-pub record ClassEntries (c : Params) (firsts ends : List ℕ) : Type 0 where
+-- the classes of c stand in the table
+pub record Classes (c : Params) (t : List ℕ) : Type 0 where
   pub few : ClassSizes c
-  pub firsts-size : length firsts ≡ 512
-  pub ends-size : length ends ≡ 512
+  pub size : length t ≡ 1544
+  pub counts : (r : ℕ) → r < c .a → getD t (countAt r) 0 ≡ length (classOf c r)
   pub each : (r : ℕ) → r < c .a → (i : ℕ) → i < length (classOf c r)
-      → EntryBounds (c .q) (getD (classOf c r) i (0, 0)) (getD firsts (r * 64 + i) 0) (getD ends (r * 64 + i) 0)
+      → EntryBounds (c .q) (getD (classOf c r) i (0, 0)) (getD t (firstAt r i) 0) (getD t (endAt r i) 0)
 
--- how many entries each class has
-pub record ClassCounts (c : Params) (counts : List ℕ) : Type 0 where
-  pub size : length counts ≡ 8
-  pub each : (r : ℕ) → r < c .a → getD counts r 0 ≡ length (classOf c r)
+-- the check rows of a shape's code
+abbrev pub checks : Shape → Checks
+checks s = checksOf (codeOf (s .number))
+
+-- a block's shape is that of a code, whose classes stand in the table
+pub record Table (s : Shape) (t : List ℕ) : Type 0 where
+  pub known : Known (s .number)
+  pub given : LayoutOf (codeOf (s .number)) (s .layout)
+  pub laid : Classes (codeOf (s .number)) t
 
 -- the n information positions of check row j, at the front of an array
 pub record Information (c : Params) (j n : ℕ) (xs : List ℕ) : Type 0 where

@@ -20,29 +20,26 @@ loop-holds c = (omega arith, plus-none (c .before .before .pre .0 .0))
 slice-aggregate-sum-16 : tie.Need-slice-aggregate-sum-16 Inv-loop μ-loop
 slice-aggregate-sum-16 c = omega (arith, c .before .before .loop .inv .1 .size)
 
-mul-sum-16 : tie.Need-mul-sum-16 Inv-loop μ-loop
-mul-sum-16 c = omega (arith, c .before .before .before .before .before .pre .1 .size, c .before .before .before .before .before .pre .1 .few)
+mul-offset : tie.Need-mul-offset Inv-loop μ-loop
+mul-offset c = omega (arith, c .before .before .before .before .before .pre .1 .size, c .before .before .before .before .before .pre .1 .few)
 
-element-copy-out-sum-16 : tie.Need-element-copy-out-sum-16 Inv-loop μ-loop
-element-copy-out-sum-16 c = omega (arith, c .before .before .before .before .before .pre .1 .size, c .before .before .before .before .before .pre .1 .few)
+element-copy-out-offset : tie.Need-element-copy-out-offset Inv-loop μ-loop
+element-copy-out-offset c = omega (arith, c .before .before .before .before .before .pre .1 .size, c .before .before .before .before .before .pre .1 .few)
 
-mul-sum-16-2 : tie.Need-mul-sum-16-2 Inv-loop μ-loop
-mul-sum-16-2 c = omega (arith, c .before .before .before .before .before .before .pre .1 .each (c .before .before .before .loop .i) (omega arith))
-
-add-sum-16 : tie.Need-add-sum-16 Inv-loop μ-loop
-add-sum-16 c = omega (arith, c .before .before .before .before .before .before .pre .1 .each (c .before .before .before .loop .i) (omega arith))
+offset-requires : tie.Need-offset-requires Inv-loop μ-loop
+offset-requires c κs = omega (arith, c .before .before .before .before .before .before .pre .1 .each (c .before .before .before .loop .i) (omega arith))
 
 sum-16-requires : tie.Need-sum-16-requires Inv-loop μ-loop
-sum-16-requires c κs = (omega (arith, c .before .before .before .loop .inv .1 .size), omega (arith, c .before .before .before .before .before .before .pre .1 .each (c .before .before .before .loop .i) (omega arith)))
+sum-16-requires c κs = (omega (arith, c .before .before .before .before .loop .inv .1 .size), omega (arith, c .offset .ensures, c .before .before .before .before .before .before .before .pre .1 .each (c .before .before .before .before .loop .i) (omega arith)))
 
 add-i : tie.Need-add-i Inv-loop μ-loop
-add-i c = omega (arith, c .before .before .before .before .before .before .before .pre .1 .few)
+add-i c = omega (arith, c .before .before .before .before .before .before .before .before .pre .1 .few)
 
 loop-less : tie.Need-loop-less Inv-loop μ-loop
 loop-less c = omega arith
 
 loop-again : tie.Need-loop-again Inv-loop μ-loop
-loop-again c = (omega arith, plus-more (c .before .before .before .before .loop .inv .1) (c .sum-16 .ensures))
+loop-again c = (omega arith, plus-more (c .before .before .before .before .before .loop .inv .1) (c .before .offset .ensures) (c .sum-16 .ensures))
 
 returns : tie.Need-returns Inv-loop μ-loop
 returns c =
@@ -57,10 +54,9 @@ gather-16-spec =
     μ-loop
     loop-holds
     slice-aggregate-sum-16
-    mul-sum-16
-    element-copy-out-sum-16
-    mul-sum-16-2
-    add-sum-16
+    mul-offset
+    element-copy-out-offset
+    offset-requires
     sum-16-requires
     add-i
     loop-less

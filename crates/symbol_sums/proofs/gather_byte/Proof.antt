@@ -1,8 +1,10 @@
 -- `symbol_sums::gather_byte` meets its contract: after i turns, i positions are added.
 -- Assumes nothing.
-use mathlib.Core.Path.{_≡_}
-use Prim.Native.Nat.{_≤_, _-_}
+use mathlib.Core.Path.{_≡_, ap, _∙_}
+use Prim.Native.Nat.{ℕ, _≤_, _-_}
 use native.Mathlib.Omega.{arith}
+use lib.Bits.{bitXor}
+use lib.ListN.{getD}
 use Rattle.algebra.specs.Sums.{_⊕_}
 use Rattle.algebra.specs.Codeword.{byteAt}
 use Rattle.symbol_sums.specs.Gather.{gathered}
@@ -18,39 +20,36 @@ abbrev μ-loop : tie.MeasureT-loop
 
 loop-holds : tie.Need-loop-holds Inv-loop μ-loop
 loop-holds c =
-    let a = c .args in
+    let a = c .before .args in
     (omega arith, gathered-none (byteAt (a .w) (a .src .now) (a .c)) (a .xs .now) (a .start))
 
-mul-t : tie.Need-mul-t Inv-loop μ-loop
-mul-t c = omega (arith, c .before .before .pre .1 .size, c .before .before .pre .1 .few)
+mul-offset : tie.Need-mul-offset Inv-loop μ-loop
+mul-offset c = omega (arith, c .before .before .before .pre .1 .size, c .before .before .before .pre .1 .few)
 
-element-copy-out-t : tie.Need-element-copy-out-t Inv-loop μ-loop
-element-copy-out-t c = omega (arith, c .before .before .pre .1 .size, c .before .before .pre .1 .few)
+element-copy-out-offset : tie.Need-element-copy-out-offset Inv-loop μ-loop
+element-copy-out-offset c = omega (arith, c .before .before .before .pre .1 .size, c .before .before .before .pre .1 .few)
 
-mul-t-2 : tie.Need-mul-t-2 Inv-loop μ-loop
-mul-t-2 c = omega (arith, c .before .before .before .pre .1 .each (c .before .before .loop .i) (omega arith))
-
-add-t : tie.Need-add-t Inv-loop μ-loop
-add-t c = omega (arith, c .before .before .before .pre .1 .each (c .before .before .loop .i) (omega arith))
+offset-requires : tie.Need-offset-requires Inv-loop μ-loop
+offset-requires c κs = omega (arith, c .before .before .before .before .pre .1 .each (c .before .before .loop .i) (omega arith))
 
 shared-slice-read-t : tie.Need-shared-slice-read-t Inv-loop μ-loop
-shared-slice-read-t c = omega (arith, c .before .before .before .before .pre .1 .each (c .before .before .before .loop .i) (omega arith))
+shared-slice-read-t c = omega (arith, c .before .offset .ensures, c .before .before .before .before .before .before .pre .1 .each (c .before .before .before .before .loop .i) (omega arith))
 
 add-i : tie.Need-add-i Inv-loop μ-loop
-add-i c = omega (arith, c .before .before .before .before .pre .1 .few)
+add-i c = omega (arith, c .before .before .before .before .before .before .pre .1 .few)
 
 loop-less : tie.Need-loop-less Inv-loop μ-loop
 loop-less c = omega arith
 
 loop-again : tie.Need-loop-again Inv-loop μ-loop
 loop-again c =
-    let a = c .before .before .before .before .args in
-    let l = c .before .before .before .loop in
-    (omega arith, gathered-more (byteAt (a .w) (a .src .now) (a .c)) (a .xs .now) (l .i) (a .start) (l .t) (l .inv .1))
+    let a = c .before .before .before .before .before .before .args in
+    let l = c .before .before .before .before .loop in
+    (omega arith, ap (λ (m : ℕ). bitXor (l .t) (getD (a .src .now) m 0)) (c .before .offset .ensures) ∙ gathered-more (byteAt (a .w) (a .src .now) (a .c)) (a .xs .now) (l .i) (a .start) (l .t) (l .inv .1))
 
 returns : tie.Need-returns Inv-loop μ-loop
 returns c =
-    let a = c .before .before .args in
+    let a = c .before .before .before .args in
     let l = c .before .loop in
     let e : l .i ≡ a .n = omega arith in
     gathered-all (byteAt (a .w) (a .src .now) (a .c)) (a .xs .now) (l .i) (a .n) (a .start) (l .t) (l .inv .1) e
@@ -62,10 +61,9 @@ gather-byte-spec =
     Inv-loop
     μ-loop
     loop-holds
-    mul-t
-    element-copy-out-t
-    mul-t-2
-    add-t
+    mul-offset
+    element-copy-out-offset
+    offset-requires
     shared-slice-read-t
     add-i
     loop-less

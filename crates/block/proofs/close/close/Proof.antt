@@ -63,7 +63,8 @@ clear-requires c κs = search needs
 make-report-requires : tie.Need-make-report-requires
 make-report-requires c κs =
     let a = c .before .before .before .before .before .before .before .before .before .before .before .before .before .before .before .before .before .before .before .before .before .before .before .before .before .before .before .before .before .before .before .before .before .before .before .args in
-    marks-small (a .b) (a .symbols .now) (a .marks .now) _ (c .before .before .before .before .before .before .before .before .before .before .before .before .before .before .before .before .before .before .decode .ensures .1 .0)
+    let n = c .before .before .before .before .before .before .before .before .before .before .before .before .before .before .before .before .before .before .before .before .before .before .before .before in
+    (omega (arith, room n, n .blank .ensures, c .before .before .before .before .before .before .before .before .before .before .before .before .before .before .before .before .before .before .decode .kept .1 .1 .0), marks-small (a .b) (a .symbols .now) (a .marks .now) _ (c .before .before .before .before .before .before .before .before .before .before .before .before .before .before .before .before .before .before .decode .ensures .1 .0))
 
 same-length-5 : tie.Need-same-length-5
 same-length-5 c = search needs

@@ -16,7 +16,7 @@ use Rattle.block.proofs.close.make_report.Tie as tie
 all : (c : tie.After-count-marks) → c .count-marks .result .heard + c .count-marks .result .filled + count 0 (c .before .before .args .marks .now) ≡ length (c .before .before .args .marks .now)
 all c =
     let e = c .count-marks .ensures in
-    omega (arith, count-all (c .before .before .args .marks .now) (c .before .before .pre), e .0, e .1)
+    omega (arith, count-all (c .before .before .args .marks .now) (c .before .before .pre .1), e .0, e .1)
 
 count-marks-requires : tie.Need-count-marks-requires
 count-marks-requires c κs = search needs

@@ -1,24 +1,23 @@
 -- `decoder::missing::clear_missing` meets its contract.
 -- Assumes nothing.
-use mathlib.Core.Path.{_≡_, refl, _∙_, subst}
-use Prim.Native.Nat.{_-_, _≤_, _<_}
+use mathlib.Core.Path.{_≡_, _∙_, subst}
+use Prim.Native.Nat.{_-_, _<_}
 use native.Mathlib.Omega.{arith}
 use lib.ListN.{length}
 use Rattle.algebra.proofs.Codeword.{slot}
 use Rattle.decoder.specs.MissingPositions.{Cleared}
-use Rattle.decoder.proofs.Clearing.{cleared-none, cleared-more}
+use Rattle.decoder.proofs.Clearing.{Upto, upto-none, upto-more, cleared-none, cleared-more}
 use Rattle.decoder.proofs.missing.clear_missing.Statement.{statement}
 use Rattle.decoder.proofs.missing.clear_missing.Tie as tie
 
 abbrev Inv-loop : tie.InvT-loop
-Inv-loop w symbols₀ states₀ i₀ symbols states i =
-    (i ≤ length states₀) × (length symbols ≡ length symbols₀) × (length states ≡ length states₀) × Cleared w symbols₀ states₀ symbols states i
+Inv-loop w symbols₀ states₀ i₀ symbols states i = Upto symbols₀ states₀ symbols states i × Cleared w symbols₀ states₀ symbols states i
 
 abbrev μ-loop : tie.MeasureT-loop
 μ-loop w symbols₀ states₀ i₀ symbols states i = length states₀ - i
 
 loop-holds : tie.Need-loop-holds Inv-loop μ-loop
-loop-holds c = (omega arith, refl, refl, cleared-none _ _ _)
+loop-holds c = (upto-none, cleared-none _ _ _)
 
 clear-at-requires : tie.Need-clear-at-requires Inv-loop μ-loop
 clear-at-requires c κs =
@@ -39,24 +38,23 @@ loop-again c =
     let s = c .before .before .before .before .before .before .before .before .before .before .before in
     let a = s .args in
     let k = c .before .before .before .before .clear-at in
-    let h : l .i < length (a .states .now) = omega arith in (
-      omega arith,
-      k .kept .1 .0 ∙ l .inv .1,
-      k .kept .1 .1 .0 ∙ l .inv .2,
-      cleared-more (length (a .states .now)) (a .w) (a .symbols .now) (a .states .now) (l .symbols) (l .states) (l .i) h (l .inv .1 ∙ s .pre) (l .inv .2) (l .inv .3) _ _ (k .ensures .0) (k .ensures .1),
+    let h : l .i < length (a .states .now) = omega arith in
+    let u = l .inv .0 in (
+      upto-more u h (k .kept .1 .0) (k .kept .1 .1 .0),
+      cleared-more (length (a .states .now)) (a .w) (a .symbols .now) (a .states .now) (l .symbols) (l .states) (l .i) h (u .symbols-size ∙ s .pre) (u .states-size) (l .inv .1) _ _ (k .ensures .0) (k .ensures .1),
     )
 
 same-length : tie.Need-same-length Inv-loop μ-loop
-same-length c = c .before .loop .inv .1
+same-length c = c .before .loop .inv .0 .symbols-size
 
 same-length-2 : tie.Need-same-length-2 Inv-loop μ-loop
-same-length-2 c = c .before .loop .inv .2
+same-length-2 c = c .before .loop .inv .0 .states-size
 
 returns : tie.Need-returns Inv-loop μ-loop
 returns c =
     let l = c .before .loop in
     let h : l .i ≡ length (c .before .before .before .before .args .states .now) = omega arith in
-    subst (Cleared _ _ _ _ _) h (l .inv .3)
+    subst (Cleared _ _ _ _ _) h (l .inv .1)
 
 pub clear-missing-spec : {M : Type 1} → statement M
 clear-missing-spec = tie.close (tie.spec Inv-loop μ-loop loop-holds clear-at-requires add-i loop-less loop-again same-length same-length-2 returns)

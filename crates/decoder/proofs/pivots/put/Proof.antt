@@ -2,7 +2,7 @@
 -- Assumes nothing.
 use Prim.Native.Nat.{_-_, _≤_}
 use native.Mathlib.Omega.{arith}
-use Rattle.peeling.specs.Table.{checks}
+use Rattle.encoder.specs.inner.Positions.{checks}
 use Rattle.decoder.specs.Pivots.{Put}
 use Rattle.decoder.proofs.PivotSymbols.{put-none, put-all, put-room, put-more}
 use Rattle.decoder.proofs.pivots.put.Statement.{statement}

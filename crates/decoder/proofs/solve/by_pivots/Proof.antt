@@ -4,7 +4,7 @@ use mathlib.Core.Path.{_≡_, refl, sym, ap, _∙_, subst}
 use Prim.Native.Nat.{ℕ, _+_, _-_, _*_, _/_}
 use native.Mathlib.Omega.{arith}
 use Rattle.elimination.specs.Consistency.{ConsistentIs}
-use Rattle.peeling.specs.Table.{checks}
+use Rattle.encoder.specs.inner.Positions.{checks}
 use Rattle.peeling.proofs.CodeSizes.{layout-rows}
 use Rattle.peeling.proofs.StepLaws.{few-steps}
 use Rattle.pivot_equations.specs.Express.{Room}
@@ -28,10 +28,10 @@ all : (s : tie.Start) → rows s .steps + rows s .rest ≡ checks (s .args .s) .
 all s = omega (arith, few-steps (s .pre .1 .0 .made) .0, layout-rows (s .pre .0))
 
 solvable : (c : tie.After-slice-known7) → let s = c .before .before .before .before .before .before .before .before .before .before .before .before .before .before .before .before .before .before in
-    Solvable (checks (s .args .s)) (s .args .s .w) (s .args .states .now) (s .args .plan .now) (s .args .symbols .now) (rows s) (c .before .before .before .before .reduce .last .1 .1 .1 .1 .1 .1 .1 .0) (c .before .before .before .before .reduce .last .1 .1 .1 .1 .1 .1 .1 .1 .0)
+    Solvable (checks (s .args .s)) (s .args .s .w) (s .args .states .now) (s .args .plan .now) (s .args .symbols .now) (rows s) (c .before .before .before .before .reduce .last .1 .1 .1 .1 .1 .0) (c .before .before .before .before .reduce .last .1 .1 .1 .1 .1 .1 .0)
 solvable c =
     let s = c .before .before .before .before .before .before .before .before .before .before .before .before .before .before .before .before .before .before in
-    let k = c .before .before .before .before .reduce .kept .1 .1 .1 .1 .1 .1 .1 in
+    let k = c .before .before .before .before .reduce .kept .1 .1 .1 .1 .1 in
     record {
       peeled = s .pre .1 .0;
       equations = c .before .before .before .before .reduce .ensures;
@@ -40,11 +40,11 @@ solvable c =
       some = s .pre .1 .1 .1 .0;
     }
 
-sub-t13 : tie.Need-sub-t13
-sub-t13 c = omega (arith, few-steps (c .before .before .before .before .before .before .before .before .pre .1 .0 .made) .0, layout-rows (c .before .before .before .before .before .before .before .before .pre .0))
+sub-rest : tie.Need-sub-rest
+sub-rest c = omega (arith, few-steps (c .before .before .before .before .before .before .before .before .pre .1 .0 .made) .0, layout-rows (c .before .before .before .before .before .before .before .before .pre .0))
 
-add-t14 : tie.Need-add-t14
-add-t14 c = omega (arith, c .before .before .before .before .before .before .before .before .before .pre .1 .0 .made .pivots-few, c .before .before .before .before .before .before .before .before .before .pre .1 .0 .made .positions)
+add-packed : tie.Need-add-packed
+add-packed c = omega (arith, c .before .before .before .before .before .before .before .before .before .pre .1 .0 .made .pivots-few, c .before .before .before .before .before .before .before .before .before .pre .1 .0 .made .positions)
 
 reduce-requires : tie.Need-reduce-requires
 reduce-requires c κs =
@@ -60,7 +60,7 @@ consistent-behind-requires c κs =
 fill-requires : tie.Need-fill-requires
 fill-requires c κs =
     let G = solvable (c .before .before .before .before .before .before .before .before .before) in
-    (c .before .before .before .before .before .before .before .before .before .before .before .before .before .before .before .before .before .before .before .before .before .before .before .before .before .before .before .pre .0, (G, (subst (ConsistentIs (behind (rows (c .before .before .before .before .before .before .before .before .before .before .before .before .before .before .before .before .before .before .before .before .before .before .before .before .before .before .before) .packed) (rows (c .before .before .before .before .before .before .before .before .before .before .before .before .before .before .before .before .before .before .before .before .before .before .before .before .before .before .before) .steps) (c .before .before .before .before .before .before .before .before .before .before .before .before .before .reduce .last .1 .1 .1 .1 .1 .1 .1 .0)) (c .before .before .before .before .before .before .before .before .before .before .before .before .before .reduce .last .1 .1 .1 .1 .1 .1 .1 .1 .0) (rows (c .before .before .before .before .before .before .before .before .before .before .before .before .before .before .before .before .before .before .before .before .before .before .before .before .before .before .before) .rest) (rows (c .before .before .before .before .before .before .before .before .before .before .before .before .before .before .before .before .before .before .before .before .before .before .before .before .before .before .before) .packed) (c .before .before .before .before .before .before .before .before .before .before .before .before .before .before .before .before .before .before .before .before .before .before .before .before .before .before .before .args .s .w)) (c .before .before .before .before .before .if1 .taken) (c .before .before .before .before .before .before .consistent-behind .ensures), c .before .before .before .before .before .before .before .before .before .before .before .before .before .before .before .before .before .before .before .before .before .before .before .before .before .before .before .pre .1 .1 .1 .1)))
+    (c .before .before .before .before .before .before .before .before .before .before .before .before .before .before .before .before .before .before .before .before .before .before .before .before .before .before .before .pre .0, (G, (subst (ConsistentIs (behind (rows (c .before .before .before .before .before .before .before .before .before .before .before .before .before .before .before .before .before .before .before .before .before .before .before .before .before .before .before) .packed) (rows (c .before .before .before .before .before .before .before .before .before .before .before .before .before .before .before .before .before .before .before .before .before .before .before .before .before .before .before) .steps) (c .before .before .before .before .before .before .before .before .before .before .before .before .before .reduce .last .1 .1 .1 .1 .1 .0)) (c .before .before .before .before .before .before .before .before .before .before .before .before .before .reduce .last .1 .1 .1 .1 .1 .1 .0) (rows (c .before .before .before .before .before .before .before .before .before .before .before .before .before .before .before .before .before .before .before .before .before .before .before .before .before .before .before) .rest) (rows (c .before .before .before .before .before .before .before .before .before .before .before .before .before .before .before .before .before .before .before .before .before .before .before .before .before .before .before) .packed) (c .before .before .before .before .before .before .before .before .before .before .before .before .before .before .before .before .before .before .before .before .before .before .before .before .before .before .before .args .s .w)) (c .before .before .before .before .before .if1 .taken) (c .before .before .before .before .before .before .consistent-behind .ensures), c .before .before .before .before .before .before .before .before .before .before .before .before .before .before .before .before .before .before .before .before .before .before .before .before .before .before .before .pre .1 .1 .1 .1)))
 
 same-length : tie.Need-same-length
 same-length c = search needs
@@ -105,8 +105,8 @@ pub by-pivots-spec : {M : Type 1} → statement M
 by-pivots-spec =
     tie.close
     (tie.spec
-    sub-t13
-    add-t14
+    sub-rest
+    add-packed
     reduce-requires
     consistent-behind-requires
     fill-requires

@@ -17,7 +17,7 @@ remaining-requires : tie.Need-remaining-requires
 remaining-requires c κs =
     let p = c .before .before .before .before .before .before .before .pre in
     let m = p .1 .0 .0 in
-    (p .0, (m, (room-at (c .before .before .before .steps .kept .1 .1 .1 .1 .1 .1 .0) (p .1 .1), (places-unsolved (m .made) (m .closed) (p .1 .0 .1) (c .before .before .before .steps .last .1 .1 .1 .1 .1 .1 .0) _ (p .1 .1 .enough), p .1 .0 .1))))
+    (p .0, (m, (room-at (c .before .before .before .steps .kept .1 .1 .1 .1 .0) (p .1 .1), (places-unsolved (m .made) (m .closed) (p .1 .0 .1) (c .before .before .before .steps .last .1 .1 .1 .1 .0) _ (p .1 .1 .enough), p .1 .0 .1))))
 
 same-length : tie.Need-same-length
 same-length c = search needs

@@ -20,7 +20,7 @@ express-all-requires c κs =
 reduce-behind-requires : tie.Need-reduce-behind-requires
 reduce-behind-requires c κs =
     let p = c .before .before .before .before .before .before .before .before .before .before .before .before .before .before .pre in
-    rows-room (p .1 .0 .0 .made .rows) (p .1 .1 .0 .1) (room-at (c .before .before .before .before .express-all .kept .1 .1 .1 .1 .1 .1 .0) (p .1 .1 .0 .0)) (c .before .before .before .before .before .before .before .before .sums .kept .1 .1 .1 .1 .1 .1 .0 ∙ p .1 .1 .1 .1)
+    rows-room (p .1 .0 .0 .made .rows) (p .1 .1 .0 .1) (room-at (c .before .before .before .before .express-all .kept .1 .1 .1 .1 .0) (p .1 .1 .0 .0)) (c .before .before .before .before .before .before .before .before .sums .kept .1 .1 .1 .1 .0 ∙ p .1 .1 .1 .1)
 
 same-length : tie.Need-same-length
 same-length c = search needs
@@ -32,8 +32,8 @@ returns : tie.Need-returns
 returns c =
     let p = c .before .before .before .before .before .before .before .before .before .before .before .before .before .before .before .before .before .before .before .pre in
     record {
-      rows = c .before .before .before .before .before .before .before .before .before .express-all .last .1 .1 .1 .1 .1 .1 .0;
-      sides = c .before .before .before .before .before .before .before .before .before .before .before .before .before .sums .last .1 .1 .1 .1 .1 .1 .0;
+      rows = c .before .before .before .before .before .before .before .before .before .express-all .last .1 .1 .1 .1 .0;
+      sides = c .before .before .before .before .before .before .before .before .before .before .before .before .before .sums .last .1 .1 .1 .1 .0;
       count = omega (arith, p .1 .0 .0 .made .steps-unused, p .1 .1 .0 .1);
       step-rows = c .before .before .before .before .before .before .before .before .before .express-all .ensures .0;
       rest-rows = c .before .before .before .before .before .before .before .before .before .express-all .ensures .1;

@@ -3,6 +3,7 @@
 use Rattle.algebra.specs.Staircase.{staircase}
 use Rattle.ccsds.specs.Codes.{checksOf}
 use Rattle.ccsds.specs.Tables.{codeOf}
+use Rattle.encoder.specs.inner.Positions.{Table}
 use Rattle.decoder.proofs.OutcomeLaws.{decoded}
 use Rattle.decoder.proofs.Assembly.{peeled-here, outcome-same}
 use borrow.Author.Needs.{needs}
@@ -12,17 +13,20 @@ use Rattle.decoder.proofs.solve.solve.Tie as tie
 layout-of-requires : tie.Need-layout-of-requires
 layout-of-requires c κs = search needs
 
-no-entries-requires : tie.Need-no-entries-requires
-no-entries-requires c κs = search needs
-
-no-entries-requires-2 : tie.Need-no-entries-requires-2
-no-entries-requires-2 c κs = search needs
-
 blank-requires : tie.Need-blank-requires
 blank-requires c κs = search needs
 
+blank-requires-2 : tie.Need-blank-requires-2
+blank-requires-2 c κs = search needs
+
 lay-requires : tie.Need-lay-requires
-lay-requires c κs = search needs
+lay-requires c κs = ((c .before .before .before .before .before .before .before .before .pre .0 .0, c .before .before .before .layout-of .ensures), c .before .before .blank .ensures)
+
+-- the table that peeling and what comes after it go by
+table : (c : tie.After-lay)
+    → let s = c .before .before .before .before .before .before .before .before .before .args in
+    Table (record { number = s .number; layout = c .before .before .before .before .layout-of .result; w = s .w }) (c .lay .last .1 .1 .0)
+table c = record { known = c .before .before .before .before .before .before .before .before .before .pre .0 .0; given = c .before .before .before .before .layout-of .ensures; laid = c .lay .ensures }
 
 slice-aggregate-peel : tie.Need-slice-aggregate-peel
 slice-aggregate-peel c = search needs
@@ -30,8 +34,8 @@ slice-aggregate-peel c = search needs
 peel-requires : tie.Need-peel-requires
 unfolding staircase
 peel-requires c κs =
-    let p = c .before .before .before .before .before .before .before .before .before .before .before .before .before .before .before .before .before .before .pre in
-    (record { known = p .0 .0; given = c .before .before .before .before .before .before .before .before .before .before .before .before .before .layout-of .ensures; laid = c .before .before .before .before .before .before .lay .ensures .0; counted = c .before .before .before .before .before .before .lay .ensures .1 }, (c .before .before .before .before .before .before .before .before .before .before .blank .ensures, (p .1 .0 .1, p .1 .0 .0)))
+    let p = c .before .before .before .before .before .before .before .before .before .before .before .before .before .pre in
+    (table (c .before .before .before .before), (c .before .before .before .before .before .before .blank2 .ensures, (p .1 .0 .1, p .1 .0 .0)))
 
 slice-aggregate-by-steps : tie.Need-slice-aggregate-by-steps
 slice-aggregate-by-steps c = search needs
@@ -39,8 +43,8 @@ slice-aggregate-by-steps c = search needs
 by-steps-requires : tie.Need-by-steps-requires
 unfolding staircase
 by-steps-requires c κs =
-    let p = c .before .before .before .before .before .before .before .before .before .before .before .before .before .before .before .before .before .before .before .before .before .before .before .before .before .before .before .before .before .before .pre in
-    (record { known = p .0 .0; given = c .before .before .before .before .before .before .before .before .before .before .before .before .before .before .before .before .before .before .before .before .before .before .before .before .before .layout-of .ensures; laid = c .before .before .before .before .before .before .before .before .before .before .before .before .before .before .before .before .before .before .lay .ensures .0; counted = c .before .before .before .before .before .before .before .before .before .before .before .before .before .before .before .before .before .before .lay .ensures .1 }, ((peeled-here (c .before .before .before .before .before .before .before .before .before .before .before .peel .ensures), c .before .before .before .before .before .before .if1 .taken), p .1 .0 .1))
+    let p = c .before .before .before .before .before .before .before .before .before .before .before .before .before .before .before .before .before .before .before .before .before .before .before .pre in
+    (table (c .before .before .before .before .before .before .before .before .before .before .before .before .before .before), ((peeled-here (c .before .before .before .before .before .before .before .before .before .peel .ensures), c .before .before .before .before .if1 .taken), p .1 .0 .1))
 
 same-length : tie.Need-same-length
 same-length c = search needs
@@ -50,15 +54,15 @@ same-length-2 c = search needs
 
 returns : tie.Need-returns
 returns c =
-    let s = (c .before .before .before .before .before .before .before .before .before .before .before .before .before .before .before .before .before .before .before .before .before .before .before .before .before .before .before .before .before .before .before .before .before .before .before) in
+    let s = c .before .before .before .before .before .before .before .before .before .before .before .before .before .before .before .before .before .before .before .before .before .before .before .before .before .before .before .before in
+    let g = c .before .before .before .before .before .before .before .before .before .before .before .before .before .before .peel in
+    let e = c .before .before .before .before .by-steps in
     let code = checksOf (codeOf (s .args .number)) in
     let block = s .args .symbols .now in
     let states = s .args .states .now in
-    let y = c .before .before .before .before .before .before .before .before .before .before .before .before .before .before .before .before .peel .last .1 .1 .1 .1 .1 .1 .0 in
-    let s′ = c .before .before .before .before .by-steps .last .1 .1 .1 .1 .1 .1 .0 in
-    let m′ = c .before .before .before .before .by-steps .last .1 .1 .1 .1 .1 .1 .1 .0 in
-    let ok = c .before .before .before .before .by-steps .result in
-    decoded code (s .args .w) block states s′ m′ ok (s .pre .0 .1) (outcome-same code (s .args .w) block y states (c .before .before .before .before .before .before .before .before .before .before .before .before .before .before .before .before .peel .ensures .values .known-byte) s′ m′ ok (c .before .before .before .before .by-steps .ensures))
+    let s′ = e .last .1 .1 .1 .1 .0 in
+    let m′ = e .last .1 .1 .1 .1 .1 .0 in
+    decoded code (s .args .w) block states s′ m′ (e .result) (s .pre .0 .1) (outcome-same code (s .args .w) block (g .last .1 .1 .1 .1 .0) states (g .ensures .values .known-byte) s′ m′ (e .result) (e .ensures))
 
 slice-aggregate-by-pivots : tie.Need-slice-aggregate-by-pivots
 slice-aggregate-by-pivots c = search needs
@@ -66,8 +70,8 @@ slice-aggregate-by-pivots c = search needs
 by-pivots-requires : tie.Need-by-pivots-requires
 unfolding staircase
 by-pivots-requires c κs =
-    let p = c .before .before .before .before .before .before .before .before .before .before .before .before .before .before .before .before .before .before .before .before .before .before .before .before .before .before .before .before .before .before .before .before .pre in
-    (record { known = p .0 .0; given = c .before .before .before .before .before .before .before .before .before .before .before .before .before .before .before .before .before .before .before .before .before .before .before .before .before .before .before .layout-of .ensures; laid = c .before .before .before .before .before .before .before .before .before .before .before .before .before .before .before .before .before .before .before .before .lay .ensures .0; counted = c .before .before .before .before .before .before .before .before .before .before .before .before .before .before .before .before .before .before .before .before .lay .ensures .1 }, (peeled-here (c .before .before .before .before .before .before .before .before .before .before .before .before .before .peel .ensures), ((p .1 .1 .0, p .1 .1 .1), (p .0 .1, p .1 .0 .1))))
+    let p = c .before .before .before .before .before .before .before .before .before .before .before .before .before .before .before .before .before .before .before .before .before .before .before .before .before .pre in
+    (table (c .before .before .before .before .before .before .before .before .before .before .before .before .before .before .before .before), (peeled-here (c .before .before .before .before .before .before .before .before .before .before .before .peel .ensures), ((p .1 .1 .0, p .1 .1 .1), (p .0 .1, p .1 .0 .1))))
 
 same-length-3 : tie.Need-same-length-3
 same-length-3 c = search needs
@@ -83,24 +87,23 @@ same-length-6 c = search needs
 
 returns-2 : tie.Need-returns-2
 returns-2 c =
-    let s = (c .before .before .before .before .before .before .before .before .before .before .before .before .before .before .before .before .before .before .before .before .before .before .before .before .before .before .before .before .before .before .before .before .before .before .before .before .before .before .before .before .before .before) in
+    let s = c .before .before .before .before .before .before .before .before .before .before .before .before .before .before .before .before .before .before .before .before .before .before .before .before .before .before .before .before .before .before .before .before .before .before .before in
+    let g = c .before .before .before .before .before .before .before .before .before .before .before .before .before .before .before .before .before .before .before .before .before .peel in
+    let e = c .before .before .before .before .before .before .before .before .before .by-pivots in
     let code = checksOf (codeOf (s .args .number)) in
     let block = s .args .symbols .now in
     let states = s .args .states .now in
-    let y = c .before .before .before .before .before .before .before .before .before .before .before .before .before .before .before .before .before .before .before .before .before .before .before .peel .last .1 .1 .1 .1 .1 .1 .0 in
-    let s′ = c .before .before .before .before .before .before .before .before .before .by-pivots .last .1 .1 .1 .1 .1 .1 .0 in
-    let m′ = c .before .before .before .before .before .before .before .before .before .by-pivots .last .1 .1 .1 .1 .1 .1 .1 .0 in
-    let ok = c .before .before .before .before .before .before .before .before .before .by-pivots .result in
-    decoded code (s .args .w) block states s′ m′ ok (s .pre .0 .1) (outcome-same code (s .args .w) block y states (c .before .before .before .before .before .before .before .before .before .before .before .before .before .before .before .before .before .before .before .before .before .before .before .peel .ensures .values .known-byte) s′ m′ ok (c .before .before .before .before .before .before .before .before .before .by-pivots .ensures))
+    let s′ = e .last .1 .1 .1 .1 .0 in
+    let m′ = e .last .1 .1 .1 .1 .1 .0 in
+    decoded code (s .args .w) block states s′ m′ (e .result) (s .pre .0 .1) (outcome-same code (s .args .w) block (g .last .1 .1 .1 .1 .0) states (g .ensures .values .known-byte) s′ m′ (e .result) (e .ensures))
 
 pub solve-spec : {M : Type 1} → statement M
 solve-spec =
     tie.close
     (tie.spec
     layout-of-requires
-    no-entries-requires
-    no-entries-requires-2
     blank-requires
+    blank-requires-2
     lay-requires
     slice-aggregate-peel
     peel-requires

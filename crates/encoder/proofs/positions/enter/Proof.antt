@@ -4,7 +4,7 @@ use Prim.Native.Nat.{_%_, _<_}
 use native.Mathlib.Omega.{arith}
 use native.Mathlib.Nat.{mod-lt}
 use borrow.Author.Needs.{needs}
-use Rattle.encoder.proofs.Arrays.{entered-full, entered-room}
+use Rattle.encoder.proofs.LaidTable.{entered-full, entered-room}
 use Rattle.encoder.proofs.positions.enter.Statement.{statement}
 use Rattle.encoder.proofs.positions.enter.Tie as tie
 
@@ -15,92 +15,136 @@ class-lt s = omega (arith, mod-lt (s .args .y) (s .pre .0 .0))
 rem-r : tie.Need-rem-r
 rem-r c = search needs
 
-mul-n : tie.Need-mul-n
-mul-n c = omega (arith, class-lt c)
+cast-table : tie.Need-cast-table
+cast-table c = search needs
 
-element-copy-out-n : tie.Need-element-copy-out-n
-element-copy-out-n c = omega (arith, class-lt c)
+mul-table : tie.Need-mul-table
+mul-table c = search needs
+
+add-table : tie.Need-add-table
+add-table c = search needs
+
+add-table-2 : tie.Need-add-table-2
+add-table-2 c = search needs
+
+mul-table-2 : tie.Need-mul-table-2
+mul-table-2 c = search needs
+
+element-write-table : tie.Need-element-write-table
+element-write-table c = search needs
+
+add-wide : tie.Need-add-wide
+add-wide c = omega (arith, class-lt c)
+
+mul-wide : tie.Need-mul-wide
+mul-wide c = omega (arith, class-lt c)
+
+element-copy-out-wide : tie.Need-element-copy-out-wide
+element-copy-out-wide c = omega (arith, class-lt c)
+
+wide-requires : tie.Need-wide-requires
+wide-requires c κs = search needs
 
 returns : tie.Need-returns
-returns c = entered-full _ _ _ _ _ _ _ (omega arith)
+returns c = entered-full _ _ _ _ _ _ _ (c .before .wide .ensures .0) (omega arith)
 
 mul-end : tie.Need-mul-end
-mul-end c = omega arith
+mul-end c = search needs
 
 add-end : tie.Need-add-end
-add-end c = omega arith
+add-end c = search needs
 
-div-firsts : tie.Need-div-firsts
-div-firsts c = search needs
+div-table : tie.Need-div-table
+div-table c = search needs
 
-sub-firsts : tie.Need-sub-firsts
-sub-firsts c = search needs
+sub-table : tie.Need-sub-table
+sub-table c = search needs
 
-cast-firsts : tie.Need-cast-firsts
-cast-firsts c = omega arith
+cast-table-2 : tie.Need-cast-table-2
+cast-table-2 c = search needs
 
-mul-firsts : tie.Need-mul-firsts
-mul-firsts c = omega (arith, class-lt (c .before .before))
+mul-table-3 : tie.Need-mul-table-3
+mul-table-3 c = omega (arith, class-lt (c .before .before .before))
 
-add-firsts : tie.Need-add-firsts
-add-firsts c = omega (arith, class-lt (c .before .before))
+add-table-3 : tie.Need-add-table-3
+add-table-3 c = omega (arith, class-lt (c .before .before .before))
 
-mul-firsts-2 : tie.Need-mul-firsts-2
-mul-firsts-2 c = omega (arith, class-lt (c .before .before))
+mul-table-4 : tie.Need-mul-table-4
+mul-table-4 c = omega (arith, class-lt (c .before .before .before))
 
-element-write-firsts : tie.Need-element-write-firsts
-element-write-firsts c = omega (arith, class-lt (c .before .before))
+element-write-table-2 : tie.Need-element-write-table-2
+element-write-table-2 c = omega (arith, class-lt (c .before .before .before))
 
-cast-ends : tie.Need-cast-ends
-cast-ends c = omega arith
+cast-table-3 : tie.Need-cast-table-3
+cast-table-3 c = search needs
 
-mul-ends : tie.Need-mul-ends
-mul-ends c = omega (arith, class-lt (c .before .before))
+mul-table-5 : tie.Need-mul-table-5
+mul-table-5 c = omega (arith, class-lt (c .before .before .before))
 
-add-ends : tie.Need-add-ends
-add-ends c = omega (arith, class-lt (c .before .before))
+add-table-4 : tie.Need-add-table-4
+add-table-4 c = omega (arith, class-lt (c .before .before .before))
 
-mul-ends-2 : tie.Need-mul-ends-2
-mul-ends-2 c = omega (arith, class-lt (c .before .before))
+add-table-5 : tie.Need-add-table-5
+add-table-5 c = omega (arith, class-lt (c .before .before .before))
 
-element-write-ends : tie.Need-element-write-ends
-element-write-ends c = omega (arith, class-lt (c .before .before))
+mul-table-6 : tie.Need-mul-table-6
+mul-table-6 c = omega (arith, class-lt (c .before .before .before))
 
-add-counts : tie.Need-add-counts
-add-counts c = omega (arith, class-lt (c .before .before))
+element-write-table-3 : tie.Need-element-write-table-3
+element-write-table-3 c = omega (arith, class-lt (c .before .before .before))
 
-mul-counts : tie.Need-mul-counts
-mul-counts c = omega (arith, class-lt (c .before .before))
+add-table-6 : tie.Need-add-table-6
+add-table-6 c = search needs
 
-element-write-counts : tie.Need-element-write-counts
-element-write-counts c = omega (arith, class-lt (c .before .before))
+cast-table-4 : tie.Need-cast-table-4
+cast-table-4 c = search needs
+
+add-table-7 : tie.Need-add-table-7
+add-table-7 c = omega (arith, class-lt (c .before .before .before))
+
+mul-table-7 : tie.Need-mul-table-7
+mul-table-7 c = omega (arith, class-lt (c .before .before .before))
+
+element-write-table-4 : tie.Need-element-write-table-4
+element-write-table-4 c = omega (arith, class-lt (c .before .before .before))
 
 returns-2 : tie.Need-returns-2
-returns-2 c = entered-room _ _ _ _ _ _ _ (omega arith)
+returns-2 c = entered-room _ _ _ _ _ _ _ (c .before .wide .ensures .0) (omega arith)
 
 pub enter-spec : {M : Type 1} → statement M
 enter-spec =
     tie.close
     (tie.spec
     rem-r
-    mul-n
-    element-copy-out-n
+    cast-table
+    mul-table
+    add-table
+    add-table-2
+    mul-table-2
+    element-write-table
+    add-wide
+    mul-wide
+    element-copy-out-wide
+    wide-requires
     returns
     mul-end
     add-end
-    div-firsts
-    sub-firsts
-    cast-firsts
-    mul-firsts
-    add-firsts
-    mul-firsts-2
-    element-write-firsts
-    cast-ends
-    mul-ends
-    add-ends
-    mul-ends-2
-    element-write-ends
-    add-counts
-    mul-counts
-    element-write-counts
+    div-table
+    sub-table
+    cast-table-2
+    mul-table-3
+    add-table-3
+    mul-table-4
+    element-write-table-2
+    cast-table-3
+    mul-table-5
+    add-table-4
+    add-table-5
+    mul-table-6
+    element-write-table-3
+    add-table-6
+    cast-table-4
+    add-table-7
+    mul-table-7
+    element-write-table-4
     returns-2)

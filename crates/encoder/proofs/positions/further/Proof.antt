@@ -6,17 +6,18 @@ use Rattle.encoder.proofs.Cycle.{further-low, further-high}
 use Rattle.encoder.proofs.positions.further.Statement.{statement}
 use Rattle.encoder.proofs.positions.further.Tie as tie
 
-add-x : tie.Need-add-x
-add-x c = search needs
-
-sub-result : tie.Need-sub-result
-sub-result c = search needs
+wrapping-add-u16-requires : tie.Need-wrapping-add-u16-requires
+wrapping-add-u16-requires c κs = search needs
 
 returns : tie.Need-returns
-returns c = further-low _ _ _ _ (c .before .pre) (omega arith)
+returns c = λ h. further-low _ _ _ _ h _ (c .before .wrapping-add-u16 .ensures) (c .if1 .taken)
+
+wrapping-sub-u16-requires : tie.Need-wrapping-sub-u16-requires
+wrapping-sub-u16-requires c κs = search needs
 
 returns-2 : tie.Need-returns-2
-returns-2 c = further-high _ _ _ _ (c .before .pre) (omega arith)
+returns-2 c = λ h. further-high _ _ _ _ h _ (c .before .before .wrapping-add-u16 .ensures) _ (omega arith) (c .wrapping-sub-u16 .ensures) (omega (arith, c .before .if1 .left))
 
 pub further-spec : {M : Type 1} → statement M
-further-spec = tie.close (tie.spec add-x sub-result returns returns-2)
+further-spec =
+    tie.close (tie.spec wrapping-add-u16-requires returns wrapping-sub-u16-requires returns-2)

@@ -1,101 +1,177 @@
--- `encoder::positions::information` meets its contract: after i turns, i positions stand in the array.
+-- `encoder::positions::information` meets its contract: after e turns, those of the first e places that have an entry hold its position.
 -- Assumes nothing.
-use mathlib.Core.Path.{_≡_, sym, ap, _∙_}
-use Prim.Native.Nat.{ℕ, _+_, _-_, _*_, _%_, _<_, _≤_}
+use mathlib.Core.Path.{_≡_, sym, ap, _∙_, subst⁻¹}
+use mathlib.Core.List.{List}
+use Prim.Native.Nat.{ℕ, _+_, _-_, _*_, _/_, _%_, _<_, _≤_}
+use native.Mathlib.Nat.{mul-le-mul-left}
+use native.Mathlib.Decide.{decLt}
 use native.Mathlib.Omega.{arith}
-use lib.ListN.{length, getD}
-use Rattle.algebra.proofs.Fronts.{Filled, filled-none, filled-more}
+use lib.ListN.{length, getD, set, length-set}
+use lib.Seq.{getD-set-same, getD-set-other}
+use Rattle.ccsds.specs.Codes.{Params}
 use Rattle.ccsds.specs.Tables.{codeOf}
-use Rattle.ccsds.proofs.Valid.{valid-of}
-use Rattle.encoder.specs.inner.Positions.{classOf, positions}
+use Rattle.ccsds.proofs.Valid.{Valid, valid-of, some-a}
+use Rattle.encoder.specs.inner.Positions.{classOf, positions, firstAt, endAt, EntryBounds, WithinRow}
 use Rattle.encoder.proofs.Touched.{row-count, row-each, entry-fits}
 use Rattle.encoder.proofs.positions.information.Statement.{statement}
 use Rattle.encoder.proofs.positions.information.Tie as tie
 
+-- of the first e of 64 elements, those before n are f's
+record Front (f : ℕ → ℕ) (n e : ℕ) (xs : List ℕ) : Type 0 where
+  size : length xs ≡ 64
+  each : (k : ℕ) → k < e → k < n → getD xs k 0 ≡ f k
+
+front-more : {f : ℕ → ℕ} {n e x : ℕ} {xs : List ℕ} → Front f n e xs → e < 64 → (e < n → x ≡ f e) → Front f n (e + 1) (set xs e x)
+front-more {f} {n} {e} {x} {xs} h l g = record { size = length-set xs e x ∙ h .size; each = λ k a b. go k a b (decLt k e) }
+  where
+    go : (k : ℕ) → k < e + 1 → k < n → Dec (k < e) → getD (set xs e x) k 0 ≡ f k
+    go k a b (yes d) = getD-set-other xs e k x 0 (λ z. omega arith) ∙ h .each k d b
+    go k a b (no d) =
+        let z : e ≡ k = omega arith in
+        ap (λ (t : ℕ). getD (set xs e x) t 0) (sym z) ∙ getD-set-same xs e x 0 (omega (arith, h .size)) ∙ g (omega arith) ∙ ap f z
+
 abbrev Inv-loop : tie.InvT-loop
-Inv-loop number q firsts ends n r s xs₀ i₀ xs i = (i ≤ n) × Filled (λ (k : ℕ). getD (positions (codeOf number) (s * codeOf number .a + r)) k 0) 64 i xs
+Inv-loop s table i r xs₀ n full e₀ xs e = (e ≤ full) × Front (λ (k : ℕ). getD (positions (codeOf (s .number)) (i * codeOf (s .number) .a + r)) k 0) n e xs
 
 abbrev μ-loop : tie.MeasureT-loop
-μ-loop number q firsts ends n r s xs₀ i₀ xs i = n - i
+μ-loop s table i r xs₀ n full e₀ xs e = full - e
 
--- where entry i stands
-module _ (c : tie.In-loop Inv-loop μ-loop) where
-  room : (c .before .before .args .r < 8) × (c .before .loop .i < 64)
-  room =
-      let a = c .before .before .args in
-      let p = c .before .before .pre in
-      (omega (arith, p .1 .0 .0, p .1 .1 .0 .few .classes), omega (arith, p .1 .0 .2, p .1 .1 .0 .few .entries (a .r) (p .1 .0 .0)))
+-- there are 8 classes at most
+class-lt : (s : tie.Start Inv-loop μ-loop) → s .args .r < 8
+class-lt s = omega (arith, s .pre .1 .0 .0, s .pre .0 .laid .few .classes)
 
-  inside : c .before .loop .i < length (classOf (codeOf (c .before .before .args .number)) (c .before .before .args .r))
-  inside = omega (arith, c .before .before .pre .1 .0 .2)
+-- the class of the check row
+module _ (c : tie.After-wide Inv-loop μ-loop) where
+  abbrev s : tie.Start Inv-loop μ-loop
+  s = c .before .before
 
-  abbrev first : ℕ
-  first = getD (c .before .before .args .firsts .now) (c .before .before .args .r * 64 + c .before .loop .i) 0
+  abbrev code : Params
+  code = codeOf (s .args .s .number)
 
-  abbrev end : ℕ
-  end = getD (c .before .before .args .ends .now) (c .before .before .args .r * 64 + c .before .loop .i) 0
+  v : Valid code
+  v = valid-of _ (s .pre .0 .known)
 
-  fits : (first ≤ end) × (end ≤ first + c .before .before .args .q) × (c .before .before .args .q ≤ end) × (end ≤ 4096) × (c .before .before .args .s < c .before .before .args .q)
-  fits =
-      let a = c .before .before .args in
-      let p = c .before .before .pre in
-      omega (arith, p .0 .1, entry-fits _ (valid-of _ (p .0 .0)) (a .r) (a .s) (p .1 .0 .0) (p .1 .0 .1) _ inside (p .1 .1 .0 .each (a .r) (p .1 .0 .0) (c .before .loop .i) inside))
+  -- a table row has no more positions than there are check rows
+  wide-row : code .q ≤ code .m
+  wide-row = omega (arith, mul-le-mul-left (code .q) (some-a _ v), v .step)
 
-  is : (x : ℕ) → x ≡ end - c .before .before .args .q + (first + c .before .before .args .q - end + c .before .before .args .s) % c .before .before .args .q
-      → x ≡ getD (positions (codeOf (c .before .before .args .number)) (c .before .before .args .s * codeOf (c .before .before .args .number) .a + c .before .before .args .r)) (c .before .loop .i) 0
-  is x e =
-      let a = c .before .before .args in
-      let p = c .before .before .pre in
-      e ∙ ap (λ (k : ℕ). end - k + (first + k - end + a .s) % k) (p .0 .1)
-      ∙ row-each _ (valid-of _ (p .0 .0)) (a .r) (a .s) (p .1 .0 .0) (p .1 .0 .1) _ inside (p .1 .1 .0 .each (a .r) (p .1 .0 .0) (c .before .loop .i) inside)
+  count-is : c .wide .result ≡ length (classOf code (s .args .r))
+  count-is = c .wide .ensures .0 ∙ s .pre .0 .laid .counts _ (s .pre .1 .0 .0)
+
+  few : c .wide .result ≤ 62
+  few = omega (arith, count-is, s .pre .0 .laid .few .entries _ (s .pre .1 .0 .0))
+
+  full : (c .wide .result + 15) / 16 * 16 ≤ 64
+  full = omega (arith, few)
+
+  module _ (e : ℕ) (h : e < c .wide .result) where
+    inside : e < length (classOf code (s .args .r))
+    inside = omega (arith, count-is)
+
+    abbrev first : ℕ
+    first = getD (s .args .table .now) (firstAt (s .args .r) e) 0
+
+    abbrev end : ℕ
+    end = getD (s .args .table .now) (endAt (s .args .r) e) 0
+
+    abbrev q : ℕ
+    q = s .args .s .layout .q
+
+    bounds : EntryBounds (code .q) (getD (classOf code (s .args .r)) e (0, 0)) first end
+    bounds = s .pre .0 .laid .each _ (s .pre .1 .0 .0) e inside
+
+    fits : WithinRow first end q (s .args .i)
+    fits = subst⁻¹ (λ (k : ℕ). WithinRow first end k (s .args .i)) (s .pre .0 .given .q) (entry-fits _ v (s .args .r) (s .args .i) (s .pre .1 .0 .0) (s .pre .1 .0 .1) _ inside bounds)
+
+    is : (x : ℕ) → (WithinRow first end q (s .args .i) → x ≡ end - q + (first + q - end + s .args .i) % q) → x ≡ getD (positions code (s .args .i * code .a + s .args .r)) e 0
+    is x g =
+        g fits ∙ ap (λ (k : ℕ). end - k + (first + k - end + s .args .i) % k) (s .pre .0 .given .q)
+        ∙ row-each _ v (s .args .r) (s .args .i) (s .pre .1 .0 .0) (s .pre .1 .0 .1) _ inside bounds
+
+add-wide : tie.Need-add-wide Inv-loop μ-loop
+add-wide c = omega (arith, class-lt c, c .pre .0 .laid .size)
+
+mul-wide : tie.Need-mul-wide Inv-loop μ-loop
+mul-wide c = omega (arith, class-lt c, c .pre .0 .laid .size)
+
+element-copy-out-wide : tie.Need-element-copy-out-wide Inv-loop μ-loop
+element-copy-out-wide c = omega (arith, class-lt c, c .pre .0 .laid .size)
+
+wide-requires : tie.Need-wide-requires Inv-loop μ-loop
+wide-requires c κs = tt
+
+add-full : tie.Need-add-full Inv-loop μ-loop
+add-full c = omega (arith, few c)
+
+mul-full : tie.Need-mul-full Inv-loop μ-loop
+mul-full c = omega (arith, few c)
 
 loop-holds : tie.Need-loop-holds Inv-loop μ-loop
-loop-holds c = (omega arith, filled-none (c .pre .1 .1 .1))
+loop-holds c = (omega arith, record { size = c .before .before .pre .1 .1; each = λ k h g. absurd (omega arith) })
 
 mul-further : tie.Need-mul-further Inv-loop μ-loop
-mul-further c = omega (arith, room (c), c .before .before .pre .1 .1 .0 .firsts-size)
+mul-further c = let s = c .before .before .before .before in omega (arith, class-lt s, full (c .before .before), s .pre .0 .laid .size)
 
 add-further : tie.Need-add-further Inv-loop μ-loop
-add-further c = omega (arith, room (c), c .before .before .pre .1 .1 .0 .firsts-size)
+add-further c = let s = c .before .before .before .before in omega (arith, class-lt s, full (c .before .before), s .pre .0 .laid .size)
 
 mul-further-2 : tie.Need-mul-further-2 Inv-loop μ-loop
-mul-further-2 c = omega (arith, room (c), c .before .before .pre .1 .1 .0 .firsts-size)
+mul-further-2 c = let s = c .before .before .before .before in omega (arith, class-lt s, full (c .before .before), s .pre .0 .laid .size)
 
 element-copy-out-further : tie.Need-element-copy-out-further Inv-loop μ-loop
-element-copy-out-further c = omega (arith, room (c), c .before .before .pre .1 .1 .0 .firsts-size)
+element-copy-out-further c = let s = c .before .before .before .before in omega (arith, class-lt s, full (c .before .before), s .pre .0 .laid .size)
 
 mul-further-3 : tie.Need-mul-further-3 Inv-loop μ-loop
-mul-further-3 c = omega (arith, room (c .before), c .before .before .before .pre .1 .1 .0 .ends-size)
+mul-further-3 c = let s = c .before .before .before .before .before in omega (arith, class-lt s, full (c .before .before .before), s .pre .0 .laid .size)
 
 add-further-2 : tie.Need-add-further-2 Inv-loop μ-loop
-add-further-2 c = omega (arith, room (c .before), c .before .before .before .pre .1 .1 .0 .ends-size)
+add-further-2 c = let s = c .before .before .before .before .before in omega (arith, class-lt s, full (c .before .before .before), s .pre .0 .laid .size)
+
+add-further-3 : tie.Need-add-further-3 Inv-loop μ-loop
+add-further-3 c = let s = c .before .before .before .before .before in omega (arith, class-lt s, full (c .before .before .before), s .pre .0 .laid .size)
 
 mul-further-4 : tie.Need-mul-further-4 Inv-loop μ-loop
-mul-further-4 c = omega (arith, room (c .before), c .before .before .before .pre .1 .1 .0 .ends-size)
+mul-further-4 c = let s = c .before .before .before .before .before in omega (arith, class-lt s, full (c .before .before .before), s .pre .0 .laid .size)
 
 element-copy-out-further-2 : tie.Need-element-copy-out-further-2 Inv-loop μ-loop
-element-copy-out-further-2 c = omega (arith, room (c .before), c .before .before .before .pre .1 .1 .0 .ends-size)
+element-copy-out-further-2 c = let s = c .before .before .before .before .before in omega (arith, class-lt s, full (c .before .before .before), s .pre .0 .laid .size)
+
+cast-further : tie.Need-cast-further Inv-loop μ-loop
+cast-further c = let s = c .before .before .before .before .before .before .before in omega (arith, s .pre .0 .given .q, v (c .before .before .before .before .before) .few-rows, wide-row (c .before .before .before .before .before))
+
+cast-further-2 : tie.Need-cast-further-2 Inv-loop μ-loop
+cast-further-2 c = let s = c .before .before .before .before .before .before .before in omega (arith, s .pre .1 .0 .1, v (c .before .before .before .before .before) .few-rows, wide-row (c .before .before .before .before .before))
 
 further-requires : tie.Need-further-requires Inv-loop μ-loop
-further-requires c κs = fits (c .before .before)
+further-requires c κs = tt
 
 mul-xs : tie.Need-mul-xs Inv-loop μ-loop
-mul-xs c = omega (arith, room (c .before .before .before), c .before .before .before .before .loop .inv .1 .size)
+mul-xs c = omega (arith, full (c .before .before .before .before .before .before), c .before .before .before .before .before .loop .inv .1 .size)
 
 element-write-xs : tie.Need-element-write-xs Inv-loop μ-loop
-element-write-xs c = omega (arith, room (c .before .before .before), c .before .before .before .before .loop .inv .1 .size)
+element-write-xs c = omega (arith, full (c .before .before .before .before .before .before), c .before .before .before .before .before .loop .inv .1 .size)
 
-add-i : tie.Need-add-i Inv-loop μ-loop
-add-i c = omega (arith, room (c .before .before .before), c .before .before .before .before .loop .inv .1 .size)
+add-e : tie.Need-add-e Inv-loop μ-loop
+add-e c = omega (arith, full (c .before .before .before .before .before .before), c .before .before .before .before .before .loop .inv .1 .size)
 
 loop-less : tie.Need-loop-less Inv-loop μ-loop
 loop-less c = omega arith
 
 loop-again : tie.Need-loop-again Inv-loop μ-loop
-loop-again c = (omega arith, filled-more (c .before .before .before .before .loop .inv .1) (omega (arith, room (c .before .before .before))) (is (c .before .before .before) _ (c .further .ensures)))
+loop-again c =
+    let l = c .before .before .before .before .before .loop in
+    let w = c .before .before .before .before .before .before in
+    (omega arith, front-more (l .inv .1) (omega (arith, full w)) (λ h. is w (l .e) h _ (c .further .ensures)))
 
 returns : tie.Need-returns Inv-loop μ-loop
-returns c = record { size = c .before .loop .inv .1 .size; few = omega (arith, c .before .before .pre .1 .0 .2, c .before .before .pre .1 .1 .0 .few .entries (c .before .before .args .r) (c .before .before .pre .1 .0 .0)); count = c .before .before .pre .1 .0 .2 ∙ sym (row-count _ (valid-of _ (c .before .before .pre .0 .0)) (c .before .before .args .r) (c .before .before .args .s) (c .before .before .pre .1 .0 .0) (c .before .before .pre .1 .0 .1)); each = λ i h. c .before .loop .inv .1 .each i (omega arith) }
+returns c =
+    let w = c .before .before in
+    let s = w .before .before in record {
+      size = c .before .loop .inv .1 .size;
+      few = few w;
+      count = count-is w ∙ sym (row-count _ (v w) (s .args .r) (s .args .i) (s .pre .1 .0 .0) (s .pre .1 .0 .1));
+      each = λ k h. c .before .loop .inv .1 .each k (omega arith) h;
+    }
 
 pub information-spec : {M : Type 1} → statement M
 information-spec =
@@ -103,6 +179,12 @@ information-spec =
     (tie.spec
     Inv-loop
     μ-loop
+    add-wide
+    mul-wide
+    element-copy-out-wide
+    wide-requires
+    add-full
+    mul-full
     loop-holds
     mul-further
     add-further
@@ -110,12 +192,15 @@ information-spec =
     element-copy-out-further
     mul-further-3
     add-further-2
+    add-further-3
     mul-further-4
     element-copy-out-further-2
+    cast-further
+    cast-further-2
     further-requires
     mul-xs
     element-write-xs
-    add-i
+    add-e
     loop-less
     loop-again
     returns)

@@ -1,32 +1,33 @@
 -- `encoder::positions::lay` meets its contract: the addresses of `row` table rows are entered.
 -- Assumes nothing.
-use mathlib.Core.Path.{_≡_, ap, _∙_}
+use mathlib.Core.Path.{_≡_, refl, ap, _∙_}
 use Prim.Native.Nat.{ℕ, _≤_, _-_}
 use native.Mathlib.Omega.{arith}
 use lib.ListN.{length, length-replicate}
 use Rattle.ccsds.specs.Tables.{codeOf}
-use Rattle.encoder.specs.inner.Positions.{classArrays, tableEntered, ArraysAre}
-use Rattle.encoder.proofs.Arrays.{Room, table-none, row-more, row-room, few-classes, blank-laid}
+use Rattle.encoder.specs.inner.Positions.{tableEntered}
+use Rattle.encoder.proofs.LaidTable.{row-more, table-size, few-classes, all-laid}
 use Rattle.encoder.proofs.positions.lay.Statement.{statement}
 use Rattle.encoder.proofs.positions.lay.Tie as tie
 
 abbrev Inv-loop : tie.InvT-loop
-Inv-loop number l firsts₀ ends₀ counts₀ rows row₀ firsts ends counts row = (row ≤ rows) × Room firsts ends counts × ArraysAre (tableEntered (codeOf number) row (classArrays firsts₀ ends₀ counts₀)) firsts ends counts
+Inv-loop number l table₀ rows row₀ table row = (row ≤ rows) × (length table ≡ 1544) × (table ≡ tableEntered (codeOf number) row table₀)
 
 abbrev μ-loop : tie.MeasureT-loop
-μ-loop number l firsts₀ ends₀ counts₀ rows row₀ firsts ends counts row = rows - row
+μ-loop number l table₀ rows row₀ table row = rows - row
 
 loop-holds : tie.Need-loop-holds Inv-loop μ-loop
-loop-holds c = (omega arith, (ap length (c .pre .1 .0) ∙ length-replicate {A = ℕ} 512 0, ap length (c .pre .1 .1) ∙ length-replicate {A = ℕ} 512 0, ap length (c .pre .1 .2) ∙ length-replicate {A = ℕ} 8 0), table-none _ _ _ _)
+unfolding tableEntered
+loop-holds c = (omega arith, ap length (c .pre .1) ∙ length-replicate {A = ℕ} 1544 0, refl)
 
 enter-row-requires : tie.Need-enter-row-requires Inv-loop μ-loop
 enter-row-requires c κs =
-    let s = c .before .before .before .before .before in
-    (s .pre .0, ((omega (arith, s .pre .0 .1 .rows), few-classes _ (s .pre .0 .0)), c .before .before .before .before .loop .inv .1))
+    let s = c .before .before .before in
+    (s .pre .0, ((omega (arith, s .pre .0 .1 .rows), few-classes _ (s .pre .0 .0)), c .before .before .loop .inv .1))
 
 add-row : tie.Need-add-row Inv-loop μ-loop
 add-row c =
-    let s = c .before .before .before .before .before .before in
+    let s = c .before .before .before .before in
     omega (arith, s .pre .0 .1 .rows, s .pre .0 .1 .short)
 
 loop-less : tie.Need-loop-less Inv-loop μ-loop
@@ -34,11 +35,12 @@ loop-less c = omega arith
 
 loop-again : tie.Need-loop-again Inv-loop μ-loop
 loop-again c =
-    let l = c .before .before .before .before .before .loop in
-    (omega arith, row-room _ _ _ _ _ _ (l .inv .1) (c .enter-row .ensures), row-more _ _ _ (l .inv .2) (c .enter-row .ensures))
+    let l = c .before .before .before .loop in
+    let e = row-more _ _ _ (l .inv .2) (c .enter-row .ensures) in
+    (omega arith, ap length e ∙ table-size _ _ _ ∙ ap length (c .before .before .before .before .pre .1) ∙ length-replicate {A = ℕ} 1544 0, e)
 
 returns : tie.Need-returns Inv-loop μ-loop
-returns c = let e : c .before .loop .row ≡ length (codeOf (c .before .before .args .number) .rows) = omega (arith, c .before .before .pre .0 .1 .rows) in blank-laid _ (c .before .before .pre .0 .0) _ e (c .before .before .pre .1 .0) (c .before .before .pre .1 .1) (c .before .before .pre .1 .2) (c .before .loop .inv .2) (c .before .loop .inv .1)
+returns c = let e : c .before .loop .row ≡ length (codeOf (c .before .before .args .number) .rows) = omega (arith, c .before .before .pre .0 .1 .rows) in all-laid _ (c .before .before .pre .0 .0) _ e (c .before .before .pre .1) (c .before .loop .inv .2) (c .before .loop .inv .1)
 
 pub lay-spec : {M : Type 1} → statement M
 lay-spec =

@@ -5,6 +5,7 @@ use Prim.Native.Nat.{ℕ, _+_, _*_, _/_, _%_, _<_}
 use native.Mathlib.Nat.{mod-lt, div-add-mod'}
 use native.Mathlib.Omega.{arith}
 use borrow.Author.Needs.{needs}
+use Rattle.ccsds.specs.Codes.{Params}
 use Rattle.ccsds.specs.Tables.{codeOf}
 use Rattle.ccsds.proofs.Valid.{Valid, valid-of, some-a}
 use Rattle.encoder.proofs.Touched.{quotient-lt}
@@ -14,41 +15,43 @@ use Rattle.encoder.proofs.positions.of_row.Tie as tie
 
 -- the check row by its quotient and remainder
 module _ (s : tie.Start) where
-  v : Valid (codeOf (s .args .number))
-  v = valid-of _ (s .pre .0 .0)
+  abbrev code : Params
+  code = codeOf (s .args .s .number)
 
-  some : 0 < s .args .l .a
-  some = omega (arith, some-a _ v, s .pre .0 .1 .a)
+  abbrev a : ℕ
+  a = s .args .s .layout .a
 
-  class-lt : s .args .j % s .args .l .a < codeOf (s .args .number) .a
-  class-lt = omega (arith, mod-lt (s .args .j) some, s .pre .0 .1 .a)
+  v : Valid code
+  v = valid-of _ (s .pre .0 .known)
 
-  step-lt : s .args .j / s .args .l .a < codeOf (s .args .number) .q
-  step-lt = subst⁻¹ (λ (a : ℕ). s .args .j / a < codeOf (s .args .number) .q) (s .pre .0 .1 .a) (quotient-lt _ v (s .args .j) (s .pre .1 .0))
+  some : 0 < a
+  some = omega (arith, some-a _ v, s .pre .0 .given .a)
 
-  row-is : s .args .j / s .args .l .a * codeOf (s .args .number) .a + s .args .j % s .args .l .a ≡ s .args .j
-  row-is =
-      subst (λ (a : ℕ). s .args .j / s .args .l .a * a + s .args .j % s .args .l .a ≡ s .args .j) (s .pre .0 .1 .a) (div-add-mod' (s .args .j) (s .args .l .a))
+  class-lt : s .args .j % a < code .a
+  class-lt = omega (arith, mod-lt (s .args .j) some, s .pre .0 .given .a)
 
-rem-r : tie.Need-rem-r
-rem-r c = omega (arith, some (c .before))
+  step-lt : s .args .j / a < code .q
+  step-lt = subst⁻¹ (λ (t : ℕ). s .args .j / t < code .q) (s .pre .0 .given .a) (quotient-lt _ v (s .args .j) (s .pre .1 .0))
 
-mul-n : tie.Need-mul-n
-mul-n c = omega (arith, class-lt (c .before), c .before .pre .1 .1 .0 .0 .few .classes)
-
-element-copy-out-n : tie.Need-element-copy-out-n
-element-copy-out-n c = omega (arith, class-lt (c .before), c .before .pre .1 .1 .0 .0 .few .classes, c .before .pre .1 .1 .0 .1 .size)
+  row-is : s .args .j / a * code .a + s .args .j % a ≡ s .args .j
+  row-is = subst (λ (t : ℕ). s .args .j / a * t + s .args .j % a ≡ s .args .j) (s .pre .0 .given .a) (div-add-mod' (s .args .j) a)
 
 div-information : tie.Need-div-information
-div-information c = omega (arith, some (c .before .before .before))
+div-information c = omega (arith, some (c .before .before))
+
+rem-information : tie.Need-rem-information
+rem-information c = omega (arith, some (c .before .before .before))
 
 information-requires : tie.Need-information-requires
 information-requires c κs =
     let s = c .before .before .before .before in
-    ((s .pre .0 .0, s .pre .0 .1 .q), ((class-lt s, step-lt s, s .pre .1 .1 .0 .1 .each _ (class-lt s)), (s .pre .1 .1 .0 .0, s .pre .1 .1 .1)))
+    (s .pre .0, ((class-lt s, step-lt s), s .pre .1 .1))
 
 add-xs : tie.Need-add-xs
 add-xs c = search needs
+
+cast-xs : tie.Need-cast-xs
+cast-xs c = let s = c .before .before .before .before .before .before in omega (arith, s .pre .0 .given .few, s .pre .0 .given .m, s .pre .1 .0)
 
 mul-xs : tie.Need-mul-xs
 mul-xs c = search needs
@@ -62,13 +65,16 @@ add-result c = search needs
 returns : tie.Need-returns
 returns c =
     let s = c .before .before .before .before .before .before .before in
-    first-row _ (v s) (information-at (c .before .before .information .ensures) (row-is s)) (s .pre .1 .0) _ (s .pre .0 .1 .k) (c .if1 .taken)
+    first-row _ (v s) (information-at (c .before .before .information .ensures) (row-is s)) (s .pre .1 .0) _ (s .pre .0 .given .k) (c .if1 .taken)
 
 add-xs-2 : tie.Need-add-xs-2
 add-xs-2 c = search needs
 
 sub-xs : tie.Need-sub-xs
 sub-xs c = search needs
+
+cast-xs-2 : tie.Need-cast-xs-2
+cast-xs-2 c = let s = c .before .before .before .before .before .before .before .before in omega (arith, s .pre .0 .given .few, s .pre .0 .given .m, s .pre .1 .0)
 
 add-xs-3 : tie.Need-add-xs-3
 add-xs-3 c = search needs
@@ -85,24 +91,24 @@ add-result-2 c = search needs
 returns-2 : tie.Need-returns-2
 returns-2 c =
     let s = c .before .before .before .before .before .before .before .before in
-    later-row _ (v s) (information-at (c .before .before .before .information .ensures) (row-is s)) (s .pre .1 .0) _ (s .pre .0 .1 .k) (omega arith)
+    later-row _ (v s) (information-at (c .before .before .before .information .ensures) (row-is s)) (s .pre .1 .0) _ (s .pre .0 .given .k) (omega arith)
 
 pub of-row-spec : {M : Type 1} → statement M
 of-row-spec =
     tie.close
     (tie.spec
-    rem-r
-    mul-n
-    element-copy-out-n
     div-information
+    rem-information
     information-requires
     add-xs
+    cast-xs
     mul-xs
     element-write-xs
     add-result
     returns
     add-xs-2
     sub-xs
+    cast-xs-2
     add-xs-3
     mul-xs-2
     element-write-xs-2

@@ -13,6 +13,12 @@ Inv-loop table x counts₀ ready₀ js n i₀ counts ready i = (length counts �
 abbrev μ-loop : tie.MeasureT-loop
 μ-loop table x counts₀ ready₀ js n i₀ counts ready i = n - i
 
+returns : tie.Need-returns Inv-loop μ-loop
+returns c = search needs
+
+wide-requires : tie.Need-wide-requires Inv-loop μ-loop
+wide-requires c κs = search needs
+
 column-requires : tie.Need-column-requires Inv-loop μ-loop
 column-requires c κs = search needs
 
@@ -49,8 +55,8 @@ loop-less c = search needs
 loop-again : tie.Need-loop-again Inv-loop μ-loop
 loop-again c = search needs
 
-returns : tie.Need-returns Inv-loop μ-loop
-returns c = search needs
+returns-2 : tie.Need-returns-2 Inv-loop μ-loop
+returns-2 c = search needs
 
 pub close-spec : {M : Type 1} → statement M
 close-spec =
@@ -58,6 +64,8 @@ close-spec =
     (tie.spec
     Inv-loop
     μ-loop
+    returns
+    wide-requires
     column-requires
     loop-holds
     mul-j
@@ -70,4 +78,4 @@ close-spec =
     add-i
     loop-less
     loop-again
-    returns)
+    returns-2)

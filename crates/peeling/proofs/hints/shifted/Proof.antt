@@ -22,6 +22,9 @@ mul-wide c = search needs
 add-wide : tie.Need-add-wide Inv-loop μ-loop
 add-wide c = search needs
 
+add-wide-2 : tie.Need-add-wide-2 Inv-loop μ-loop
+add-wide-2 c = search needs
+
 mul-wide-2 : tie.Need-mul-wide-2 Inv-loop μ-loop
 mul-wide-2 c = search needs
 
@@ -64,6 +67,7 @@ shifted-spec =
     loop-holds
     mul-wide
     add-wide
+    add-wide-2
     mul-wide-2
     element-copy-out-wide
     wide-requires

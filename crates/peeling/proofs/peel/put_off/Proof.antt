@@ -7,9 +7,8 @@ use native.Mathlib.Omega.{arith}
 use lib.ListN.{length}
 use borrow.Author.Needs.{needs}
 use Rattle.algebra.proofs.Codeword.{slot}
-use Rattle.peeling.specs.Table.{checks}
+use Rattle.encoder.specs.inner.Positions.{checks}
 use Rattle.peeling.specs.Peel.{State}
-use Rattle.peeling.proofs.HintLaws.{fits-of}
 use Rattle.peeling.proofs.CodeSizes.{symbols-of}
 use Rattle.peeling.proofs.PlanLaws.{deferred}
 use Rattle.peeling.proofs.PeelLaws.{state-pass, state-defer}
@@ -17,7 +16,7 @@ use Rattle.peeling.proofs.peel.put_off.Statement.{statement}
 use Rattle.peeling.proofs.peel.put_off.Tie as tie
 
 all : (s : tie.Start) → s .args .s .layout .k + s .args .s .layout .m ≡ checks (s .args .s) .n
-all s = symbols-of _ _ (s .pre .1 .0 .1)
+all s = symbols-of _ _ (s .pre .0)
 
 abbrev start : tie.After-next-open → tie.Start
 start o = o .before .before .before .before .before .before
@@ -28,8 +27,8 @@ passed : (o : tie.After-next-open) {block states : List ℕ}
     let g = a .g in
     State (checks (a .s)) (a .s .w) block states (a .plan .now) (a .symbols .now) g
     → State (checks (a .s)) (a .s .w) block states (a .plan .now) (a .symbols .now)
-    (record { steps = g .steps; pivots = g .pivots; early = g .early; cursor = o .next-open .result; fuel = g .fuel })
-passed o S = state-pass S (all (start o)) (o .next-open .ensures)
+    (record { steps = g .steps; pivots = g .pivots; early = g .early; cursor = o .next-open .result; fuel = g .fuel; last = 65535 })
+passed o S = state-pass S 65535 (all (start o)) (o .next-open .ensures)
 
 below : (e : tie.Else1) → e .before .next-open .result < checks (start (e .before) .args .s) .n
 below e = omega (arith, all (start (e .before)), e .if1 .left)
@@ -37,7 +36,7 @@ below e = omega (arith, all (start (e .before)), e .if1 .left)
 few : (e : tie.Else1)
     → let s = start (e .before) .args in (s .g .pivots < 3072) × ((e .before .next-open .result < 3072) × (length (s .plan .now) ≡ 9216))
 few e =
-    let S = passed (e .before) (start (e .before) .pre .1 .1 .1 .state) in
+    let S = passed (e .before) (start (e .before) .pre .1 .1 .state) in
     (omega (arith, below e, S .pivots-below, S .made .positions), (omega (arith, below e, S .made .positions), S .made .size))
 
 add-n : tie.Need-add-n
@@ -46,8 +45,8 @@ add-n c = search needs
 next-open-requires : tie.Need-next-open-requires
 next-open-requires c κs =
     let s = c .before .before .before .before .before in
-    let m = s .pre .1 .1 .1 .state .made in
-    (omega (arith, all s, s .pre .1 .1 .0), omega (arith, all s, m .positions, m .size))
+    let m = s .pre .1 .1 .state .made in
+    (omega (arith, all s, s .pre .1 .0), omega (arith, all s, m .positions, m .size))
 
 same-length : tie.Need-same-length
 same-length c = search needs
@@ -55,25 +54,21 @@ same-length c = search needs
 returns : tie.Need-returns
 returns c =
     let s = start (c .before) in
-    (s .pre .0, record { state = λ block states S. passed (c .before) S; less = omega (arith, all s, s .pre .1 .1 .0, c .if1 .taken) })
+    record { state = λ block states S. passed (c .before) S; less = omega (arith, all s, s .pre .1 .0, c .if1 .taken) }
 
 defer-requires : tie.Need-defer-requires
 defer-requires c κs =
     let e = c .before .before in
-    (few e, omega (arith, slot _ _ (start (e .before) .args .s .w) (below e), start (e .before) .pre .1 .1 .1 .state .values .size))
+    (few e, omega (arith, slot _ _ (start (e .before) .args .s .w) (below e), start (e .before) .pre .1 .1 .state .values .size))
 
-close-requires : tie.Need-close-requires
-close-requires c κs =
-    let e = c .before .before .before .before .before .before .before .before .before in
-    let s = start (e .before) in
-    let h = s .pre .0 in
-    ((fits-of _ _ (s .pre .1 .0 .0) (s .pre .1 .0 .1), omega (arith, all s, below e), h .table-size), (h .counts-size, h .ready-size))
+add-t17 : tie.Need-add-t17
+add-t17 c = search needs
 
-add-t22 : tie.Need-add-t22
-add-t22 c = omega (arith, few (c .before .before .before .before .before .before .before .before .before .before) .0)
+add-t18 : tie.Need-add-t18
+add-t18 c = search needs
 
-add-t23 : tie.Need-add-t23
-add-t23 c = search needs
+cast-t19 : tie.Need-cast-t19
+cast-t19 c = omega (arith, few (c .before .before .before .before .before .before .before) .1 .0)
 
 same-length-2 : tie.Need-same-length-2
 same-length-2 c = search needs
@@ -83,18 +78,15 @@ same-length-3 c = search needs
 
 returns-2 : tie.Need-returns-2
 returns-2 c =
-    let d = c .before .before .before .before .before .before .before in
+    let d = c .before .before .before .before in
     let e = d .before .before .before in
     let o = e .before in
-    let s = start o in
-    let f = few e in (
-      record { table-size = s .pre .0 .table-size; counts-size = c .close .ensures .0; ready-size = c .close .ensures .1 },
-      record {
-        state = λ block states S. state-defer (passed o S) (below e) (o .next-open .ensures .found (omega (arith, e .if1 .left)))
-            (deferred _ _ _ (f .1 .1) (f .0) (f .1 .0) _ (d .defer .ensures .0)) (d .defer .ensures .1);
-        less = omega (arith, below e, o .next-open .ensures .after);
-      },
-    )
+    let f = few e in
+    record {
+      state = λ block states S. state-defer (passed o S) (below e) (o .next-open .ensures .found (omega (arith, e .if1 .left)))
+          (deferred _ _ _ (f .1 .1) (f .0) (f .1 .0) _ (d .defer .ensures .0)) (d .defer .ensures .1) _;
+      less = omega (arith, below e, o .next-open .ensures .after);
+    }
 
 pub put-off-spec : {M : Type 1} → statement M
 put-off-spec =
@@ -105,9 +97,9 @@ put-off-spec =
     same-length
     returns
     defer-requires
-    close-requires
-    add-t22
-    add-t23
+    add-t17
+    add-t18
+    cast-t19
     same-length-2
     same-length-3
     returns-2)

@@ -1,33 +1,33 @@
 -- `peeling::peel::try_row` meets its contract: the row is passed over, or its only open position is settled.
 -- Assumes nothing.
+use mathlib.Core.Path.{refl}
 use lib.ListN.{length-set}
 use Prim.Native.Nat.{_<_}
 use native.Mathlib.Omega.{arith}
 use borrow.Author.Needs.{needs}
-use Rattle.peeling.specs.Table.{checks}
-use Rattle.peeling.proofs.HintLaws.{fits-of}
+use Rattle.encoder.specs.inner.Positions.{checks}
 use Rattle.peeling.proofs.CodeSizes.{row-count}
 use Rattle.peeling.proofs.PeelLaws.{state-late, settle-ready, state-settled}
 use Rattle.peeling.proofs.peel.try_row.Statement.{statement}
 use Rattle.peeling.proofs.peel.try_row.Tie as tie
 
 row-lt : (s : tie.Start) → s .args .r < checks (s .args .s) .m
-row-lt s = omega (arith, s .pre .1 .1 .1 .0 .0, row-count (s .args .s .number))
+row-lt s = omega (arith, s .pre .1 .1 .0 .0, row-count (s .args .s .number))
 
-few-steps : (e : tie.Else2) → e .before .before .before .before .before .before .before .before .before .before .before .args .g .steps < 1024
-few-steps e =
-    let s = e .before .before .before .before .before .before .before .before .before .before .before in
-    settle-ready (s .pre .1 .1 .1 .1 .state) (e .before .before .before .before .before .before .before .of-row .ensures) (row-lt s) (e .before .before .if1 .left) (e .before .before .before .before .single .ensures) (e .if2 .left) .0 .0
+-- the row has one open position, and no step used it
+module _ (e : tie.Else2) where
+  abbrev start : tie.Start
+  start = e .before .before .before .before .before .before .before .before .before .before .before
+
+  few-steps : start .args .g .steps < 1024
+  few-steps = settle-ready (start .pre .1 .1 .1 .state) (e .before .before .before .before .before .before .before .of-row .ensures) (row-lt start) (e .before .before .if1 .left) (e .before .before .before .before .single .ensures) (e .if2 .left) _ refl .0 .0
 
 of-row-requires : tie.Need-of-row-requires
-of-row-requires c κs =
-    let s = c .before .before .before in
-    let h = s .pre .1 .0 in
-    ((h .known, h .given), (s .pre .1 .1 .1 .0 .0, ((h .laid, h .counted), s .pre .1 .1 .0)))
+of-row-requires c κs = let s = c .before .before .before in (s .pre .0, (s .pre .1 .1 .0 .0, s .pre .1 .0))
 
 single-requires : tie.Need-single-requires
 single-requires c κs =
-    let m = c .before .before .before .before .before .before .pre .1 .1 .1 .1 .state .made in
+    let m = c .before .before .before .before .before .before .pre .1 .1 .1 .state .made in
     let R = c .before .before .of-row .ensures in
     ((R .few, R .size), λ i h. omega (arith, R .below i h, m .positions, m .size))
 
@@ -40,18 +40,19 @@ same-length c = search needs
 returns : tie.Need-returns
 returns c =
     let s = c .before .before .before .before .before .before .before .before .before in
-    (c .before .before .before .before .before .of-row .ensures .size, (s .pre .0, record { state = λ block states S. state-late S _; less = omega (arith, s .pre .1 .1 .1 .0 .1) }))
+    (c .before .before .before .before .before .of-row .ensures .size, record { state = λ block states S. state-late S _ _; less = omega (arith, s .pre .1 .1 .0 .1) })
 
 add-if2 : tie.Need-add-if2
-add-if2 c = omega (arith, row-lt (c .before .before .before .before .before .before .before .before .before), c .before .before .before .before .before .before .before .before .before .pre .1 .1 .1 .1 .state .made .rows)
+add-if2 c = let s = c .before .before .before .before .before .before .before .before .before in omega (arith, row-lt s, s .pre .1 .1 .1 .state .made .rows)
 
 mul-if2 : tie.Need-mul-if2
-mul-if2 c = omega (arith, row-lt (c .before .before .before .before .before .before .before .before .before), c .before .before .before .before .before .before .before .before .before .pre .1 .1 .1 .1 .state .made .rows)
+mul-if2 c = let s = c .before .before .before .before .before .before .before .before .before in omega (arith, row-lt s, s .pre .1 .1 .1 .state .made .rows)
 
 slice-read-if2 : tie.Need-slice-read-if2
 slice-read-if2 c =
-    let m = c .before .before .before .before .before .before .before .before .before .before .pre .1 .1 .1 .1 .state .made in
-    omega (arith, row-lt (c .before .before .before .before .before .before .before .before .before .before), m .rows, m .size)
+    let s = c .before .before .before .before .before .before .before .before .before .before in
+    let m = s .pre .1 .1 .1 .state .made in
+    omega (arith, row-lt s, m .rows, m .size)
 
 same-length-2 : tie.Need-same-length-2
 same-length-2 c = search needs
@@ -59,7 +60,7 @@ same-length-2 c = search needs
 returns-2 : tie.Need-returns-2
 returns-2 c =
     let s = c .before .before .before .before .before .before .before .before .before .before .before in
-    (c .before .before .before .before .before .before .before .of-row .ensures .size, (s .pre .0, record { state = λ block states S. state-late S _; less = omega (arith, s .pre .1 .1 .1 .0 .1) }))
+    (c .before .before .before .before .before .before .before .of-row .ensures .size, record { state = λ block states S. state-late S _ _; less = omega (arith, s .pre .1 .1 .0 .1) })
 
 mul-p : tie.Need-mul-p
 mul-p c = omega (arith, c .before .before .before .before .before .before .before .of-row .ensures .few, c .before .before .before .before .before .before .before .of-row .ensures .size, c .before .before .if1 .left)
@@ -82,33 +83,26 @@ mul-xs-2 c = omega (arith, c .before .before .before .before .before .before .be
 element-write-xs : tie.Need-element-write-xs
 element-write-xs c = omega (arith, c .before .before .before .before .before .before .before .before .before .of-row .ensures .few, c .before .before .before .before .before .before .before .before .before .of-row .ensures .size, c .before .before .before .before .if1 .left)
 
+wide-requires : tie.Need-wide-requires
+wide-requires c κs = search needs
+
 sub-settle : tie.Need-sub-settle
-sub-settle c = omega (arith, c .before .before .before .before .before .before .before .before .before .before .of-row .ensures .few, c .before .before .before .before .before .before .before .before .before .before .of-row .ensures .size, c .before .before .before .before .before .if1 .left)
+sub-settle c = omega (arith, c .before .before .before .before .before .before .before .before .before .before .before .of-row .ensures .few, c .before .before .before .before .before .before .before .before .before .before .before .of-row .ensures .size, c .before .before .before .before .before .before .if1 .left)
 
 settle-requires : tie.Need-settle-requires
 settle-requires c κs =
-    let e = c .before .before .before .before .before in
-    let s = e .before .before .before .before .before .before .before .before .before .before .before in
-    settle-ready (s .pre .1 .1 .1 .1 .state) (e .before .before .before .before .before .before .before .of-row .ensures) (row-lt s) (e .before .before .if1 .left) (e .before .before .before .before .single .ensures) (e .if2 .left)
-
-close-requires : tie.Need-close-requires
-close-requires c κs =
-    let s = c .before .before .before .before .before .before .before .before .before .before .before .before .before .before .before .before .before .before .before .before .before .before .before in
-    let R = c .before .before .before .before .before .before .before .before .before .before .before .before .before .before .before .before .before .before .before .of-row .ensures in
-    let h = s .pre .0 in
-    let p = R .below _ (c .before .before .before .before .before .before .before .before .before .before .before .before .before .before .if1 .left) in (
-      (fits-of _ _ (s .pre .1 .0 .known) (s .pre .1 .0 .given), omega (arith, p, s .pre .1 .1 .1 .1 .state .made .positions), h .table-size),
-      (h .counts-size, h .ready-size),
-    )
+    let e = c .before .before .before .before .before .before in
+    let s = start e in
+    settle-ready (s .pre .1 .1 .1 .state) (e .before .before .before .before .before .before .before .of-row .ensures) (row-lt s) (e .before .before .if1 .left) (e .before .before .before .before .single .ensures) (e .if2 .left) _ (c .before .before .before .wide .ensures .0)
 
 early-steps-requires : tie.Need-early-steps-requires
-early-steps-requires c κs = few-steps (c .before .before .before .before .before .before .before .before .before .before .before .before .before)
+early-steps-requires c κs = few-steps (c .before .before .before .before .before .before .before .before .before .before .before)
 
-add-t33 : tie.Need-add-t33
-add-t33 c = omega (arith, few-steps (c .before .before .before .before .before .before .before .before .before .before .before .before .before .before))
+add-t18 : tie.Need-add-t18
+add-t18 c = omega (arith, few-steps (c .before .before .before .before .before .before .before .before .before .before .before .before))
 
-sub-t25 : tie.Need-sub-t25
-sub-t25 c = omega (arith, c .before .before .before .before .before .before .before .before .before .before .before .before .before .before .before .before .before .before .before .before .before .before .before .before .before .before .pre .1 .1 .1 .0 .1)
+sub-t27 : tie.Need-sub-t27
+sub-t27 c = omega (arith, start (c .before .before .before .before .before .before .before .before .before .before .before .before .before) .pre .1 .1 .0 .1)
 
 same-length-3 : tie.Need-same-length-3
 same-length-3 c = search needs
@@ -118,19 +112,15 @@ same-length-4 c = search needs
 
 returns-3 : tie.Need-returns-3
 returns-3 c =
-    let f = c .before .before .before .before .before .before .before .before .before in
-    let e = f .before .before .before .before .before .before in
-    let s = e .before .before .before .before .before .before .before .before .before .before .before in
-    let h = s .pre .0 in (
+    let f = c .before .before .before .before .before .before in
+    let e = f .before .before .before .before .before .before .before in
+    let s = start e in (
       simp length-set (e .before .before .before .before .before .before .before .of-row .ensures .size),
-      (
-        record { table-size = h .table-size; counts-size = c .before .before .close .ensures .0; ready-size = c .before .before .close .ensures .1 },
-        record {
-          state = λ block states S. state-settled S (e .before .before .before .before .before .before .before .of-row .ensures) (row-lt s) (e .before .before .if1 .left) (e .before .before .before .before .single .ensures) (e .if2 .left) _ _ (f .settle .ensures .0) (f .settle .ensures .1)
-              (c .before .early-steps .ensures);
-          less = omega (arith, s .pre .1 .1 .1 .0 .1);
-        },
-      ),
+      record {
+        state = λ block states S. state-settled S (e .before .before .before .before .before .before .before .of-row .ensures) (row-lt s) (e .before .before .if1 .left) (e .before .before .before .before .single .ensures) (e .if2 .left) _ (f .before .before .before .before .wide .ensures .0) _ _ _ (f .settle .ensures .0) (f .settle .ensures .1)
+            (c .before .early-steps .ensures);
+        less = omega (arith, s .pre .1 .1 .0 .1);
+      },
     )
 
 pub try-row-spec : {M : Type 1} → statement M
@@ -154,12 +144,12 @@ try-row-spec =
     element-copy-out-xs
     mul-xs-2
     element-write-xs
+    wide-requires
     sub-settle
     settle-requires
-    close-requires
     early-steps-requires
-    add-t33
-    sub-t25
+    add-t18
+    sub-t27
     same-length-3
     same-length-4
     returns-3)

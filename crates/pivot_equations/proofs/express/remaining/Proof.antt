@@ -1,37 +1,62 @@
+-- `pivot_equations::express::remaining` meets its contract: the unused check rows before j are expressed.
+-- Assumes nothing.
 use mathlib.Core.Path.{_≡_}
-use Prim.Native.Nat.{_+_, _-_, _≤_}
+use mathlib.Core.List.{List}
+use Prim.Native.Nat.{ℕ, _+_, _-_, _≤_}
 use native.Mathlib.Omega.{arith}
 use lib.ListN.{length}
 use Rattle.algebra.specs.Codeword.{Checks}
-use Rattle.peeling.specs.Table.{checks}
+use Rattle.encoder.specs.inner.Positions.{checks}
 use Rattle.peeling.specs.Plan.{unusedBelow}
 use Rattle.pivot_equations.specs.Express.{Places, SameBelow, RestTo}
+use Rattle.pivot_equations.specs.declared.express.Rows.{Rows}
 use Rattle.peeling.proofs.CodeSizes.{row-count}
 use Rattle.pivot_equations.proofs.Expressed.{below-none, below-more, places-any}
 use Rattle.pivot_equations.proofs.express.remaining.Statement.{statement}
 use Rattle.pivot_equations.proofs.express.remaining.Tie as tie
 
+-- the unused check rows before j are expressed in rows up to t, and nothing of the steps has changed
+record Expressed (c : Checks) (r : Rows) (plan words words′ xs : List ℕ) (m t j : ℕ) : Type 0 where
+  size : length xs ≡ 64
+  to : j ≤ m
+  next : t ≡ r .steps + unusedBelow plan j
+  expressed : RestTo c plan words′ (r .packed) (r .early) (r .steps) j
+  steps : SameBelow words words′ (r .packed) (r .steps)
+
 abbrev Inv-loop : tie.InvT-loop
-Inv-loop s r firsts ends classes plan words₀ m xs₀ t₀ j₀ words xs t j =
-    (length xs ≡ 64) × ((j ≤ m) × ((t ≡ r .steps + unusedBelow plan j) × (RestTo (checks s) plan words (r .packed) (r .early) (r .steps) j × SameBelow words₀ words (r .packed) (r .steps))))
+Inv-loop s r table plan words₀ m xs₀ t₀ j₀ words xs t j = Expressed (checks s) r plan words₀ words xs m t j
 
 abbrev μ-loop : tie.MeasureT-loop
-μ-loop s r firsts ends classes plan words₀ m xs₀ t₀ j₀ words xs t j = m - j
+μ-loop s r table plan words₀ m xs₀ t₀ j₀ words xs t j = m - j
 
 no-positions-requires : tie.Need-no-positions-requires Inv-loop μ-loop
 no-positions-requires c κs = tt
 
 loop-holds : tie.Need-loop-holds Inv-loop μ-loop
 unfolding unusedBelow
-loop-holds c = (c .no-positions .ensures, (omega arith, (omega arith, (λ j i h. absurd (omega arith), below-none))))
+loop-holds c = record { size = c .no-positions .ensures; to = omega arith; next = omega arith; expressed = λ j i h. absurd (omega arith); steps = below-none }
 
 remaining-row-requires : tie.Need-remaining-row-requires Inv-loop μ-loop
 remaining-row-requires c κs =
-    let k : Checks = checks (c .before .before .before .before .before .before .before .before .args .s) in
-    let i = c .before .before .before .loop .inv in
-    let places : Places k (c .before .before .before .before .before .before .before .before .args .plan .now) (c .before .before .before .loop .words) (c .before .before .before .before .before .before .before .before .args .r .packed) (c .before .before .before .before .before .before .before .before .args .r .steps) (k .m) =
-    places-any (c .before .before .before .before .before .before .before .before .pre .1 .0 .made) (c .before .before .before .before .before .before .before .before .pre .1 .0 .closed) (c .before .before .before .before .before .before .before .before .pre .1 .1 .1 .1) (c .before .before .before .before .before .before .before .before .args .words .now) (c .before .before .before .loop .words) (c .before .before .before .before .before .before .before .before .args .r .packed) (k .m) (c .before .before .before .before .before .before .before .before .pre .1 .1 .1 .0) in
-    (c .before .before .before .before .before .before .before .before .pre .0, (i .0, (c .before .before .before .before .before .before .before .before .pre .1 .0, (record { few = c .before .before .before .before .before .before .before .before .pre .1 .1 .0 .few; fit = omega (arith, c .before .before .before .before .before .before .before .before .pre .1 .1 .0 .fit, i .1 .1 .1 .1 .size); enough = c .before .before .before .before .before .before .before .before .pre .1 .1 .0 .enough }, (places, (c .before .before .before .before .before .before .before .before .pre .1 .1 .1 .1, ((omega (arith, c .before .before .before .before .before .before .before .before .pre .0 .given .m), i .1 .1 .0), i .1 .1 .1 .0)))))))
+    let s = c .before .before .before .before .before .before .before .before in
+    let a = s .args in
+    let p = s .pre .1 in
+    let k : Checks = checks (a .s) in
+    let l = c .before .before .before .loop in
+    let i = l .inv in
+    let places : Places k (a .plan .now) (l .words) (a .r .packed) (a .r .steps) (k .m) = places-any (p .0 .made) (p .0 .closed) (p .1 .1 .1) (a .words .now) (l .words) (a .r .packed) (k .m) (p .1 .1 .0) in (
+      s .pre .0,
+      (
+        i .size,
+        (
+          p .0,
+          (
+            record { few = p .1 .0 .few; fit = omega (arith, p .1 .0 .fit, i .steps .size); enough = p .1 .0 .enough },
+            (places, (p .1 .1 .1, ((omega (arith, s .pre .0 .given .m), i .next), i .expressed))),
+          ),
+        ),
+      ),
+    )
 
 add-j : tie.Need-add-j Inv-loop μ-loop
 add-j c = omega arith
@@ -43,16 +68,17 @@ loop-again : tie.Need-loop-again Inv-loop μ-loop
 loop-again c =
     let i = c .before .before .before .before .before .before .loop .inv in
     let r = c .before .before .remaining-row .ensures in
-    (r .0, (omega arith, (r .1 .0, (r .1 .1 .0, below-more (i .1 .1 .1 .1) (r .1 .1 .1)))))
+    record { size = r .0; to = omega arith; next = r .1 .0; expressed = r .1 .1 .0; steps = below-more (i .steps) (r .1 .1 .1) }
 
 same-length : tie.Need-same-length Inv-loop μ-loop
-same-length c = c .before .loop .inv .1 .1 .1 .1 .size
+same-length c = c .before .loop .inv .steps .size
 
 returns : tie.Need-returns Inv-loop μ-loop
 returns c =
     let i = c .before .loop .inv in
-    let e : c .before .loop .j ≡ checks (c .before .before .before .before .before .before .args .s) .m = omega (arith, c .before .before .before .before .before .before .pre .0 .given .m, row-count (c .before .before .before .before .before .before .args .s .number)) in
-    (rw e at (i .1 .1 .1 .0), i .1 .1 .1 .1)
+    let s = c .before .before .before .before .before .before in
+    let e : c .before .loop .j ≡ checks (s .args .s) .m = omega (arith, i .to, s .pre .0 .given .m, row-count (s .args .s .number)) in
+    (rw e at (i .expressed), i .steps)
 
 pub remaining-spec : {M : Type 1} → statement M
 remaining-spec =

@@ -1,9 +1,11 @@
+-- `pivot_equations::express::remaining_row` meets its contract.
+-- Assumes nothing.
 use mathlib.Core.Path.{_≡_, sym, ap, _∙_}
 use mathlib.Core.Logic.{_≢_}
 use Prim.Native.Nat.{ℕ, _+_, _*_, _<_}
 use native.Mathlib.Omega.{arith}
 use Rattle.algebra.specs.Codeword.{Checks}
-use Rattle.peeling.specs.Table.{checks}
+use Rattle.encoder.specs.inner.Positions.{checks}
 use Rattle.peeling.specs.Plan.{usedBy}
 use Rattle.peeling.proofs.CodeSizes.{row-count}
 use Rattle.peeling.proofs.UnusedRows.{unused-none, unused-one}

@@ -4,18 +4,18 @@ use mathlib.Core.Path.{_≡_}
 use Prim.Native.Nat.{_≤_, _-_}
 use native.Mathlib.Omega.{arith}
 use lib.ListN.{length}
-use Rattle.peeling.specs.Table.{checks}
+use Rattle.encoder.specs.inner.Positions.{checks}
 use Rattle.peeling.proofs.CodeSizes.{layout-rows}
 use Rattle.pivot_equations.proofs.UnusedSums.{Passed, pass-more, pass-not}
 use Rattle.pivot_equations.proofs.remaining.hold.Statement.{statement}
 use Rattle.pivot_equations.proofs.remaining.hold.Tie as tie
 
 abbrev Inv-loop : tie.InvT-loop
-Inv-loop s firsts ends classes plan symbols m xs₀ j₀ xs j =
+Inv-loop s table plan symbols m xs₀ j₀ xs j =
     (j ≤ m) × (length xs ≡ 64) × Passed (checks s) (s .w) plan symbols j
 
 abbrev μ-loop : tie.MeasureT-loop
-μ-loop s firsts ends classes plan symbols m xs₀ j₀ xs j = m - j
+μ-loop s table plan symbols m xs₀ j₀ xs j = m - j
 
 no-positions-requires : tie.Need-no-positions-requires Inv-loop μ-loop
 no-positions-requires c κs = tt

@@ -20,7 +20,7 @@ returns : tie.Need-returns
 returns c = search needs
 
 of-row-requires : tie.Need-of-row-requires
-of-row-requires c κs = let t = c .before .before .before .before .before .pre .0 in ((t .known, t .given), (row-known t _ (c .before .before .before .before .before .pre .1 .0 .1), ((t .laid, t .counted), c .before .before .before .before .before .pre .1 .0 .0)))
+of-row-requires c κs = let t = c .before .before .before .before .before .pre .0 in (t, (row-known t _ (c .before .before .before .before .before .pre .1 .0 .1), c .before .before .before .before .before .pre .1 .0 .0))
 
 cancels-requires : tie.Need-cancels-requires
 cancels-requires c κs = row-inside (c .before .of-row .ensures) (c .before .before .before .before .before .before .before .pre .1 .1 .1)

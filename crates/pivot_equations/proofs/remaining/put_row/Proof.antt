@@ -21,7 +21,7 @@ returns : tie.Need-returns
 returns c = (c .before .before .before .before .before .pre .1 .0 .0, sides-used _ _ _ _ (c .before .before .before .before .before .pre .1 .1 .1) (c .if1 .taken))
 
 of-row-requires : tie.Need-of-row-requires
-of-row-requires c κs = let t = c .before .before .before .before .before .before .pre .0 in ((t .known, t .given), (row-known t _ (c .before .before .before .before .before .before .pre .1 .0 .1), ((t .laid, t .counted), c .before .before .before .before .before .before .pre .1 .0 .0)))
+of-row-requires c κs = let t = c .before .before .before .before .before .before .pre .0 in (t, (row-known t _ (c .before .before .before .before .before .before .pre .1 .0 .1), c .before .before .before .before .before .before .pre .1 .0 .0))
 
 put-sum-requires : tie.Need-put-sum-requires
 put-sum-requires c κs = ((omega arith, sides-room _ _ _ _ (c .before .before .before .before .before .before .before .before .before .pre .1 .1 .1) (c .before .before .before .before .before .before .before .before .before .pre .1 .0 .1)), row-inside (c .before .before .of-row .ensures) (c .before .before .before .before .before .before .before .before .before .pre .1 .1 .0 .1))

@@ -4,7 +4,7 @@ use mathlib.Core.Path.{_≡_, sym, _∙_}
 use Prim.Native.Nat.{_≤_, _-_}
 use native.Mathlib.Omega.{arith}
 use lib.ListN.{length}
-use Rattle.peeling.specs.Table.{checks}
+use Rattle.encoder.specs.inner.Positions.{checks}
 use Rattle.pivot_equations.specs.Unused.{SidesTo}
 use Rattle.peeling.proofs.CodeSizes.{layout-rows}
 use Rattle.pivot_equations.proofs.UnusedSums.{sides-none, sides-all}
@@ -12,11 +12,11 @@ use Rattle.pivot_equations.proofs.remaining.sums.Statement.{statement}
 use Rattle.pivot_equations.proofs.remaining.sums.Tie as tie
 
 abbrev Inv-loop : tie.InvT-loop
-Inv-loop s firsts ends classes plan symbols bytes₀ m xs₀ i₀ j₀ bytes xs i j =
+Inv-loop s table plan symbols bytes₀ m xs₀ i₀ j₀ bytes xs i j =
     (j ≤ m) × (length xs ≡ 64) × SidesTo (checks s) (s .w) plan symbols bytes j i
 
 abbrev μ-loop : tie.MeasureT-loop
-μ-loop s firsts ends classes plan symbols bytes₀ m xs₀ i₀ j₀ bytes xs i j = m - j
+μ-loop s table plan symbols bytes₀ m xs₀ i₀ j₀ bytes xs i j = m - j
 
 no-positions-requires : tie.Need-no-positions-requires Inv-loop μ-loop
 no-positions-requires c κs = tt

@@ -1,6 +1,6 @@
--- `pivot_equations::again::others` meets its contract: of the first i numbers, those other than p stand at the front.
+-- `pivot_equations::restore::others` meets its contract: of the first i numbers, those other than p stand at the front.
 -- Assumes nothing.
-use mathlib.Core.Path.{refl}
+use mathlib.Core.Path.{refl, sym, _∙_}
 use mathlib.Core.Logic.{⊎-elim}
 use Prim.Native.Nat.{_≤_, _-_}
 use native.Mathlib.Omega.{arith}
@@ -30,8 +30,11 @@ mul-xs c = omega (arith, c .before .before .loop .inv .1 .size, c .before .befor
 element-write-xs : tie.Need-element-write-xs Inv-loop μ-loop
 element-write-xs c = omega (arith, c .before .before .loop .inv .1 .size, c .before .before .loop .inv .1 .few)
 
+wide-requires : tie.Need-wide-requires Inv-loop μ-loop
+wide-requires c κs = tt
+
 add-k : tie.Need-add-k Inv-loop μ-loop
-add-k c = omega (arith, c .before .before .before .loop .inv .1 .few)
+add-k c = omega (arith, c .before .before .before .before .loop .inv .1 .few)
 
 add-i : tie.Need-add-i Inv-loop μ-loop
 add-i c = omega arith
@@ -41,9 +44,10 @@ loop-less c = omega arith
 
 loop-again : tie.Need-loop-again Inv-loop μ-loop
 loop-again c =
-    let h = c .before .before .before .loop .inv .1 in (
+    let h = c .before .before .before .before .loop .inv .1 in
+    let e = c .before .wide .ensures .0 in (
       omega arith,
-      ⊎-elim (λ v. others-at (others-skip h (omega arith) (v .0 .taken)) refl (v .1)) (λ v. others-at (others-take h (omega arith) (v .0 .left)) refl (v .1)) (c .if1 .came),
+      ⊎-elim (λ v. others-at (others-skip h (omega arith) (sym e ∙ v .0 .taken)) refl (v .1)) (λ v. others-at (others-take h (omega arith) (λ d. v .0 .left (e ∙ d))) refl (v .1)) (c .if1 .came),
     )
 
 returns : tie.Need-returns Inv-loop μ-loop
@@ -60,6 +64,7 @@ others-spec =
     element-copy-out-x
     mul-xs
     element-write-xs
+    wide-requires
     add-k
     add-i
     loop-less

@@ -12,7 +12,7 @@ use Rattle.pivot_equations.proofs.restore.restore_by.Statement.{stateme
 use Rattle.pivot_equations.proofs.restore.restore_by.Tie as tie
 
 of-row-requires : tie.Need-of-row-requires
-of-row-requires c κs = let t = c .before .before .pre .0 in ((t .known, t .given), (row-known t _ (c .before .before .pre .1 .0 .1 .0), ((t .laid, t .counted), c .before .before .pre .1 .0 .0)))
+of-row-requires c κs = let t = c .before .before .pre .0 in (t, (row-known t _ (c .before .before .pre .1 .0 .1 .0), c .before .before .pre .1 .0 .0))
 
 others-requires : tie.Need-others-requires
 others-requires c κs = search needs

@@ -1,22 +1,31 @@
 -- `pivot_equations::restore::restore_steps` meets its contract: the first t steps hold.
 -- Assumes nothing.
 use mathlib.Core.Path.{_≡_, _∙_}
-use Prim.Native.Nat.{_≤_, _<_, _+_, _-_}
+use mathlib.Core.List.{List}
+use Prim.Native.Nat.{ℕ, _≤_, _<_, _+_, _-_}
 use native.Mathlib.Omega.{arith}
 use lib.ListN.{length}
-use Rattle.peeling.specs.Table.{checks}
+use Rattle.algebra.specs.Codeword.{Checks}
+use Rattle.encoder.specs.inner.Positions.{checks}
 use Rattle.peeling.specs.Values.{StepsRestored}
 use Rattle.peeling.proofs.StepLaws.{few-steps}
+use Rattle.pivot_equations.specs.declared.express.Rows.{Rows}
 use Rattle.pivot_equations.proofs.Restored.{restored-none, restored-more, restored-all}
 use Rattle.pivot_equations.proofs.restore.restore_steps.Statement.{statement}
 use Rattle.pivot_equations.proofs.restore.restore_steps.Tie as tie
 
+-- the steps from `early` to t are restored
+record Restored (c : Checks) (w : ℕ) (r : Rows) (plan symbols symbols′ xs : List ℕ) (t : ℕ) : Type 0 where
+  size : length xs ≡ 64
+  from : r .early ≤ t
+  to : t ≤ r .steps
+  restored : StepsRestored c w plan symbols symbols′ (r .early) t
+
 abbrev Inv-loop : tie.InvT-loop
-Inv-loop s r firsts ends classes plan symbols₀ xs₀ t₀ symbols xs t =
-    ((r .early ≤ t) × (t ≤ r .steps)) × (length xs ≡ 64) × StepsRestored (checks s) (s .w) plan symbols₀ symbols (r .early) t
+Inv-loop s r table plan symbols₀ xs₀ t₀ symbols xs t = Restored (checks s) (s .w) r plan symbols₀ symbols xs t
 
 abbrev μ-loop : tie.MeasureT-loop
-μ-loop s r firsts ends classes plan symbols₀ xs₀ t₀ symbols xs t = r .steps - t
+μ-loop s r table plan symbols₀ xs₀ t₀ symbols xs t = r .steps - t
 
 few : (c : tie.Then1 Inv-loop μ-loop) → c .before .before .loop .t < 1024
 few c = omega (arith, few-steps (c .before .before .before .before .before .before .pre .1 .0 .made))
@@ -25,7 +34,9 @@ no-positions-requires : tie.Need-no-positions-requires Inv-loop μ-loop
 no-positions-requires c κs = tt
 
 loop-holds : tie.Need-loop-holds Inv-loop μ-loop
-loop-holds c = ((omega arith, omega (arith, c .before .before .before .pre .1 .0 .made .early-steps)), c .no-positions .ensures, restored-none _ _ (c .before .before .before .pre .1 .0 .made) (c .before .before .before .pre .1 .1 .1))
+loop-holds c =
+    let p = c .before .before .before .pre .1 in
+    record { size = c .no-positions .ensures; from = omega arith; to = p .0 .made .early-steps; restored = restored-none _ _ (p .0 .made) (p .1 .1) }
 
 add-restore-by : tie.Need-add-restore-by Inv-loop μ-loop
 add-restore-by c = omega (arith, few c)
@@ -53,8 +64,10 @@ cast-restore-by-2 c = omega (arith, c .shared-slice-known3 .given (7168 + c .bef
 
 restore-by-requires : tie.Need-restore-by-requires Inv-loop μ-loop
 restore-by-requires c κs =
-    let step = c .before .before .before .before .before .before .before .before .before .before .pre .1 .0 .made .step (c .before .before .before .before .before .before .loop .t) (omega arith) in
-    (c .before .before .before .before .before .before .before .before .before .before .pre .0, ((c .before .before .before .before .before .before .loop .inv .1, (step .row, step .position)), c .before .before .before .before .before .before .loop .inv .2 .size ∙ c .before .before .before .before .before .before .before .before .before .before .pre .1 .1 .0))
+    let p = c .before .before .before .before .before .before .before .before .before .before .pre in
+    let l = c .before .before .before .before .before .before .loop in
+    let step = p .1 .0 .made .step (l .t) (omega arith) in
+    (p .0, ((l .inv .size, (step .row, step .position)), l .inv .restored .size ∙ p .1 .1 .0))
 
 add-t : tie.Need-add-t Inv-loop μ-loop
 add-t c = omega arith
@@ -63,13 +76,16 @@ loop-less : tie.Need-loop-less Inv-loop μ-loop
 loop-less c = omega arith
 
 loop-again : tie.Need-loop-again Inv-loop μ-loop
-loop-again c = ((omega arith, omega arith), c .before .before .restore-by .ensures .0, restored-more _ _ (c .before .before .before .before .before .before .before .before .before .before .before .before .before .pre .1 .0 .made) (c .before .before .before .before .before .before .before .before .before .loop .inv .0 .0) (omega arith) (c .before .before .before .before .before .before .before .before .before .loop .inv .2) (c .before .before .restore-by .ensures .1))
+loop-again c =
+    let i = c .before .before .before .before .before .before .before .before .before .loop .inv in
+    let r = c .before .before .restore-by .ensures in
+    record { size = r .0; from = omega (arith, i .from); to = omega arith; restored = restored-more _ _ (c .before .before .before .before .before .before .before .before .before .before .before .before .before .pre .1 .0 .made) (i .from) (omega arith) (i .restored) (r .1) }
 
 same-length : tie.Need-same-length Inv-loop μ-loop
-same-length c = c .before .before .loop .inv .2 .size
+same-length c = c .before .before .loop .inv .restored .size
 
 returns : tie.Need-returns Inv-loop μ-loop
-returns c = restored-all _ _ (c .before .before .before .before .before .before .pre .1 .0 .made) (c .before .before .loop .inv .2) (omega arith)
+returns c = restored-all _ _ (c .before .before .before .before .before .before .pre .1 .0 .made) (c .before .before .loop .inv .restored) (omega (arith, c .before .before .loop .inv .to))
 
 pub restore-steps-spec : {M : Type 1} → statement M
 restore-steps-spec =
