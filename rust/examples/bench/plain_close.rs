@@ -105,6 +105,9 @@ impl Plan {
 
     /// Settles every missing position by a check row, or puts it off; a pivot counts as zero.
     fn peel(&mut self, symbols: &mut [u8], marks: &[u8]) {
+        if marks.iter().fold(0, |missing, &mark| missing | (mark ^ 1)) == 0 {
+            return;
+        }
         let w = self.w;
         let mut counts = Counts::new(self.layout, marks);
         self.settle(symbols, &mut counts);
