@@ -12,13 +12,15 @@ ghost use Rattle.ccsds.specs.Tables.{codeOf, Known};
 ghost use Rattle.ccsds.specs.inner.Layout.{LayoutOf};
 ghost use Rattle.encoder.specs.inner.Positions.{entered, rowEntered, Classes, WithinRow, checks, Table, Information, RowOf};
 
-// A laid table has where the positions of each entry start, 64 places a class; from here on, where they end;
+// What a laid table holds. From 0 on: where the positions of each entry start, 64 places a class.
+
+// Where they end.
 const ENDS: usize = 512;
 
-// how many entries each class has;
+// How many entries each class has.
 const COUNTS: usize = 1024;
 
-// and the addresses as they stand in the standard's table, 8 places a row.
+// The addresses as they stand in the standard's table, 8 places a row.
 pub const ADDRESSES: usize = 1032;
 
 // The shape of a block: its code's number and layout, and the bytes of a symbol.
