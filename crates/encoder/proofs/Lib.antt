@@ -1,6 +1,6 @@
 pub mod Cycle
 pub mod Touched
-pub mod LaidTable
+pub mod ClassTable
 pub mod WholeRow
 pub mod Parity
 pub mod EncodeRefusal

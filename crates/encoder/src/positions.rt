@@ -12,7 +12,7 @@ ghost use Rattle.ccsds.specs.Tables.{codeOf, Known};
 ghost use Rattle.ccsds.specs.inner.Layout.{LayoutOf};
 ghost use Rattle.encoder.specs.inner.Positions.{entered, rowEntered, Classes, WithinRow, checks, Table, Information, RowOf};
 
-// What a laid table holds. From 0 on: where the positions of each entry start, 64 places a class.
+// What the table by class holds. From 0 on: where the positions of each entry start, 64 places a class.
 
 // Where they end.
 const ENDS: usize = 512;

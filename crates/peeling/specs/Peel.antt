@@ -2,7 +2,7 @@
 -- Assumes nothing.
 use mathlib.Core.Path.{_≡_}
 use mathlib.Core.Logic.{_≢_}
-use mathlib.Core.Bool.{true, false}
+use mathlib.Core.Bool.{Bool, true, false}
 use mathlib.Core.List.{List}
 use Prim.Native.Nat.{ℕ, _+_, _-_, _<_, _≤_}
 use lib.ListN.{length, getD}
@@ -18,6 +18,11 @@ pub record Opened (n : ℕ) (states plan : List ℕ) : Type 0 where
   pub known : (p : ℕ) → p < n → isKnown states p ≡ true → kindOf plan p ≡ 0
   pub open-kind : (p : ℕ) → p < n → isKnown states p ≡ false → kindOf plan p ≡ 65535
   pub unused : (k : ℕ) → 8192 ≤ k → getD plan k 0 ≡ 0
+
+-- r is the answer to: is every position known?
+abbrev pub AllKnownIs : List ℕ → Bool → Type 0
+AllKnownIs states true = (p : ℕ) → p < length states → isKnown states p ≡ true
+AllKnownIs states false = (p : ℕ) × ((p < length states) × (isKnown states p ≡ false))
 
 -- if r is below n, the r-th of the first n positions of xs is open, and no other is
 abbrev pub SingleIs : List ℕ → List ℕ → ℕ → ℕ → Type 0

@@ -14,7 +14,7 @@ use encoder::positions;
 use encoder::positions::Shape;
 ghost use mathlib.Core.Path.{_≡_};
 ghost use mathlib.Core.Logic.{_≢_};
-ghost use mathlib.Core.Bool.{true, cond};
+ghost use mathlib.Core.Bool.{cond};
 ghost use Prim.Native.Nat.{ℕ, _+_, _*_, _<_, _≤_};
 ghost use lib.Dec.{eqb};
 ghost use lib.ListN.{length, getD, set, replicate};
@@ -23,10 +23,9 @@ ghost use Rattle.symbol_sums.specs.Gather.{gathered, Inside, Replaced};
 ghost use Rattle.ccsds.specs.Tables.{codeOf};
 ghost use Rattle.ccsds.specs.inner.Layout.{LayoutOf};
 ghost use Rattle.encoder.specs.inner.Positions.{checks, Table};
-ghost use Rattle.peeling.specs.States.{isKnown};
 ghost use Rattle.peeling.specs.Values.{Peeled};
 ghost use Rattle.peeling.specs.Hints.{Hinted};
-ghost use Rattle.peeling.specs.Peel.{Opened, SingleIs, NextOpen, Reached, Continued};
+ghost use Rattle.peeling.specs.Peel.{Opened, AllKnownIs, SingleIs, NextOpen, Reached, Continued};
 
 // How far peeling has come: steps made, pivots put off, steps made before the first pivot, the position up to which none is open, how many rows may
 // still be tried, so that it ends, and the position that the last turn settled or put off, or NONE.
@@ -310,7 +309,7 @@ pub fn no_positions() -> [u16; 64]
 // No position is missing. Counted in 16 bits, so that eight states are tested at a time.
 fn none_missing(states: &[u8]) -> bool
     requires { ⌜ length (now states) ≤ 3072 ⌝ }
-    ensures { λ r. ⌜ (r ≡ true → (p : ℕ) → p < length (now (states .entry)) → isKnown (now (states .entry)) p ≡ true) ⌝ }
+    ensures { λ r. ⌜ AllKnownIs (now (states .entry)) r ⌝ }
 {
     let mut known: u16 = 0;
     let mut i = 0;

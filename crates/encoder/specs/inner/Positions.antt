@@ -55,7 +55,7 @@ positionAt q s e = e .0 * q + (q - e .1 + s) % q
 unfoldable pub positions : Params → ℕ → List ℕ
 positions c j = map (positionAt (c .q) (j / c .a)) (classOf c (j % c .a))
 
--- ---- the laid table: one array of 1,544 numbers
+-- ---- the table by class: one array of 1,544 numbers
 
 -- where the positions of entry i of class r start, and where they end
 abbrev pub firstAt : ℕ → ℕ → ℕ

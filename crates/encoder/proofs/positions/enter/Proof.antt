@@ -4,7 +4,7 @@ use Prim.Native.Nat.{_%_, _<_}
 use native.Mathlib.Omega.{arith}
 use native.Mathlib.Nat.{mod-lt}
 use borrow.Author.Needs.{needs}
-use Rattle.encoder.proofs.LaidTable.{entered-full, entered-room}
+use Rattle.encoder.proofs.ClassTable.{entered-full, entered-room}
 use Rattle.encoder.proofs.positions.enter.Statement.{statement}
 use Rattle.encoder.proofs.positions.enter.Tie as tie
 

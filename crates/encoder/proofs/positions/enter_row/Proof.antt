@@ -8,7 +8,7 @@ use lib.ListN.{length, getD}
 use Rattle.ccsds.specs.Tables.{codeOf}
 use Rattle.ccsds.proofs.Valid.{valid-of}
 use Rattle.encoder.specs.inner.Positions.{rowEntered}
-use Rattle.encoder.proofs.LaidTable.{row-size, address-fits, address-more}
+use Rattle.encoder.proofs.ClassTable.{row-size, address-fits, address-more}
 use Rattle.encoder.proofs.positions.enter_row.Statement.{statement}
 use Rattle.encoder.proofs.positions.enter_row.Tie as tie
 

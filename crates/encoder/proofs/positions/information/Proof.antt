@@ -17,12 +17,12 @@ use Rattle.encoder.proofs.positions.information.Statement.{statement}
 use Rattle.encoder.proofs.positions.information.Tie as tie
 
 -- of the first e of 64 elements, those before n are f's
-record Front (f : ℕ → ℕ) (n e : ℕ) (xs : List ℕ) : Type 0 where
+record EntriesTo (f : ℕ → ℕ) (n e : ℕ) (xs : List ℕ) : Type 0 where
   size : length xs ≡ 64
   each : (k : ℕ) → k < e → k < n → getD xs k 0 ≡ f k
 
-front-more : {f : ℕ → ℕ} {n e x : ℕ} {xs : List ℕ} → Front f n e xs → e < 64 → (e < n → x ≡ f e) → Front f n (e + 1) (set xs e x)
-front-more {f} {n} {e} {x} {xs} h l g = record { size = length-set xs e x ∙ h .size; each = λ k a b. go k a b (decLt k e) }
+entries-more : {f : ℕ → ℕ} {n e x : ℕ} {xs : List ℕ} → EntriesTo f n e xs → e < 64 → (e < n → x ≡ f e) → EntriesTo f n (e + 1) (set xs e x)
+entries-more {f} {n} {e} {x} {xs} h l g = record { size = length-set xs e x ∙ h .size; each = λ k a b. go k a b (decLt k e) }
   where
     go : (k : ℕ) → k < e + 1 → k < n → Dec (k < e) → getD (set xs e x) k 0 ≡ f k
     go k a b (yes d) = getD-set-other xs e k x 0 (λ z. omega arith) ∙ h .each k d b
@@ -31,7 +31,7 @@ front-more {f} {n} {e} {x} {xs} h l g = record { size = length-set xs e x ∙ h 
         ap (λ (t : ℕ). getD (set xs e x) t 0) (sym z) ∙ getD-set-same xs e x 0 (omega (arith, h .size)) ∙ g (omega arith) ∙ ap f z
 
 abbrev Inv-loop : tie.InvT-loop
-Inv-loop s table i r xs₀ n full e₀ xs e = (e ≤ full) × Front (λ (k : ℕ). getD (positions (codeOf (s .number)) (i * codeOf (s .number) .a + r)) k 0) n e xs
+Inv-loop s table i r xs₀ n full e₀ xs e = (e ≤ full) × EntriesTo (λ (k : ℕ). getD (positions (codeOf (s .number)) (i * codeOf (s .number) .a + r)) k 0) n e xs
 
 abbrev μ-loop : tie.MeasureT-loop
 μ-loop s table i r xs₀ n full e₀ xs e = full - e
@@ -161,7 +161,7 @@ loop-again : tie.Need-loop-again Inv-loop μ-loop
 loop-again c =
     let l = c .before .before .before .before .before .loop in
     let w = c .before .before .before .before .before .before in
-    (omega arith, front-more (l .inv .1) (omega (arith, full w)) (λ h. is w (l .e) h _ (c .further .ensures)))
+    (omega arith, entries-more (l .inv .1) (omega (arith, full w)) (λ h. is w (l .e) h _ (c .further .ensures)))
 
 returns : tie.Need-returns Inv-loop μ-loop
 returns c =

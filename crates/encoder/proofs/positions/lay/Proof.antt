@@ -6,7 +6,7 @@ use native.Mathlib.Omega.{arith}
 use lib.ListN.{length, length-replicate}
 use Rattle.ccsds.specs.Tables.{codeOf}
 use Rattle.encoder.specs.inner.Positions.{tableEntered}
-use Rattle.encoder.proofs.LaidTable.{row-more, table-size, few-classes, all-laid}
+use Rattle.encoder.proofs.ClassTable.{row-more, table-size, few-classes, all-laid}
 use Rattle.encoder.proofs.positions.lay.Statement.{statement}
 use Rattle.encoder.proofs.positions.lay.Tie as tie
 

@@ -1,11 +1,12 @@
 -- `peeling::peel::peel` meets its contract.
 -- Assumes nothing.
-use mathlib.Core.Path.{subst⁻¹}
+use mathlib.Core.Path.{subst, subst⁻¹}
 use Prim.Native.Nat.{_≤_}
 use native.Mathlib.Omega.{arith}
 use lib.ListN.{length}
 use borrow.Author.Needs.{needs}
 use Rattle.encoder.specs.inner.Positions.{checks}
+use Rattle.peeling.specs.Peel.{AllKnownIs}
 use Rattle.peeling.specs.Values.{Peeled}
 use Rattle.peeling.specs.declared.peel.Progress.{Progress}
 use Rattle.peeling.proofs.CodeSizes.{few-positions, few-rows}
@@ -33,7 +34,7 @@ returns c =
     let s = c .before .before .before .before .before .before .before .before .before .before in
     let o = c .before .before .before .before .before .open-missing .ensures in
     subst⁻¹ (λ (g : Progress). Peeled (checks (s .args .s)) (s .args .s .w) (s .args .symbols .now) (s .args .states .now) (c .before .before .before .before .before .open-missing .last .1 .0) (s .args .symbols .now) (g .early) (g .steps) (g .pivots)) (c .beginning .ensures)
-    (nothing-missing (few-positions (s .args .s .number)) (few-rows (s .pre .0)) (s .pre .1 .1 .1) (s .pre .1 .1 .0) o (c .before .before .none-missing .ensures (c .before .if1 .taken)))
+    (nothing-missing (few-positions (s .args .s .number)) (few-rows (s .pre .0)) (s .pre .1 .1 .1) (s .pre .1 .1 .0) o (subst (AllKnownIs (s .args .states .now)) (c .before .if1 .taken) (c .before .before .none-missing .ensures)))
 
 peel-open-requires : tie.Need-peel-open-requires
 peel-open-requires c κs = search needs
