@@ -1,27 +1,46 @@
 /*
- * Lipvezor: the erasure layer of a satellite downlink (codes C1 and C2 of CCSDS 131.5-O-1), for C11 and C++11.
+ * Lipvezor 0.3.0: the erasure layer of a satellite downlink (codes C1 and C2 of CCSDS 131.5-O-1), for C11 and C++11.
  *
  * Sending:   lipvezor_encode, then for each symbol lipvezor_show and lipvezor_write.
  * Receiving: lipvezor_open, lipvezor_take for each unit that arrives, in any order, and lipvezor_close. A block may be closed more than
  *            once, and units may be taken between two closes.
  *
- * Link with -llipvezor after make install (pkg-config knows it as lipvezor), or in the repository with target/staticlib/liblipvezor.a,
- * which is the same archive. It is for x86-64 Linux and needs no library but C's own. Nothing is allocated, no call keeps a pointer, and
- * no call reads or writes anything but what it was lent: two threads may call at the same time on different buffers. lipvezor_close takes
- * less than 40 KB of stack, lipvezor_encode less than 4 KB, every other call less than 1 KB (tests/stack measures it).
+ * Words
+ *   symbol    W bytes. k information symbols and the m parity symbols made from them are the n = k + m symbols of a block.
+ *   unit      the bytes that are sent for one symbol.
+ *   LSC       the block's number, 1 to 65534.
+ *   LWC       a symbol's number in its block, 1 to n: LWC 1 to k are information, k + 1 to n parity. A position counts from 0: LWC - 1.
  *
- * Numbers. Every call may be handed any numbers, bytes and lengths. What does not fit is refused: a refusal has a number from 1 on, the
- * first that applies is answered, in the order in which lipvezor_answer lists them, and a refused call has changed nothing that it was
- * lent. This is proved, for all inputs, of the code in the archive's source, together with what each call answers and leaves in each
- * buffer: crates/lipvezor states it.
+ * Answers. Every call returns 0 (LIPVEZOR_DONE) or the number of a refusal (enum lipvezor_refusal), and the compiler warns where that is
+ * not looked at. What else a call has to say it writes to a record that it was lent. Every call may be handed any numbers, bytes and
+ * lengths: what does not fit is refused, the first refusal that applies is returned, in the order of the enum, and a refused call has
+ * changed nothing that it was lent. All this is proved of the archive's source, for all inputs, and so is what each call answers and
+ * leaves in every buffer.
+ *
+ * A unit, byte by byte. It has no CRC-32: the frame or packet layer below adds that when it sends a unit, and tests and removes it when one
+ * arrives. A unit of which some bit was changed on the way and that is taken all the same makes a block inconsistent, or whole and wrong.
+ *   0         version 1 in the upper four bits, protocol ID (0 to 7) in the next three, reserved bit 0
+ *   1         number of extensions: 1
+ *   2, 3      LWC, big-endian
+ *   4, 5      LSC, big-endian
+ *   6         type of the extension: 1, coding parameters
+ *   7         length of its value: 6, or 7 where W is 128 or more
+ *   8 ...     W, k, n and seed 0 as SDNVs (RFC 6256, shortest form): 1 or 2, 2, 2 and 1 bytes
+ *   then      the symbol's W bytes
  *
  * What the caller must see to, as always in C:
  *  - a buffer is a pointer and, after it, its length in elements; the pointer is valid for that many, aligned for its type, and not NULL,
  *    even where the length is 0;
- *  - a buffer that a call may write overlaps no other that the same call gets.
+ *  - a buffer or record that a call may write overlaps no other that the same call gets. Buffers that a call only reads may overlap each
+ *    other.
  *
- * Words. k information symbols and m parity symbols of W bytes each make the n = k + m symbols of a block. LSC: the block's number, 1 to
- * 65534. LWC: a symbol's number in its block, 1 to n. A position counts from 0: LWC - 1. Information symbols come first.
+ * Needs. x86-64 Linux; no library but C's own, and of that memcpy and memset alone. Nothing is allocated, no call keeps a pointer or reads
+ * or writes anything but what it was lent, so two threads may call at the same time on different buffers. LIPVEZOR_STACK and
+ * LIPVEZOR_CLOSE_STACK say how many bytes of stack a call takes at most.
+ *
+ * Versions. Until 1.0 a change of the second number may change this interface, and a change of the third does not. The archive and this
+ * header belong together: lipvezor_version() == LIPVEZOR_VERSION. Records are initialised by their members' names ({.code = ..., .w = ...}),
+ * so that a member added in a later version is 0 in code that does not name it, and is refused with its own number where 0 does not fit.
  */
 #ifndef LIPVEZOR_H
 #define LIPVEZOR_H
@@ -31,30 +50,33 @@
 
 #ifdef __cplusplus
 extern "C" {
-#define LIPVEZOR_ARRAY(length)
 static_assert(sizeof(size_t) == 8, "lipvezor: a size_t has 64 bits");
 #else
-/* an array of at least so many elements */
-#define LIPVEZOR_ARRAY(length) static length
 _Static_assert(sizeof(size_t) == 8, "lipvezor: a size_t has 64 bits");
 #endif
 
-/* The codes, by their number. */
-#define LIPVEZOR_C1 ((size_t)1) /* k 512, m 256, n 768 */
-#define LIPVEZOR_C2 ((size_t)2) /* k 2048, m 1024, n 3072 */
+/* The compiler warns where the answer of such a call is not looked at. */
+#if defined(__GNUC__) || defined(__clang__)
+#define LIPVEZOR_CHECKED __attribute__((warn_unused_result))
+#else
+#define LIPVEZOR_CHECKED
+#endif
 
-/* The largest W. */
-#define LIPVEZOR_MAX_WIDTH ((size_t)1024)
+/* ---- version */
 
-/* What the calls answer. */
-enum lipvezor_answer {
-    /* encode, write, read, open: done */
-    LIPVEZOR_DONE = 0,
-    /* take: the symbol is kept */
-    LIPVEZOR_KEPT = 0,
+#define LIPVEZOR_VERSION_TEXT "0.3.0"
+/* first number * 10000 + second * 100 + third */
+#define LIPVEZOR_VERSION ((size_t)300)
 
-    /* refusals, in the order in which they are tried; extension, number and extension kind have one place in it: a unit's extensions are
-       read byte by byte, and the first byte that can't be accepted decides */
+/* The archive's version, as LIPVEZOR_VERSION. */
+size_t lipvezor_version(void);
+
+/* ---- refusals */
+
+/* In the order in which they are tried. Extension, number and extension kind have one place in it: a unit's extensions are read byte by
+   byte, and the first byte that can't be accepted decides. */
+enum lipvezor_refusal {
+    LIPVEZOR_DONE = 0,                /* not refused */
     LIPVEZOR_REFUSED_CODE = 1,        /* the code's number is neither 1 nor 2 */
     LIPVEZOR_REFUSED_WIDTH = 2,       /* W is 0 or above 1024 */
     LIPVEZOR_REFUSED_LABEL = 3,       /* LSC is 0 or above 65534, or the protocol ID is above 7 */
@@ -68,25 +90,63 @@ enum lipvezor_answer {
     LIPVEZOR_REFUSED_POSITION = 9,    /* LWC is 0 or above n */
     LIPVEZOR_REFUSED_SYMBOL = 10,     /* the symbol is not W bytes */
     LIPVEZOR_REFUSED_MARK = 11,       /* a mark above 2: at the unit's position (take), anywhere (close) */
-    LIPVEZOR_REFUSED_CONFLICT = 12,   /* heard there with other bytes */
-
-    /* take: heard before, with the same bytes; nothing changed */
-    LIPVEZOR_REPEATED = 100,
-
-    /* close: how many codewords agree with the symbols heard */
-    LIPVEZOR_WHOLE = 101,             /* just one: every symbol is there */
-    LIPVEZOR_AMBIGUOUS = 102,         /* two or more: the symbols on which they all agree are filled */
-    LIPVEZOR_INCONSISTENT = 103       /* none: nothing is filled */
+    LIPVEZOR_REFUSED_CONFLICT = 12    /* heard there with other bytes */
 };
 
-/* A position's mark. */
-enum lipvezor_mark {
-    LIPVEZOR_MARK_LEFT = 0,           /* missing; its bytes are 0 after a close */
-    LIPVEZOR_MARK_HEARD = 1,          /* taken from a unit */
-    LIPVEZOR_MARK_FILLED = 2          /* filled by close */
-};
+/* What a call's answer means, in a few words for a log; never NULL. */
+static inline const char *lipvezor_refusal_text(unsigned number)
+{
+    switch (number) {
+    case LIPVEZOR_DONE: return "done";
+    case LIPVEZOR_REFUSED_CODE: return "code: the number is neither 1 nor 2";
+    case LIPVEZOR_REFUSED_WIDTH: return "width: W is 0 or above 1024";
+    case LIPVEZOR_REFUSED_LABEL: return "label: LSC is 0 or above 65534, or the protocol ID is above 7";
+    case LIPVEZOR_REFUSED_LENGTH: return "length: a buffer isn't exactly its size";
+    case LIPVEZOR_REFUSED_HEADER: return "header: under 6 bytes, version not 1, reserved bit set, or no extensions";
+    case LIPVEZOR_REFUSED_EXTENSION: return "extension: the unit's bytes end early";
+    case LIPVEZOR_REFUSED_NUMBER: return "number: an SDNV too long, too large or not in its shortest form";
+    case LIPVEZOR_REFUSED_EXTENSION_KIND: return "extension kind: type 0 or 255, a second type 1, or type 1 not exactly four numbers";
+    case LIPVEZOR_REFUSED_PARAMETERS: return "parameters: not the block's W, k, n and seed 0";
+    case LIPVEZOR_REFUSED_FOREIGN: return "foreign: the unit's LSC or protocol ID isn't the block's";
+    case LIPVEZOR_REFUSED_POSITION: return "position: LWC is 0 or above n";
+    case LIPVEZOR_REFUSED_SYMBOL: return "symbol: not W bytes";
+    case LIPVEZOR_REFUSED_MARK: return "mark: above 2";
+    case LIPVEZOR_REFUSED_CONFLICT: return "conflict: heard there before with other bytes";
+    default: return "not a number of this version";
+    }
+}
 
-/* ---- sizes: 0 for a code's number or a W that is refused */
+/* ---- codes and sizes */
+
+/* The codes, by their number. */
+#define LIPVEZOR_C1 ((size_t)1)
+#define LIPVEZOR_C2 ((size_t)2)
+
+/* The largest W. */
+#define LIPVEZOR_MAX_WIDTH 1024
+
+/* k and m of each code. */
+#define LIPVEZOR_C1_K 512
+#define LIPVEZOR_C1_M 256
+#define LIPVEZOR_C2_K 2048
+#define LIPVEZOR_C2_M 1024
+
+/* Sizes as constants, for static buffers: LIPVEZOR_SYMBOL_BYTES(C1, 16). The code is written C1 or C2; w is a W that is not refused. */
+#define LIPVEZOR_N(code) (LIPVEZOR_##code##_K + LIPVEZOR_##code##_M)
+#define LIPVEZOR_K(code) (LIPVEZOR_##code##_K)
+#define LIPVEZOR_M(code) (LIPVEZOR_##code##_M)
+#define LIPVEZOR_INFORMATION_BYTES(code, w) (LIPVEZOR_##code##_K * (w))
+#define LIPVEZOR_PARITY_BYTES(code, w) (LIPVEZOR_##code##_M * (w))
+#define LIPVEZOR_SYMBOL_BYTES(code, w) ((LIPVEZOR_##code##_K + LIPVEZOR_##code##_M) * (w))
+#define LIPVEZOR_UNIT_BYTES(code, w) (8 + 6 + ((w) >= 128) + (w))
+#define LIPVEZOR_WORK_WORDS(code) (LIPVEZOR_##code##_M * ((LIPVEZOR_##code##_K + LIPVEZOR_##code##_M) / 64 + 1))
+#define LIPVEZOR_WORK_BYTES(code, w) (LIPVEZOR_##code##_M * (w))
+
+/* Bytes of stack that lipvezor_close takes at most, and that every other call does. */
+#define LIPVEZOR_CLOSE_STACK 40000
+#define LIPVEZOR_STACK 4000
+
+/* The same sizes by a code's number: 0 for a number or a W that is refused. */
 
 /* n: symbols of a block, and the bytes of its marks. */
 size_t lipvezor_n(size_t code);
@@ -115,101 +175,141 @@ size_t lipvezor_work_words(size_t code);
 /* m * W: bytes of close's second work buffer. */
 size_t lipvezor_work_bytes(size_t code, size_t w);
 
+/* ---- a block */
+
+/* A block's numbers, handed by value to each call on it. */
+typedef struct lipvezor_block {
+    size_t code;                      /* LIPVEZOR_C1 or LIPVEZOR_C2 */
+    size_t w;                         /* bytes of a symbol, 1 to LIPVEZOR_MAX_WIDTH */
+    size_t protocol;                  /* protocol ID, 0 to 7 */
+    size_t lsc;                       /* the block's number, 1 to 65534 */
+} lipvezor_block;
+
+/* A position's mark. */
+enum lipvezor_mark {
+    LIPVEZOR_MARK_LEFT = 0,           /* missing; its bytes are 0 after a close */
+    LIPVEZOR_MARK_HEARD = 1,          /* taken from a unit */
+    LIPVEZOR_MARK_FILLED = 2          /* filled by close */
+};
+
 /* ---- sending */
 
 /*
- * The parity of the information: from lipvezor_information_bytes bytes to lipvezor_parity_bytes bytes.
- * Answers LIPVEZOR_DONE, or a refusal: code, width, length.
+ * The parity of the information: from lipvezor_information_bytes bytes to lipvezor_parity_bytes bytes. Of the block's numbers code and w
+ * count here, protocol and lsc do not.
+ * Refuses: code, width, length.
  */
-uint8_t lipvezor_encode(size_t code, size_t w,
+LIPVEZOR_CHECKED
+uint8_t lipvezor_encode(lipvezor_block block,
                         const uint8_t *information, size_t information_length,
                         uint8_t *parity, size_t parity_length);
 
 /*
- * The symbol of an LWC, from the encoder's two buffers, copied to an output of W bytes.
- * Answers how many bytes were copied: W; or 0, and the output is as it was, where code, width, length or position would be refused or the
- * output's length is not W.
+ * The symbol of an LWC, from the encoder's two buffers, copied to an output of W bytes. Of the block's numbers code and w count here,
+ * protocol and lsc do not.
+ * Refuses: code, width, length (of any of the three buffers), position.
  */
-size_t lipvezor_show(size_t code, size_t w,
-                     const uint8_t *information, size_t information_length,
-                     const uint8_t *parity, size_t parity_length,
-                     size_t lwc,
-                     uint8_t *output, size_t output_length);
+LIPVEZOR_CHECKED
+uint8_t lipvezor_show(lipvezor_block block,
+                      const uint8_t *information, size_t information_length,
+                      const uint8_t *parity, size_t parity_length,
+                      size_t lwc,
+                      uint8_t *output, size_t output_length);
 
 /*
- * The unit of one symbol of W bytes, into an output of lipvezor_unit_bytes bytes. It may begin at any address; wide symbols are written fastest
- * where it is a multiple of 16, as malloc's are.
- * Answers LIPVEZOR_DONE, or a refusal: code, width, label, length (of the output), position, symbol.
+ * The unit of one symbol of W bytes, into an output of lipvezor_unit_bytes bytes. It may begin at any address; wide symbols are written
+ * fastest where it is a multiple of 16, as malloc's are.
+ * Refuses: code, width, label, length (of the output), position, symbol.
  */
-uint8_t lipvezor_write(size_t code, size_t w, size_t protocol, size_t lsc, size_t lwc,
+LIPVEZOR_CHECKED
+uint8_t lipvezor_write(lipvezor_block block, size_t lwc,
                        const uint8_t *symbol, size_t symbol_length,
                        uint8_t *output, size_t output_length);
 
 /* ---- receiving */
 
-/* The places of what lipvezor_read finds. */
-enum lipvezor_value {
-    LIPVEZOR_VALUE_PROTOCOL = 0,      /* protocol ID */
-    LIPVEZOR_VALUE_COUNT = 1,         /* extensions */
-    LIPVEZOR_VALUE_LWC = 2,
-    LIPVEZOR_VALUE_LSC = 3,
-    LIPVEZOR_VALUE_SYMBOL = 4,        /* where the symbol starts; it reaches to the unit's end */
-    LIPVEZOR_VALUE_CODING = 5,        /* 1 if coding parameters (type 1) came; else 0, and the four after it are 0 */
-    LIPVEZOR_VALUE_W = 6,
-    LIPVEZOR_VALUE_K = 7,
-    LIPVEZOR_VALUE_N = 8,
-    LIPVEZOR_VALUE_SEED = 9,
-    LIPVEZOR_VALUES = 10              /* how many there are */
-};
+/* What lipvezor_read finds in a unit. */
+typedef struct lipvezor_parts {
+    size_t protocol;                  /* protocol ID */
+    size_t count;                     /* extensions */
+    size_t lwc;
+    size_t lsc;
+    size_t symbol;                    /* where the symbol starts; it reaches to the unit's end */
+    size_t coding;                    /* 1 if coding parameters (type 1) came; else 0, and the four after it are 0 */
+    size_t w;
+    size_t k;
+    size_t n;
+    size_t seed;
+} lipvezor_parts;
 
 /*
- * What a unit's bytes say by themselves, whatever block they are of. Take reads units too: a receiver needs this call only to see which
- * block a unit is of.
- * Answers LIPVEZOR_DONE, or a refusal: header; extension, number, extension kind. A refusal leaves the values as they were.
+ * What a unit's bytes say by themselves, whatever block they are of. lipvezor_take reads units too: a receiver needs this call only to see
+ * which block a unit is of.
+ * Refuses: header; extension, number, extension kind.
  */
-uint8_t lipvezor_read(const uint8_t *unit, size_t unit_length, size_t values[LIPVEZOR_ARRAY(10)]);
+LIPVEZOR_CHECKED
+uint8_t lipvezor_read(const uint8_t *unit, size_t unit_length, lipvezor_parts *parts);
 
 /*
  * Opens a block: all lipvezor_symbol_bytes symbol bytes and all lipvezor_n marks become 0.
- * A block is its four numbers and these two buffers; the caller hands the same to each call.
- * Answers LIPVEZOR_DONE, or a refusal: code, width, label, length.
+ * A block is its record and these two buffers; the caller hands the same to each call.
+ * Refuses: code, width, label, length.
  */
-uint8_t lipvezor_open(size_t code, size_t w, size_t protocol, size_t lsc,
+LIPVEZOR_CHECKED
+uint8_t lipvezor_open(lipvezor_block block,
                       uint8_t *symbols, size_t symbols_length,
                       uint8_t *marks, size_t marks_length);
 
+/* What lipvezor_take did with a unit. */
+enum lipvezor_result {
+    LIPVEZOR_KEPT = 1,                /* the symbol is kept */
+    LIPVEZOR_REPEATED = 2             /* heard before, with the same bytes; nothing changed */
+};
+
+typedef struct lipvezor_taken {
+    size_t result;                    /* enum lipvezor_result */
+} lipvezor_taken;
+
 /*
- * Takes one unit. A kept symbol stands at its position, with mark LIPVEZOR_MARK_HEARD; it may take the place of a filled one.
- * Answers LIPVEZOR_KEPT, LIPVEZOR_REPEATED, or any refusal. Only a kept unit changes the block.
+ * Takes one unit. A kept symbol stands at its position, with mark LIPVEZOR_MARK_HEARD; it may take the place of a filled one. Only a kept
+ * unit changes the block.
+ * Refuses: any.
  */
-uint8_t lipvezor_take(size_t code, size_t w, size_t protocol, size_t lsc,
+LIPVEZOR_CHECKED
+uint8_t lipvezor_take(lipvezor_block block,
                       uint8_t *symbols, size_t symbols_length,
                       uint8_t *marks, size_t marks_length,
-                      const uint8_t *unit, size_t unit_length);
+                      const uint8_t *unit, size_t unit_length,
+                      lipvezor_taken *taken);
 
-/* The places of close's counts. They add up to n. */
-enum lipvezor_count {
-    LIPVEZOR_COUNT_HEARD = 0,
-    LIPVEZOR_COUNT_FILLED = 1,
-    LIPVEZOR_COUNT_LEFT = 2,
-    LIPVEZOR_COUNTS = 3               /* how many there are */
+/* How many codewords agree with the symbols heard. Only a whole block's bytes are all there; a verdict of 0 was never given. */
+enum lipvezor_verdict {
+    LIPVEZOR_WHOLE = 1,               /* just one: every symbol is there */
+    LIPVEZOR_AMBIGUOUS = 2,           /* two or more: the symbols on which they all agree are filled */
+    LIPVEZOR_INCONSISTENT = 3         /* none: a symbol was heard that was not sent; nothing is filled */
 };
+
+/* What lipvezor_close found. The counts add up to n. */
+typedef struct lipvezor_report {
+    size_t verdict;                   /* enum lipvezor_verdict */
+    size_t heard;                     /* positions with mark LIPVEZOR_MARK_HEARD */
+    size_t filled;                    /* with LIPVEZOR_MARK_FILLED */
+    size_t left;                      /* with LIPVEZOR_MARK_LEFT */
+} lipvezor_report;
 
 /*
  * Closes the block: each missing symbol that the heard ones determine is filled, with mark LIPVEZOR_MARK_FILLED; one that they leave open
  * has bytes and mark 0. The two work buffers, of lipvezor_work_words words and lipvezor_work_bytes bytes, may hold anything; after a
  * verdict they are all 0.
- * Answers LIPVEZOR_WHOLE, LIPVEZOR_AMBIGUOUS or LIPVEZOR_INCONSISTENT, with the counts; or a refusal: code, width, label, length, mark. A
- * refusal leaves the counts as they were.
+ * Refuses: code, width, label, length, mark.
  */
-uint8_t lipvezor_close(size_t code, size_t w, size_t protocol, size_t lsc,
+LIPVEZOR_CHECKED
+uint8_t lipvezor_close(lipvezor_block block,
                        uint8_t *symbols, size_t symbols_length,
                        uint8_t *marks, size_t marks_length,
                        uint64_t *work_words, size_t work_words_length,
                        uint8_t *work_bytes, size_t work_bytes_length,
-                       size_t counts[LIPVEZOR_ARRAY(3)]);
-
-#undef LIPVEZOR_ARRAY
+                       lipvezor_report *report);
 
 #ifdef __cplusplus
 }
