@@ -1,27 +1,31 @@
--- The calls' answers as numbers, for C and Rust: the number of the refusal, 0 where a call is done, and from 100 on what else take and
--- close answer.
+-- The calls' answers as numbers, for C and Rust. Each call answers 0 where it is done and else the number of its refusal; what else it has
+-- to say stands in a lent record.
 -- Assumes nothing.
-use mathlib.Core.Bool.{cond}
-use mathlib.Core.List.{List, [], _∷_}
+use mathlib.Core.List.{List, [], _∷_, _++_}
 use mathlib.Core.Option.{Option, none, some}
 use Prim.Native.Nat.{ℕ}
-use lib.Dec.{eqb}
-use lib.ListN.{length}
 use Rattle.algebra.specs.Agreeing.{Verdict, whole, ambiguous, inconsistent}
-use Rattle.ccsds.specs.Refusals.{Outcome, refused, answered}
+use Rattle.ccsds.specs.Codes.{nOf}
+use Rattle.ccsds.specs.Tables.{codeOf}
+use Rattle.ccsds.specs.RefusalTable as refusal
+use Rattle.ccsds.specs.Refusals.{Outcome, refused, answered, firstOf, encoderConditions, wrongLength, wrongPosition}
 use Rattle.ccsds.specs.Reader.{Coding, Parts}
 use Rattle.block.specs.Take.{TakeResult, kept, repeated}
 use Rattle.block.specs.Close.{Report}
-use Rattle.block.specs.declared.Block.{Block}
 
--- a block's record from its four numbers
-abbrev pub blockOf : ℕ → ℕ → ℕ → ℕ → Block
-blockOf code w protocol lsc = record { code = code; w = w; protocol = protocol; lsc = lsc }
+-- the library's version: first number × 10000 + second × 100 + third
+abbrev pub version : ℕ
+version = 300
 
--- of a call that has nothing more to say in its answer
+-- 0, or the number of the refusal
 abbrev pub numberOf : {A : Type 0} → Outcome A → ℕ
 numberOf (refused number) = number
 numberOf (answered a) = 0
+
+-- a lent record afterwards: the values of what was answered; a refusal leaves it as it was
+abbrev pub recordAfter : {A : Type 0} → (A → List ℕ) → List ℕ → Outcome A → List ℕ
+recordAfter values old (refused number) = old
+recordAfter values old (answered a) = values a
 
 -- ---- read
 
@@ -30,40 +34,35 @@ abbrev pub codingValues : Option Coding → List ℕ
 codingValues none = 0 ∷ 0 ∷ 0 ∷ 0 ∷ 0 ∷ []
 codingValues (some p) = 1 ∷ p .w ∷ p .k ∷ p .n ∷ p .seed ∷ []
 
--- the ten values afterwards; a refusal leaves them as they were
-abbrev pub valuesOf : List ℕ → Outcome Parts → List ℕ
-valuesOf old (refused number) = old
-valuesOf old (answered p) = p .protocol ∷ p .count ∷ p .lwc ∷ p .lsc ∷ p .symbol ∷ codingValues (p .coding)
+abbrev pub partsValues : Parts → List ℕ
+partsValues p = p .protocol ∷ p .count ∷ p .lwc ∷ p .lsc ∷ p .symbol ∷ codingValues (p .coding)
 
 -- ---- show
 
--- an output of just the shown part's length gets its bytes; another is left as it was
-abbrev pub copiedOut : List ℕ → List ℕ → List ℕ
-copiedOut out shown = cond (eqb (length out) (length shown)) shown out
-
--- how many bytes were copied
-abbrev pub copiedBytes : List ℕ → List ℕ → ℕ
-copiedBytes out shown = cond (eqb (length out) (length shown)) (length shown) 0
+-- The number of the refusal, or 0: where 1, 2, 4 or 9 would apply show has the empty part; here its number is answered, and an output that
+-- is not W bytes is 4.
+unfoldable pub copyRefusal : ℕ → ℕ → ℕ → ℕ → ℕ → ℕ → ℕ
+copyRefusal number w infoLength parityLength lwc outLength =
+    firstOf (
+    encoderConditions number w infoLength parityLength
+    ++ (refusal.length, wrongLength outLength w)
+    ∷ (refusal.position, wrongPosition (nOf (codeOf number)) lwc)
+    ∷ []
+    )
 
 -- ---- take
 
-abbrev pub takenNumber : Outcome TakeResult → ℕ
-takenNumber (refused number) = number
-takenNumber (answered kept) = 0
-takenNumber (answered repeated) = 100
+abbrev pub resultValues : TakeResult → List ℕ
+resultValues kept = 1 ∷ []
+resultValues repeated = 2 ∷ []
 
 -- ---- close
 
 abbrev pub verdictNumber : Verdict → ℕ
-verdictNumber whole = 101
-verdictNumber ambiguous = 102
-verdictNumber inconsistent = 103
+verdictNumber whole = 1
+verdictNumber ambiguous = 2
+verdictNumber inconsistent = 3
 
-abbrev pub closedNumber : Outcome Report → ℕ
-closedNumber (refused number) = number
-closedNumber (answered r) = verdictNumber (r .verdict)
-
--- the three counts afterwards: heard, filled, left; a refusal leaves them as they were
-abbrev pub countsOf : List ℕ → Outcome Report → List ℕ
-countsOf old (refused number) = old
-countsOf old (answered r) = r .heard ∷ r .filled ∷ r .left ∷ []
+-- the verdict, and the counts of heard, filled and left positions
+abbrev pub reportValues : Report → List ℕ
+reportValues r = verdictNumber (r .verdict) ∷ r .heard ∷ r .filled ∷ r .left ∷ []

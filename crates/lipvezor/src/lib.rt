@@ -1,6 +1,6 @@
-// The calls for C and Rust (include/lipvezor.h). Numbers pass as themselves, a slice as a pointer and then a length in elements, an
-// array as a pointer. An enum or a slice cannot be an answer here, so each answer is turned into numbers, by specs/Numbers.antt: 0 for
-// done, else the number of the refusal; what else take and close answer lies from 100 on.
+// The calls for C and Rust (include/lipvezor.h). Numbers pass as themselves, a block's record as a struct by value, a slice as a pointer and
+// then a length in elements, a lent record as a pointer to an array of its values. Each call answers 0, or the number of its refusal; what
+// else it has to say it writes to the lent record, by specs/Numbers.antt.
 use block::Block;
 use block::close::Closed;
 use block::close::Verdict;
@@ -9,6 +9,7 @@ use block::take::Taken;
 use ccsds::code::Code;
 use ccsds::reader::Extension;
 use ccsds::reader::UnitRead;
+use ccsds::refusal;
 use ccsds::writer::Written;
 use encoder::encode::Encoded;
 ghost use mathlib.Core.Path.{_≡_};
@@ -24,7 +25,15 @@ ghost use Rattle.ccsds.specs.Show.{showOf};
 ghost use Rattle.block.specs.Open.{openOf};
 ghost use Rattle.block.specs.Take.{takeOf};
 ghost use Rattle.block.specs.Close.{closeOf, verdictAs};
-ghost use Rattle.lipvezor.specs.Numbers.{blockOf, numberOf, valuesOf, copiedOut, copiedBytes, takenNumber, verdictNumber, closedNumber, countsOf};
+ghost use Rattle.lipvezor.specs.Numbers.{version, numberOf, recordAfter, partsValues, copyRefusal, resultValues, verdictNumber, reportValues};
+
+// The version of this library, as the header's LIPVEZOR_VERSION.
+#[no_mangle]
+pub extern "C" fn lipvezor_version() -> usize
+    ensures { λ r. ⌜ r ≡ version ⌝ }
+{
+    300
+}
 
 // Symbols of a block, and bytes of its marks.
 #[no_mangle]
@@ -107,44 +116,81 @@ pub extern "C" fn lipvezor_work_bytes(code: usize, w: usize) -> usize
     c.parity_bytes(w)
 }
 
-// Encode: 0, or the refusal.
+// Encode.
 #[no_mangle]
-pub extern "C" fn lipvezor_encode(code: usize, w: usize, info: &[u8], parity: &mut [u8]) -> u8
-    ensures answer { λ r. ⌜ r ≡ encodeRefusal code w (length (now (info .entry))) (length (now (parity .entry))) ⌝ }
-    ensures parity { λ _. ⌜ now (parity .exit) ≡ afterwards (encodeRefusal code w (length (now (info .entry))) (length (now (parity .entry)))) (encodeOf (codeOf code) w (now (info .entry))) (now (parity .entry)) ⌝ }
+pub extern "C" fn lipvezor_encode(b: Block, info: &[u8], parity: &mut [u8]) -> u8
+    ensures answer { λ r. ⌜ r ≡ encodeRefusal (b .code) (b .w) (length (now (info .entry))) (length (now (parity .entry))) ⌝ }
+    ensures parity { λ _. ⌜ now (parity .exit) ≡ afterwards (encodeRefusal (b .code) (b .w) (length (now (info .entry))) (length (now (parity .entry)))) (encodeOf (codeOf (b .code)) (b .w) (now (info .entry))) (now (parity .entry)) ⌝ }
 {
-    match encoder::encode::encode(code, w, info, parity) {
+    match encoder::encode::encode(b.code, b.w, info, parity) {
         Encoded::Done => 0,
         Encoded::Refused(number) => number,
     }
 }
 
-// Write: 0, or the refusal.
-#[no_mangle]
-pub extern "C" fn lipvezor_write(
+// The number of show's refusal with an output of so many bytes, or 0.
+fn check_copy(
     code: usize,
     w: usize,
-    protocol: usize,
-    lsc: usize,
+    info_length: usize,
+    parity_length: usize,
     lwc: usize,
-    symbol: &[u8],
-    out: &mut [u8],
+    out_length: usize,
 ) -> u8
-    ensures answer { λ r. ⌜ r ≡ writeRefusal code w protocol lsc lwc (length (now (symbol .entry))) (length (now (out .entry))) ⌝ }
-    ensures output { λ _. ⌜ now (out .exit) ≡ afterwards (writeRefusal code w protocol lsc lwc (length (now (symbol .entry))) (length (now (out .entry)))) (unitOf (codeOf code) w protocol lsc lwc (now (symbol .entry))) (now (out .entry)) ⌝ }
+    ensures { λ r. ⌜ r ≡ copyRefusal code w «info_length» «parity_length» lwc «out_length» ⌝ }
 {
-    match ccsds::writer::write(code, w, protocol, lsc, lwc, symbol, out) {
+    let earlier = ccsds::checks::check_encoder(code, w, info_length, parity_length);
+    if earlier != 0 {
+        return earlier;
+    }
+    if out_length != w {
+        return refusal::LENGTH;
+    }
+    let c = Code { number: code };
+    if c.wrong_position(lwc) {
+        return refusal::POSITION;
+    }
+    0
+}
+
+// Show, copied to an output of W bytes.
+#[no_mangle]
+pub extern "C" fn lipvezor_show<'a, 'b>(
+    b: Block,
+    info: &'a [u8],
+    parity: &'a [u8],
+    lwc: usize,
+    out: &'b mut [u8],
+) -> u8
+    ensures answer { λ r. ⌜ r ≡ copyRefusal (b .code) (b .w) (length (now (info .entry))) (length (now (parity .entry))) lwc (length (now (out .entry))) ⌝ }
+    ensures output { λ _. ⌜ now (out .exit) ≡ afterwards (copyRefusal (b .code) (b .w) (length (now (info .entry))) (length (now (parity .entry))) lwc (length (now (out .entry)))) (showOf (b .code) (b .w) (info .entry) (parity .entry) lwc .bytes) (now (out .entry)) ⌝ }
+{
+    let number = check_copy(b.code, b.w, info.len(), parity.len(), lwc, out.len());
+    if number != 0 {
+        return number;
+    }
+    let shown = ccsds::show::show(b.code, b.w, info, parity, lwc);
+    bytes::copy(shown, out);
+    0
+}
+
+// Write.
+#[no_mangle]
+pub extern "C" fn lipvezor_write(b: Block, lwc: usize, symbol: &[u8], out: &mut [u8]) -> u8
+    ensures answer { λ r. ⌜ r ≡ writeRefusal (b .code) (b .w) (b .protocol) (b .lsc) lwc (length (now (symbol .entry))) (length (now (out .entry))) ⌝ }
+    ensures output { λ _. ⌜ now (out .exit) ≡ afterwards (writeRefusal (b .code) (b .w) (b .protocol) (b .lsc) lwc (length (now (symbol .entry))) (length (now (out .entry)))) (unitOf (codeOf (b .code)) (b .w) (b .protocol) (b .lsc) lwc (now (symbol .entry))) (now (out .entry)) ⌝ }
+{
+    match ccsds::writer::write(b.code, b.w, b.protocol, b.lsc, lwc, symbol, out) {
         Written::Done => 0,
         Written::Refused(number) => number,
     }
 }
 
-// The unit reader: 0 and ten values (protocol ID, extension count, LWC, LSC, where the symbol starts, whether a type 1 came, and its W,
-// k, n and seed), or the refusal, which leaves the values as they were.
+// The unit reader, with the parts in the lent record (lipvezor_parts).
 #[no_mangle]
-pub extern "C" fn lipvezor_read(unit: &[u8], values: &mut [usize; 10]) -> u8
+pub extern "C" fn lipvezor_read(unit: &[u8], parts: &mut [usize; 10]) -> u8
     ensures answer { λ r. ⌜ r ≡ numberOf (readUnit (now (unit .entry))) ⌝ }
-    ensures values { λ _. ⌜ now (values .exit) ≡ valuesOf (now (values .entry)) (readUnit (now (unit .entry))) ⌝ }
+    ensures parts { λ _. ⌜ now (parts .exit) ≡ recordAfter partsValues (now (parts .entry)) (readUnit (now (unit .entry))) ⌝ }
 {
     match ccsds::reader::read_unit(unit) {
         UnitRead::Refused(number) => number,
@@ -152,7 +198,7 @@ pub extern "C" fn lipvezor_read(unit: &[u8], values: &mut [usize; 10]) -> u8
             let x = p.coding;
             match x {
                 Extension::Coding(q) => {
-                    *values = [
+                    *parts = [
                         p.protocol,
                         p.count,
                         p.lwc,
@@ -167,7 +213,7 @@ pub extern "C" fn lipvezor_read(unit: &[u8], values: &mut [usize; 10]) -> u8
                     0
                 }
                 Extension::PassedOver => {
-                    *values = [p.protocol, p.count, p.lwc, p.lsc, p.symbol, 0, 0, 0, 0, 0];
+                    *parts = [p.protocol, p.count, p.lwc, p.lsc, p.symbol, 0, 0, 0, 0, 0];
                     0
                 }
             }
@@ -175,126 +221,81 @@ pub extern "C" fn lipvezor_read(unit: &[u8], values: &mut [usize; 10]) -> u8
     }
 }
 
-// Show, copied out: into an output of just the shown part's length, W bytes. Answers how many bytes were copied: W, or 0.
+// Open. The record that open returns is the one it was given.
 #[no_mangle]
-pub extern "C" fn lipvezor_show<'a, 'b>(
-    code: usize,
-    w: usize,
-    info: &'a [u8],
-    parity: &'a [u8],
-    lwc: usize,
-    out: &'b mut [u8],
-) -> usize
-    ensures answer { λ r. ⌜ r ≡ copiedBytes (now (out .entry)) (showOf code w (info .entry) (parity .entry) lwc .bytes) ⌝ }
-    ensures output { λ _. ⌜ now (out .exit) ≡ copiedOut (now (out .entry)) (showOf code w (info .entry) (parity .entry) lwc .bytes) ⌝ }
+pub extern "C" fn lipvezor_open(b: Block, symbols: &mut [u8], marks: &mut [u8]) -> u8
+    ensures answer { λ r. ⌜ r ≡ numberOf (openOf b (now (symbols .entry)) (now (marks .entry)) .answer) ⌝ }
+    ensures symbols { λ _. ⌜ now (symbols .exit) ≡ openOf b (now (symbols .entry)) (now (marks .entry)) .symbols ⌝ }
+    ensures marks { λ _. ⌜ now (marks .exit) ≡ openOf b (now (symbols .entry)) (now (marks .entry)) .marks ⌝ }
 {
-    let shown = ccsds::show::show(code, w, info, parity, lwc);
-    let n = shown.len();
-    if out.len() != n {
-        return 0;
-    }
-    bytes::copy(shown, out);
-    n
-}
-
-// Open: 0, or the refusal. The record that open returns is the one it was given.
-#[no_mangle]
-pub extern "C" fn lipvezor_open(
-    code: usize,
-    w: usize,
-    protocol: usize,
-    lsc: usize,
-    symbols: &mut [u8],
-    marks: &mut [u8],
-) -> u8
-    ensures answer { λ r. ⌜ r ≡ numberOf (openOf (blockOf code w protocol lsc) (now (symbols .entry)) (now (marks .entry)) .answer) ⌝ }
-    ensures symbols { λ _. ⌜ now (symbols .exit) ≡ openOf (blockOf code w protocol lsc) (now (symbols .entry)) (now (marks .entry)) .symbols ⌝ }
-    ensures marks { λ _. ⌜ now (marks .exit) ≡ openOf (blockOf code w protocol lsc) (now (symbols .entry)) (now (marks .entry)) .marks ⌝ }
-{
-    let b = Block {
-        code,
-        w,
-        protocol,
-        lsc,
-    };
     match block::open::open(b, symbols, marks) {
         Opened::Record(_) => 0,
         Opened::Refused(number) => number,
     }
 }
 
-// Take: 0 for kept, 100 for repeated, else the refusal.
+// Take, with what it did in the lent record (lipvezor_taken).
 #[no_mangle]
 pub extern "C" fn lipvezor_take(
-    code: usize,
-    w: usize,
-    protocol: usize,
-    lsc: usize,
+    b: Block,
     symbols: &mut [u8],
     marks: &mut [u8],
     unit: &[u8],
+    taken: &mut [usize; 1],
 ) -> u8
-    ensures answer { λ r. ⌜ r ≡ takenNumber (takeOf (blockOf code w protocol lsc) (now (symbols .entry)) (now (marks .entry)) (now (unit .entry)) .answer) ⌝ }
-    ensures symbols { λ _. ⌜ now (symbols .exit) ≡ takeOf (blockOf code w protocol lsc) (now (symbols .entry)) (now (marks .entry)) (now (unit .entry)) .symbols ⌝ }
-    ensures marks { λ _. ⌜ now (marks .exit) ≡ takeOf (blockOf code w protocol lsc) (now (symbols .entry)) (now (marks .entry)) (now (unit .entry)) .marks ⌝ }
+    ensures answer { λ r. ⌜ r ≡ numberOf (takeOf b (now (symbols .entry)) (now (marks .entry)) (now (unit .entry)) .answer) ⌝ }
+    ensures symbols { λ _. ⌜ now (symbols .exit) ≡ takeOf b (now (symbols .entry)) (now (marks .entry)) (now (unit .entry)) .symbols ⌝ }
+    ensures marks { λ _. ⌜ now (marks .exit) ≡ takeOf b (now (symbols .entry)) (now (marks .entry)) (now (unit .entry)) .marks ⌝ }
+    ensures taken { λ _. ⌜ now (taken .exit) ≡ recordAfter resultValues (now (taken .entry)) (takeOf b (now (symbols .entry)) (now (marks .entry)) (now (unit .entry)) .answer) ⌝ }
 {
-    let b = Block {
-        code,
-        w,
-        protocol,
-        lsc,
-    };
     match block::take::take(b, symbols, marks, unit) {
-        Taken::Kept => 0,
-        Taken::Repeated => 100,
+        Taken::Kept => {
+            *taken = [1];
+            0
+        }
+        Taken::Repeated => {
+            *taken = [2];
+            0
+        }
         Taken::Refused(number) => number,
     }
 }
 
 // A verdict's number.
-fn verdict_number(v: Verdict) -> u8
+fn verdict_number(v: Verdict) -> usize
     ensures { λ r. ⌜ r ≡ verdictNumber (verdictAs v) ⌝ }
 {
     match v {
-        Verdict::Whole => 101,
-        Verdict::Ambiguous => 102,
-        Verdict::Inconsistent => 103,
+        Verdict::Whole => 1,
+        Verdict::Ambiguous => 2,
+        Verdict::Inconsistent => 3,
     }
 }
 
-// Close: 101 for whole, 102 for ambiguous, 103 for inconsistent, with the counts of heard, filled and left positions; or the refusal,
-// which leaves the counts as they were.
+// Close, with the verdict and the counts of heard, filled and left positions in the lent record (lipvezor_report).
 #[no_mangle]
 pub extern "C" fn lipvezor_close(
-    code: usize,
-    w: usize,
-    protocol: usize,
-    lsc: usize,
+    b: Block,
     symbols: &mut [u8],
     marks: &mut [u8],
     work_words: &mut [u64],
     work_bytes: &mut [u8],
-    counts: &mut [usize; 3],
+    report: &mut [usize; 4],
 ) -> u8
-    ensures answer { λ r. ⌜ r ≡ closedNumber (closeOf (blockOf code w protocol lsc) (now (symbols .entry)) (now (marks .entry)) (now («work_words» .entry)) (now («work_bytes» .entry)) .answer) ⌝ }
-    ensures symbols { λ _. ⌜ now (symbols .exit) ≡ closeOf (blockOf code w protocol lsc) (now (symbols .entry)) (now (marks .entry)) (now («work_words» .entry)) (now («work_bytes» .entry)) .symbols ⌝ }
-    ensures marks { λ _. ⌜ now (marks .exit) ≡ closeOf (blockOf code w protocol lsc) (now (symbols .entry)) (now (marks .entry)) (now («work_words» .entry)) (now («work_bytes» .entry)) .marks ⌝ }
-    ensures work_words { λ _. ⌜ now («work_words» .exit) ≡ closeOf (blockOf code w protocol lsc) (now (symbols .entry)) (now (marks .entry)) (now («work_words» .entry)) (now («work_bytes» .entry)) .workWords ⌝ }
-    ensures work_bytes { λ _. ⌜ now («work_bytes» .exit) ≡ closeOf (blockOf code w protocol lsc) (now (symbols .entry)) (now (marks .entry)) (now («work_words» .entry)) (now («work_bytes» .entry)) .workBytes ⌝ }
-    ensures counts { λ _. ⌜ now (counts .exit) ≡ countsOf (now (counts .entry)) (closeOf (blockOf code w protocol lsc) (now (symbols .entry)) (now (marks .entry)) (now («work_words» .entry)) (now («work_bytes» .entry)) .answer) ⌝ }
+    ensures answer { λ r. ⌜ r ≡ numberOf (closeOf b (now (symbols .entry)) (now (marks .entry)) (now («work_words» .entry)) (now («work_bytes» .entry)) .answer) ⌝ }
+    ensures symbols { λ _. ⌜ now (symbols .exit) ≡ closeOf b (now (symbols .entry)) (now (marks .entry)) (now («work_words» .entry)) (now («work_bytes» .entry)) .symbols ⌝ }
+    ensures marks { λ _. ⌜ now (marks .exit) ≡ closeOf b (now (symbols .entry)) (now (marks .entry)) (now («work_words» .entry)) (now («work_bytes» .entry)) .marks ⌝ }
+    ensures work_words { λ _. ⌜ now («work_words» .exit) ≡ closeOf b (now (symbols .entry)) (now (marks .entry)) (now («work_words» .entry)) (now («work_bytes» .entry)) .workWords ⌝ }
+    ensures work_bytes { λ _. ⌜ now («work_bytes» .exit) ≡ closeOf b (now (symbols .entry)) (now (marks .entry)) (now («work_words» .entry)) (now («work_bytes» .entry)) .workBytes ⌝ }
+    ensures report { λ _. ⌜ now (report .exit) ≡ recordAfter reportValues (now (report .entry)) (closeOf b (now (symbols .entry)) (now (marks .entry)) (now («work_words» .entry)) (now («work_bytes» .entry)) .answer) ⌝ }
 {
-    let b = Block {
-        code,
-        w,
-        protocol,
-        lsc,
-    };
     match block::close::close(b, symbols, marks, work_words, work_bytes) {
         Closed::Refused(number) => number,
         Closed::Reported(told) => {
-            let verdict = told.verdict;
-            *counts = [told.heard, told.filled, told.left];
-            verdict_number(verdict)
+            let v = told.verdict;
+            let verdict = verdict_number(v);
+            *report = [verdict, told.heard, told.filled, told.left];
+            0
         }
     }
 }

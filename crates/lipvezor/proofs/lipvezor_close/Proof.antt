@@ -1,9 +1,8 @@
--- `lipvezor::lipvezor_close` meets its contract: each case of the answer has its number and its counts.
+-- `lipvezor::lipvezor_close` meets its contract: each case of the answer has its number, a verdict its values in the lent record.
 -- Assumes nothing.
-use mathlib.Core.Path.{_∙_}
 use Rattle.block.specs.Close.{closedAs}
-use Rattle.lipvezor.specs.Numbers.{closedNumber, countsOf}
-use Rattle.lipvezor.proofs.Answers.{by-case}
+use Rattle.lipvezor.specs.Numbers.{reportValues}
+use Rattle.lipvezor.proofs.Answers.{told, reported}
 use borrow.Author.Needs.{needs}
 use Rattle.lipvezor.proofs.lipvezor_close.Statement.{statement}
 use Rattle.lipvezor.proofs.lipvezor_close.Tie as tie
@@ -35,9 +34,8 @@ same-length-4 c = search needs
 returns : tie.Need-returns
 returns c =
     let e = c .before .before .before .before .before .before .before .before .before .before .before .close .ensures in
-    let h = c .before .number .given .1 in
-    let old = c .before .before .before .before .before .before .before .before .before .before .before .before .before .before .before .before .before .before .before .before .args .counts .now in
-    (by-case closedAs closedNumber (e .0) h, (e .1 .0, (e .1 .1 .0, (e .1 .1 .1 .0, (e .1 .1 .1 .1, by-case closedAs (countsOf old) (e .0) h)))))
+    let t = told closedAs reportValues (c .before .before .before .before .before .before .before .before .before .before .before .before .before .before .before .before .before .before .before .before .args .report .now) (e .0) (c .before .number .given .1) in
+    (t .0, (e .1 .0, (e .1 .1 .0, (e .1 .1 .1 .0, (e .1 .1 .1 .1, t .1)))))
 
 same-length-5 : tie.Need-same-length-5
 same-length-5 c = search needs
@@ -54,9 +52,8 @@ same-length-8 c = search needs
 returns-2 : tie.Need-returns-2
 returns-2 c =
     let e = c .before .before .before .before .before .before .before .before .before .before .before .before .before .close .ensures in
-    let h = c .before .before .before .told .given .1 in
-    let old = c .before .before .before .before .before .before .before .before .before .before .before .before .before .before .before .before .before .before .before .before .before .before .args .counts .now in
-    (c .verdict-number .ensures ∙ by-case closedAs closedNumber (e .0) h, (e .1 .0, (e .1 .1 .0, (e .1 .1 .1 .0, (e .1 .1 .1 .1, by-case closedAs (countsOf old) (e .0) h)))))
+    let t = reported (c .before .before .before .before .before .before .before .before .before .before .before .before .before .before .before .before .before .before .before .before .before .before .args .report .now) (c .before .verdict-number .ensures) (e .0) (c .before .before .before .told .given .1) in
+    (t .0, (e .1 .0, (e .1 .1 .0, (e .1 .1 .1 .0, (e .1 .1 .1 .1, t .1)))))
 
 pub lipvezor-close-spec : {M : Type 1} → statement M
 lipvezor-close-spec =

@@ -1,8 +1,8 @@
 -- `lipvezor::lipvezor_read` meets its contract: each case of the reader's answer has its numbers.
 -- Assumes nothing.
 use Rattle.ccsds.specs.Reader.{readAs}
-use Rattle.lipvezor.specs.Numbers.{numberOf, valuesOf}
-use Rattle.lipvezor.proofs.Answers.{by-case, came, absent}
+use Rattle.lipvezor.specs.Numbers.{partsValues}
+use Rattle.lipvezor.proofs.Answers.{told, came, absent}
 use borrow.Author.Needs.{needs}
 use Rattle.lipvezor.proofs.lipvezor_read.Statement.{statement}
 use Rattle.lipvezor.proofs.lipvezor_read.Tie as tie
@@ -23,16 +23,13 @@ enum-told : tie.Need-enum-told
 enum-told c = search needs
 
 returns : tie.Need-returns
-returns c =
-    let e = c .before .before .before .read-unit .ensures in
-    let h = c .before .number .given .1 in
-    (by-case readAs numberOf e h, by-case readAs (valuesOf (c .before .before .before .before .before .args .values .now)) e h)
+returns c = told readAs partsValues (c .before .before .before .before .before .args .parts .now) (c .before .before .before .read-unit .ensures) (c .before .number .given .1)
 
 returns-2 : tie.Need-returns-2
-returns-2 c = came (c .before .before .before .before .before .before .before .before .before .args .values .now) (c .before .before .before .before .before .before .before .read-unit .ensures) (c .before .before .before .before .before .p .given .1) (c .before .before .x .given .1)
+returns-2 c = came (c .before .before .before .before .before .before .before .before .before .args .parts .now) (c .before .before .before .before .before .before .before .read-unit .ensures) (c .before .before .before .before .before .p .given .1) (c .before .before .x .given .1)
 
 returns-3 : tie.Need-returns-3
-returns-3 c = absent (c .before .before .before .before .before .before .before .before .args .values .now) (c .before .before .before .before .before .before .read-unit .ensures) (c .before .before .before .before .p .given .1) (c .before .enum-told .given .1)
+returns-3 c = absent (c .before .before .before .before .before .before .before .before .args .parts .now) (c .before .before .before .before .before .before .read-unit .ensures) (c .before .before .before .before .p .given .1) (c .before .enum-told .given .1)
 
 pub lipvezor-read-spec : {M : Type 1} → statement M
 lipvezor-read-spec =

@@ -1,26 +1,50 @@
--- `lipvezor::lipvezor_show` meets its contract: the shown part is copied to an output of its length.
+-- `lipvezor::lipvezor_show` meets its contract: the shown part, which has W bytes, is copied to an output of W bytes.
 -- Assumes nothing.
-use mathlib.Core.Path.{ap}
+use mathlib.Core.Path.{_≡_, sym, ap, _∙_}
+use native.Mathlib.Omega.{arith}
+use lib.ListN.{length}
 use Rattle.ccsds.specs.Show.{Slice}
-use Rattle.lipvezor.proofs.Answers.{left-alone, copied}
+use Rattle.ccsds.proofs.Refusals.{kept-by, changed-by}
+use Rattle.lipvezor.specs.Numbers.{copyRefusal}
+use Rattle.lipvezor.proofs.Copying.{copyable, shown-length, copied}
 use borrow.Author.Needs.{needs}
 use Rattle.lipvezor.proofs.lipvezor_show.Statement.{statement}
 use Rattle.lipvezor.proofs.lipvezor_show.Tie as tie
 
+zero : (c : tie.Else1) → let a = c .before .before .before .before .before .args in copyRefusal (a .b .code) (a .b .w) (length (a .info .now)) (length (a .parity .now)) (a .lwc) (length (a .out .now)) ≡ 0
+zero c = sym (c .before .check-copy .ensures) ∙ c .if1 .left
+
+-- what is shown is as long as the output
+fits : (c : tie.After-show) → length (c .before .before .before .before .before .before .args .out .now) ≡ length (c .show .result .now)
+fits c =
+    let a = c .before .before .before .before .before .before .args in
+    let z = copyable _ _ _ _ _ _ (zero (c .before)) in
+    z .1 ∙ sym (ap (λ (s : Slice). length (s .bytes)) (c .show .ensures) ∙ shown-length (a .b .code) (a .b .w) (a .info) (a .parity) (a .lwc) (z .0))
+
+check-copy-requires : tie.Need-check-copy-requires
+check-copy-requires c κs = search needs
+
+returns : tie.Need-returns
+returns c =
+    let a = c .before .before .before .before .before .args in
+    (c .before .check-copy .ensures, kept-by _ _ (c .before .check-copy .ensures) (c .if1 .taken) _ (a .out .now))
+
 show-requires : tie.Need-show-requires
 show-requires c κs = search needs
 
-returns : tie.Need-returns
-returns c = left-alone (c .before .before .before .before .before .args .out .now) _ _ (ap (λ (s : Slice). s .bytes) (c .before .show .ensures)) (c .if1 .taken)
-
 copy-requires : tie.Need-copy-requires
-copy-requires c κs = search needs
+copy-requires c κs = omega (arith, fits (c .before))
 
 same-length : tie.Need-same-length
 same-length c = search needs
 
 returns-2 : tie.Need-returns-2
-returns-2 c = copied (c .before .before .before .before .before .before .before .before .before .args .out .now) _ _ _ (ap (λ (s : Slice). s .bytes) (c .before .before .before .before .before .show .ensures)) (c .before .before .before .before .if1 .left) (c .before .before .copy .ensures .1)
+returns-2 c =
+    let a = c .before .before .before .before .before .before .before .before .before .before .args in
+    let e = c .before .before .before .before .before .before .check-copy .ensures in
+    let z = c .before .before .before .before .before .if1 .left in
+    let shown = ap (λ (s : Slice). s .bytes) (c .before .before .before .before .show .ensures) in
+    (sym (zero (c .before .before .before .before .before)), copied (a .out .now) _ _ (fits (c .before .before .before .before)) (c .before .before .copy .ensures .1) ∙ shown ∙ changed-by _ _ e z _ (a .out .now))
 
 pub lipvezor-show-spec : {M : Type 1} → statement M
-lipvezor-show-spec = tie.close (tie.spec show-requires returns copy-requires same-length returns-2)
+lipvezor-show-spec = tie.close (tie.spec check-copy-requires returns show-requires copy-requires same-length returns-2)

@@ -1,8 +1,8 @@
--- `lipvezor::lipvezor_take` meets its contract: each case of the answer has its number.
+-- `lipvezor::lipvezor_take` meets its contract: each case of the answer has its number, and its values in the lent record.
 -- Assumes nothing.
 use Rattle.block.specs.Take.{takenAs}
-use Rattle.lipvezor.specs.Numbers.{takenNumber}
-use Rattle.lipvezor.proofs.Answers.{by-case}
+use Rattle.lipvezor.specs.Numbers.{resultValues}
+use Rattle.lipvezor.proofs.Answers.{told}
 use borrow.Author.Needs.{needs}
 use Rattle.lipvezor.proofs.lipvezor_take.Statement.{statement}
 use Rattle.lipvezor.proofs.lipvezor_take.Tie as tie
@@ -27,8 +27,9 @@ same-length-2 c = search needs
 
 returns : tie.Need-returns
 returns c =
-    let e = c .before .before .before .before .before .before .take .ensures in
-    (by-case takenAs takenNumber (e .0) (c .enum-told .given .1), e .1)
+    let e = c .before .before .before .before .before .before .before .take .ensures in
+    let t = told takenAs resultValues (c .before .before .before .before .before .before .before .before .before .before .before .before .before .args .taken .now) (e .0) (c .before .enum-told .given .1) in
+    (t .0, (e .1 .0, (e .1 .1, t .1)))
 
 same-length-3 : tie.Need-same-length-3
 same-length-3 c = search needs
@@ -38,8 +39,9 @@ same-length-4 c = search needs
 
 returns-2 : tie.Need-returns-2
 returns-2 c =
-    let e = c .before .before .before .before .before .before .take .ensures in
-    (by-case takenAs takenNumber (e .0) (c .enum-told2 .given .1), e .1)
+    let e = c .before .before .before .before .before .before .before .take .ensures in
+    let t = told takenAs resultValues (c .before .before .before .before .before .before .before .before .before .before .before .before .before .args .taken .now) (e .0) (c .before .enum-told2 .given .1) in
+    (t .0, (e .1 .0, (e .1 .1, t .1)))
 
 same-length-5 : tie.Need-same-length-5
 same-length-5 c = search needs
@@ -50,7 +52,8 @@ same-length-6 c = search needs
 returns-3 : tie.Need-returns-3
 returns-3 c =
     let e = c .before .before .before .before .before .before .before .take .ensures in
-    (by-case takenAs takenNumber (e .0) (c .before .number .given .1), e .1)
+    let t = told takenAs resultValues (c .before .before .before .before .before .before .before .before .before .before .before .before .before .args .taken .now) (e .0) (c .before .number .given .1) in
+    (t .0, (e .1 .0, (e .1 .1, t .1)))
 
 pub lipvezor-take-spec : {M : Type 1} → statement M
 lipvezor-take-spec =
