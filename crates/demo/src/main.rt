@@ -126,6 +126,19 @@ fn parity_symbols() -> [u8; PARITY] {
     [0; PARITY]
 }
 
+// Reads the information. An input that ends early leaves zeros, one that goes on is not sent whole: both are said.
+fn read_information(info: &mut [u8]) {
+    let n = io::read_full(STDIN_FILENO, info);
+    if n < info.len() {
+        report::print_count(b"the input ends after byte ", n);
+        report::print(b": zeros are sent after it\n");
+    }
+    let mut more = [0u8; 1];
+    if io::read_full(STDIN_FILENO, &mut more) > 0 {
+        report::print(b"the input goes on after the block: its rest is not sent\n");
+    }
+}
+
 fn main() {
     let b = Block {
         code: 1,
@@ -135,7 +148,7 @@ fn main() {
     };
     let mut info = information();
     let mut parity = parity_symbols();
-    io::read_full(STDIN_FILENO, &mut info);
+    read_information(&mut info);
     encode(b, &info, &mut parity);
     transmit(b, &info, &parity);
 }
