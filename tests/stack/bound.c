@@ -396,7 +396,7 @@ static int within(const char *name)
 {
     long limit = strcmp(name, "lipvezor_close") == 0 ? LIPVEZOR_CLOSE_STACK : LIPVEZOR_STACK;
     long need = RETURN_ADDRESS + need_of(function_of(name));
-    printf("%s: at most %ld bytes of stack, %ld by the header%s\n", name, need, limit, need > limit ? ": TOO MUCH" : "");
+    printf("%s: at most %ld bytes of stack%s %ld by the header\n", name, need, need > limit ? ", MORE THAN" : ",", limit);
     return need <= limit;
 }
 
