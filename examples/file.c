@@ -286,7 +286,7 @@ static int is_whole(const struct received *block)
     return block && block->report.verdict == LIPVEZOR_WHOLE;
 }
 
-static struct bytes information(const struct received *block)
+static struct bytes information_in(const struct received *block)
 {
     return (struct bytes){block->symbols.at, lipvezor_information_bytes(block->record.code, block->record.w)};
 }
@@ -296,11 +296,11 @@ static struct bytes joined(const struct receiver *receiver)
 {
     struct bytes all = {NULL, 0};
     for (size_t lsc = FIRST_LSC; lsc <= LAST_LSC && is_whole(receiver->blocks[lsc]); lsc++)
-        all.length += information(receiver->blocks[lsc]).length;
+        all.length += information_in(receiver->blocks[lsc]).length;
     all.at = allocate(all.length);
     size_t end = 0;
     for (size_t lsc = FIRST_LSC; end < all.length; lsc++) {
-        struct bytes next = information(receiver->blocks[lsc]);
+        struct bytes next = information_in(receiver->blocks[lsc]);
         memcpy(all.at + end, next.at, next.length);
         end += next.length;
     }
@@ -333,7 +333,7 @@ static size_t last_block(const struct receiver *receiver)
 {
     size_t last = LAST_LSC;
     if (is_whole(receiver->blocks[FIRST_LSC])) {
-        struct bytes first = information(receiver->blocks[FIRST_LSC]);
+        struct bytes first = information_in(receiver->blocks[FIRST_LSC]);
         size_t blocks = blocks_for(file_length(first), first.length);
         return blocks < LAST_LSC ? blocks : LAST_LSC;
     }

@@ -87,7 +87,7 @@ struct Received {
     }
 };
 
-// a third of the units but one is lost
+// every fourth unit is lost
 size_t take_all(const std::vector<Bytes> &units, Received &received)
 {
     lipvezor_taken taken = lipvezor_taken();

@@ -28,7 +28,8 @@ declared=$(sed -nE 's/^(size_t|uint8_t) (lipvezor_[a-z_0-9]*)\(.*/\2/p' $header 
 $(printf '%s\n' "$global" "$declared" | sort | uniq -u)"
 
 # nothing that can be written lies in it, so no call can keep anything; and it asks for no executable stack
-printf '%s\n' "$sections" | grep -E ' \.(data|bss|tdata|tbss|init_array|ctors)' && fail "the archive has data that can be written, or code that runs by itself"
+printf '%s\n' "$sections" | awk '$2 ~ /^\.(data|bss|tdata|tbss|init_array|ctors)/ && $3 !~ /^0+$/ { print $2; found = 1 } END { exit !found }' &&
+    fail "the archive has data that can be written, or code that runs by itself"
 printf '%s\n' "$sections" | grep -q ' \.note\.GNU-stack ' || fail "the archive asks for an executable stack"
 
 echo "symbols: $(printf '%s\n' "$global" | wc -l) calls, all in the header; needs: $needed"
