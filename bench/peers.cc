@@ -20,7 +20,7 @@ namespace {
 typedef std::vector<uint8_t> Bytes;
 typedef std::function<void()> Step;
 
-const size_t CODE = LIPVEZOR_C2, K = 2048, M = 1024, N = K + M, PROTOCOL = 1, LSC = 7;
+const size_t K = LIPVEZOR_K(C2), M = LIPVEZOR_M(C2), N = LIPVEZOR_N(C2);
 const size_t PATTERNS = 41, SELDOM = 8;
 
 // 12 groups of 256 symbols have just as many information and parity symbols as C2: 8 groups of 171 + 85 and 4 of 170 + 86.
@@ -314,15 +314,21 @@ struct Loss {
     }
 };
 
+lipvezor_block record(size_t w)
+{
+    return lipvezor_block{LIPVEZOR_C2, w, 1, 7};
+}
+
 // Our block, with the work buffers.
 struct Block {
     size_t w;
     Bytes symbols, marks, bytes;
     std::vector<uint64_t> words;
-    uint8_t answer;
+    lipvezor_report report;
 
     explicit Block(size_t w)
-        : w(w), symbols(lipvezor_symbol_bytes(CODE, w)), marks(N), bytes(lipvezor_work_bytes(CODE, w)), words(lipvezor_work_words(CODE)), answer(0)
+        : w(w), symbols(lipvezor_symbol_bytes(LIPVEZOR_C2, w)), marks(N), bytes(lipvezor_work_bytes(LIPVEZOR_C2, w)),
+          words(lipvezor_work_words(LIPVEZOR_C2)), report()
     {
     }
 
@@ -330,10 +336,10 @@ struct Block {
     {
         memcpy(symbols.data(), sent.information.data(), K * w);
         memcpy(symbols.data() + K * w, sent.ours.data(), M * w);
-        std::fill(marks.begin(), marks.end(), 1);
+        std::fill(marks.begin(), marks.end(), LIPVEZOR_MARK_HEARD);
         for (size_t i : loss.positions) {
             memset(&symbols[i * w], 0, w);
-            marks[i] = 0;
+            marks[i] = LIPVEZOR_MARK_LEFT;
         }
         std::fill(words.begin(), words.end(), 1);
         std::fill(bytes.begin(), bytes.end(), 1);
@@ -341,10 +347,12 @@ struct Block {
 
     void close()
     {
-        size_t counts[LIPVEZOR_COUNTS];
-        answer = lipvezor_close(CODE, w, PROTOCOL, LSC, symbols.data(), symbols.size(), marks.data(), marks.size(), words.data(), words.size(),
-                                bytes.data(), bytes.size(), counts);
+        uint8_t refused = lipvezor_close(record(w), symbols.data(), symbols.size(), marks.data(), marks.size(), words.data(), words.size(),
+                                         bytes.data(), bytes.size(), &report);
+        check(refused == LIPVEZOR_DONE, "lipvezor_close refused");
     }
+
+    bool is_whole() const { return report.verdict == LIPVEZOR_WHOLE; }
 };
 
 void encode_all(CM256 &cm256, Sent &sent)
@@ -359,8 +367,8 @@ void encode_all(CM256 &cm256, Sent &sent)
     std::vector<Side> sides = {
         {"lipvezor", 1, [&] { touch(sent.ours); },
          [&] {
-             uint8_t answer = lipvezor_encode(CODE, w, sent.information.data(), K * w, sent.ours.data(), M * w);
-             check(answer == LIPVEZOR_DONE, "lipvezor_encode refused");
+             uint8_t refused = lipvezor_encode(record(w), sent.information.data(), K * w, sent.ours.data(), M * w);
+             check(refused == LIPVEZOR_DONE, "lipvezor_encode refused");
          },
          nothing, {}},
         {"cm256", 1, [&] { touch(sent.cm256); },
@@ -421,8 +429,8 @@ void close_all(CM256 &cm256, const Sent &sent, size_t percent)
         {"lipvezor", 1, [&] { block.hear(sent, *loss); }, [&] { block.close(); },
          [&] {
              bool same = memcmp(block.symbols.data(), sent.information.data(), K * w) == 0;
-             check(block.answer == LIPVEZOR_AMBIGUOUS || (block.answer == LIPVEZOR_WHOLE && same), "close came to something else");
-             whole += block.answer == LIPVEZOR_WHOLE;
+             check(block.report.verdict == LIPVEZOR_AMBIGUOUS || (block.is_whole() && same), "close came to something else");
+             whole += block.is_whole();
          },
          {}},
         {"cm256", 1,
@@ -492,7 +500,7 @@ void close_all(CM256 &cm256, const Sent &sent, size_t percent)
             block.hear(sent, drawn);
             block.close();
             redrawn++;
-            redrawn_whole += block.answer == LIPVEZOR_WHOLE;
+            redrawn_whole += block.is_whole();
             continue;
         }
         loss = &drawn;
@@ -522,7 +530,7 @@ int main()
            PATTERNS, SELDOM);
     static CM256 cm256;
     check(cm256.isInitialized(), "cm256cc doesn't start");
-    check(lipvezor_k(CODE) == K && lipvezor_m(CODE) == M, "not the code that was expected");
+    check(lipvezor_version() == LIPVEZOR_VERSION, "the library is not of this header's version");
     for (size_t w : {16, 64, 1024}) {
         Sent sent{w, Bytes(K * w), Bytes(M * w), Bytes(M * w), Bytes(M * w)};
         Random random{w};

@@ -1,0 +1,504 @@
+/*
+ * A file there and back: cut into blocks, encoded, sent as units over a link that loses some and changes their order, and recovered. The
+ * receiver knows nothing but the units that arrive.
+ *
+ *     file [-2] [-w W] [-l PERCENT] [-s SEED] [FILE [RECOVERED]]
+ *
+ *   -2           code C2; else C1
+ *   -w W         bytes of a symbol, 1 to 1024; else 64
+ *   -l PERCENT   how many of a hundred units are lost; else 15
+ *   -s SEED      which are lost, and the order of the others; else 1
+ *   FILE         what is sent; else a sample of 300,000 bytes
+ *   RECOVERED    where the recovered file goes; else it is only compared
+ *
+ * Exit status 0: every block is whole, and the file is as sent. 1: some block is not whole; which ones is printed, and nothing is written.
+ * 2: something else went wrong.
+ *
+ * With the library installed (make install):
+ *     cc -std=c11 file.c $(pkg-config --cflags --libs lipvezor) -o file
+ */
+#include "lipvezor.h"
+
+#include <stdio.h>
+#include <stdlib.h>
+#include <string.h>
+
+/* The blocks' information, one block after the other, is the file's length in 8 bytes, big-endian, then the file, then zeros to the end of
+   the last block. */
+enum { LENGTH_BYTES = 8, FIRST_LSC = 1, LAST_LSC = 65534, PROTOCOL = 1, SAMPLE_BYTES = 300000 };
+
+struct bytes {
+    uint8_t *at;
+    size_t length;
+};
+
+static _Noreturn void fail(const char *what)
+{
+    fprintf(stderr, "file: %s\n", what);
+    exit(2);
+}
+
+/* for calls that are not refused unless this program is wrong */
+static void expect_done(const char *call, uint8_t refused)
+{
+    if (refused) {
+        fprintf(stderr, "file: %s: refused %u, %s\n", call, (unsigned)refused, lipvezor_refusal_text(refused));
+        exit(2);
+    }
+}
+
+static void *there(void *p)
+{
+    if (!p)
+        fail("no memory");
+    return p;
+}
+
+/* What the buffers hold at first does not matter to any call. None is NULL, even of no bytes: no call may be handed that. */
+static void *allocate(size_t bytes)
+{
+    return there(malloc(bytes ? bytes : 1));
+}
+
+static void *allocate_zeros(size_t count, size_t size)
+{
+    return there(calloc(count, size));
+}
+
+/* ---- numbers for the losses, the order and the sample: SplitMix64 */
+
+static uint64_t state;
+
+static size_t number_below(size_t bound)
+{
+    uint64_t z = state += UINT64_C(0x9E3779B97F4A7C15);
+    z = (z ^ (z >> 30)) * UINT64_C(0xBF58476D1CE4E5B9);
+    z = (z ^ (z >> 27)) * UINT64_C(0x94D049BB133111EB);
+    return (size_t)(z ^ (z >> 31)) % bound;
+}
+
+/* ---- the link: units with their lengths, each in memory of its own */
+
+struct unit {
+    size_t length;
+    uint8_t bytes[];
+};
+
+struct link {
+    struct unit **units;
+    size_t count;
+};
+
+static struct unit *new_unit(size_t length)
+{
+    struct unit *unit = allocate(sizeof *unit + length);
+    unit->length = length;
+    return unit;
+}
+
+static void lose(struct link *link, size_t percent)
+{
+    size_t kept = 0;
+    for (size_t i = 0; i < link->count; i++) {
+        if (number_below(100) < percent)
+            free(link->units[i]);
+        else
+            link->units[kept++] = link->units[i];
+    }
+    link->count = kept;
+}
+
+static void shuffle(struct link *link)
+{
+    for (size_t i = link->count; i > 1; i--) {
+        size_t j = number_below(i);
+        struct unit *other = link->units[j];
+        link->units[j] = link->units[i - 1];
+        link->units[i - 1] = other;
+    }
+}
+
+static void free_link(struct link *link)
+{
+    for (size_t i = 0; i < link->count; i++)
+        free(link->units[i]);
+    free(link->units);
+}
+
+/* ---- on board */
+
+static struct bytes information_of(struct bytes file, size_t blocks, size_t block_bytes)
+{
+    struct bytes all = {allocate_zeros(blocks, block_bytes), blocks * block_bytes};
+    for (size_t i = 0; i < LENGTH_BYTES; i++)
+        all.at[i] = (uint8_t)((uint64_t)file.length >> (8 * (LENGTH_BYTES - 1 - i)));
+    memcpy(all.at + LENGTH_BYTES, file.at, file.length);
+    return all;
+}
+
+static void send_block(struct link *link, lipvezor_block block, struct bytes information)
+{
+    static uint8_t parity[LIPVEZOR_PARITY_BYTES(C2, LIPVEZOR_MAX_WIDTH)];
+    static uint8_t symbol[LIPVEZOR_MAX_WIDTH];
+    const size_t parity_length = lipvezor_parity_bytes(block.code, block.w);
+    expect_done("encode", lipvezor_encode(block, information.at, information.length, parity, parity_length));
+    for (size_t lwc = 1; lwc <= lipvezor_n(block.code); lwc++) {
+        struct unit *unit = new_unit(lipvezor_unit_bytes(block.code, block.w));
+        expect_done("show", lipvezor_show(block, information.at, information.length, parity, parity_length, lwc, symbol, block.w));
+        expect_done("write", lipvezor_write(block, lwc, symbol, block.w, unit->bytes, unit->length));
+        link->units[link->count++] = unit;
+    }
+}
+
+static size_t blocks_for(size_t file_length, size_t block_bytes)
+{
+    size_t whole = file_length / block_bytes, rest = file_length % block_bytes;
+    return whole + (rest + LENGTH_BYTES + block_bytes - 1) / block_bytes;
+}
+
+/* the units of all blocks; LSC 1 is the first */
+static struct link send_file(struct bytes file, size_t code, size_t w)
+{
+    const size_t block_bytes = lipvezor_information_bytes(code, w);
+    const size_t blocks = blocks_for(file.length, block_bytes);
+    if (blocks > LAST_LSC)
+        fail("the file needs more than 65534 blocks: take a larger W, or C2");
+    struct bytes information = information_of(file, blocks, block_bytes);
+    struct link link = {allocate(blocks * lipvezor_n(code) * sizeof *link.units), 0};
+    for (size_t i = 0; i < blocks; i++) {
+        const lipvezor_block block = {.code = code, .w = w, .protocol = PROTOCOL, .lsc = FIRST_LSC + i};
+        send_block(&link, block, (struct bytes){information.at + i * block_bytes, block_bytes});
+    }
+    free(information.at);
+    return link;
+}
+
+/* ---- on the ground */
+
+struct received {
+    lipvezor_block record;
+    struct bytes symbols, marks;
+    lipvezor_report report;
+};
+
+/* the open blocks by their LSC, NULL where no unit came; an LSC is two bytes of a unit */
+struct receiver {
+    struct received *blocks[65536];
+    size_t kept, repeated, refused;
+};
+
+/* the code with a unit's k and n; 0, which is refused, if there is none */
+static size_t code_of(const lipvezor_parts *parts)
+{
+    for (size_t code = LIPVEZOR_C1; code <= LIPVEZOR_C2; code++)
+        if (lipvezor_k(code) == parts->k && lipvezor_n(code) == parts->n)
+            return code;
+    return 0;
+}
+
+static void free_received(struct received *block)
+{
+    free(block->symbols.at);
+    free(block->marks.at);
+    free(block);
+}
+
+/* the block that a unit is of, as the unit describes it */
+static uint8_t open_received(const lipvezor_parts *parts, struct received **opened)
+{
+    struct received *block = allocate(sizeof *block);
+    block->record = (lipvezor_block){.code = code_of(parts), .w = parts->w, .protocol = parts->protocol, .lsc = parts->lsc};
+    block->symbols.length = lipvezor_symbol_bytes(block->record.code, block->record.w);
+    block->symbols.at = allocate(block->symbols.length);
+    block->marks.length = lipvezor_n(block->record.code);
+    block->marks.at = allocate(block->marks.length);
+    uint8_t refused = lipvezor_open(block->record, block->symbols.at, block->symbols.length, block->marks.at, block->marks.length);
+    if (refused)
+        free_received(block);
+    else
+        *opened = block;
+    return refused;
+}
+
+/* to the block of its LSC, which its first unit opens */
+static uint8_t take_unit(struct receiver *receiver, const struct unit *unit, lipvezor_taken *taken)
+{
+    lipvezor_parts parts;
+    uint8_t refused = lipvezor_read(unit->bytes, unit->length, &parts);
+    if (refused)
+        return refused;
+    struct received **place = &receiver->blocks[parts.lsc];
+    if (!*place)
+        refused = open_received(&parts, place);
+    if (refused)
+        return refused;
+    struct received *block = *place;
+    return lipvezor_take(block->record, block->symbols.at, block->symbols.length, block->marks.at, block->marks.length, unit->bytes,
+                         unit->length, taken);
+}
+
+/* a unit that is refused counts as lost */
+static void receive_unit(struct receiver *receiver, const struct unit *unit)
+{
+    lipvezor_taken taken;
+    uint8_t refused = take_unit(receiver, unit, &taken);
+    if (refused) {
+        receiver->refused++;
+        printf("a unit is refused: %u, %s\n", (unsigned)refused, lipvezor_refusal_text(refused));
+    } else if (taken.result == LIPVEZOR_REPEATED) {
+        receiver->repeated++;
+    } else {
+        receiver->kept++;
+    }
+}
+
+/* one pair of work buffers, large enough for every block */
+static void close_received(struct received *block)
+{
+    static uint64_t work_words[LIPVEZOR_WORK_WORDS(C2)];
+    static uint8_t work_bytes[LIPVEZOR_WORK_BYTES(C2, LIPVEZOR_MAX_WIDTH)];
+    const size_t words = lipvezor_work_words(block->record.code), bytes = lipvezor_work_bytes(block->record.code, block->record.w);
+    expect_done("close", lipvezor_close(block->record, block->symbols.at, block->symbols.length, block->marks.at, block->marks.length,
+                                        work_words, words, work_bytes, bytes, &block->report));
+}
+
+static void receive_all(struct receiver *receiver, const struct link *link)
+{
+    for (size_t i = 0; i < link->count; i++)
+        receive_unit(receiver, link->units[i]);
+    for (size_t lsc = FIRST_LSC; lsc <= LAST_LSC; lsc++)
+        if (receiver->blocks[lsc])
+            close_received(receiver->blocks[lsc]);
+}
+
+static void free_receiver(struct receiver *receiver)
+{
+    for (size_t lsc = FIRST_LSC; lsc <= LAST_LSC; lsc++)
+        if (receiver->blocks[lsc])
+            free_received(receiver->blocks[lsc]);
+    free(receiver);
+}
+
+/* ---- the file, from whole blocks alone */
+
+static int is_whole(const struct received *block)
+{
+    return block && block->report.verdict == LIPVEZOR_WHOLE;
+}
+
+static struct bytes information_in(const struct received *block)
+{
+    return (struct bytes){block->symbols.at, lipvezor_information_bytes(block->record.code, block->record.w)};
+}
+
+/* The information of the whole blocks from the first to the one before the first that is not whole. */
+static struct bytes joined(const struct receiver *receiver)
+{
+    struct bytes all = {NULL, 0};
+    for (size_t lsc = FIRST_LSC; lsc <= LAST_LSC && is_whole(receiver->blocks[lsc]); lsc++)
+        all.length += information_in(receiver->blocks[lsc]).length;
+    all.at = allocate(all.length);
+    size_t end = 0;
+    for (size_t lsc = FIRST_LSC; end < all.length; lsc++) {
+        struct bytes next = information_in(receiver->blocks[lsc]);
+        memcpy(all.at + end, next.at, next.length);
+        end += next.length;
+    }
+    return all;
+}
+
+/* as the first block's information gives it */
+static size_t file_length(struct bytes information)
+{
+    uint64_t length = 0;
+    for (size_t i = 0; i < LENGTH_BYTES; i++)
+        length = length << 8 | information.at[i];
+    return length;
+}
+
+/* 1 and where the file lies in what was joined, or 0 if not all of it is there */
+static int find_file(struct bytes all, struct bytes *file)
+{
+    if (all.length < LENGTH_BYTES || file_length(all) > all.length - LENGTH_BYTES)
+        return 0;
+    *file = (struct bytes){all.at + LENGTH_BYTES, file_length(all)};
+    return 1;
+}
+
+/* ---- what is printed of the blocks */
+
+/* The last block that was sent, as far as the receiver can tell: the first block says it if that is whole, else it is the last of which a
+   unit came. */
+static size_t last_block(const struct receiver *receiver)
+{
+    size_t last = LAST_LSC;
+    if (is_whole(receiver->blocks[FIRST_LSC])) {
+        struct bytes first = information_in(receiver->blocks[FIRST_LSC]);
+        size_t blocks = blocks_for(file_length(first), first.length);
+        return blocks < LAST_LSC ? blocks : LAST_LSC;
+    }
+    while (last > FIRST_LSC && !receiver->blocks[last])
+        last--;
+    return last;
+}
+
+static const char *verdict_text(size_t verdict)
+{
+    switch (verdict) {
+    case LIPVEZOR_WHOLE: return "whole";
+    case LIPVEZOR_AMBIGUOUS: return "ambiguous";
+    case LIPVEZOR_INCONSISTENT: return "inconsistent";
+    default: return "a verdict of another version";
+    }
+}
+
+static void print_block(size_t lsc, const struct received *block)
+{
+    if (!block)
+        printf("block %zu: no unit came\n", lsc);
+    else
+        printf("block %zu: %s, heard %zu, filled %zu, left %zu\n", lsc, verdict_text(block->report.verdict), block->report.heard,
+               block->report.filled, block->report.left);
+}
+
+static void print_blocks(const struct receiver *receiver)
+{
+    const size_t last = last_block(receiver);
+    for (size_t lsc = FIRST_LSC; lsc <= last; lsc++)
+        print_block(lsc, receiver->blocks[lsc]);
+}
+
+static void print_not_whole(const struct receiver *receiver)
+{
+    const size_t last = last_block(receiver);
+    printf("not recovered; not whole:");
+    for (size_t lsc = FIRST_LSC; lsc <= last; lsc++)
+        if (!is_whole(receiver->blocks[lsc]))
+            printf(" %zu", lsc);
+    printf("\n");
+}
+
+/* ---- files and options */
+
+static struct bytes read_file(const char *name)
+{
+    struct bytes all = {NULL, 0};
+    size_t room = 0, got;
+    FILE *stream = fopen(name, "rb");
+    if (!stream)
+        fail("the file can't be opened");
+    do {
+        room = room ? 2 * room : 65536;
+        all.at = there(realloc(all.at, room));
+        got = fread(all.at + all.length, 1, room - all.length, stream);
+        all.length += got;
+    } while (all.length == room);
+    if (ferror(stream) || fclose(stream))
+        fail("the file can't be read");
+    return all;
+}
+
+static void write_file(const char *name, struct bytes file)
+{
+    FILE *stream = fopen(name, "wb");
+    if (!stream)
+        fail("the recovered file can't be opened");
+    if (fwrite(file.at, 1, file.length, stream) != file.length || fclose(stream))
+        fail("the recovered file can't be written");
+}
+
+static struct bytes sample(void)
+{
+    struct bytes all = {allocate(SAMPLE_BYTES), SAMPLE_BYTES};
+    for (size_t i = 0; i < SAMPLE_BYTES; i++)
+        all.at[i] = (uint8_t)number_below(256);
+    return all;
+}
+
+struct options {
+    size_t code, w, percent, seed;
+    const char *file, *recovered;
+};
+
+static _Noreturn void usage(void)
+{
+    fail("usage: file [-2] [-w 1..1024] [-l 0..100] [-s SEED] [FILE [RECOVERED]]");
+}
+
+static size_t number_of(const char *text, size_t least, size_t most)
+{
+    if (!text || *text < '0' || *text > '9')
+        usage();
+    char *end;
+    unsigned long long number = strtoull(text, &end, 10);
+    if (*end || number < least || number > most)
+        usage();
+    return (size_t)number;
+}
+
+/* an option's letter; 0 for what is not an option */
+static char option_letter(const char *argument)
+{
+    return argument && argument[0] == '-' && strlen(argument) == 2 ? argument[1] : 0;
+}
+
+static struct options options_of(char **next)
+{
+    struct options all = {.code = LIPVEZOR_C1, .w = 64, .percent = 15, .seed = 1};
+    for (; option_letter(*next); next++) {
+        switch (option_letter(*next)) {
+        case '2': all.code = LIPVEZOR_C2; break;
+        case 'w': all.w = number_of(*++next, 1, LIPVEZOR_MAX_WIDTH); break;
+        case 'l': all.percent = number_of(*++next, 0, 100); break;
+        case 's': all.seed = number_of(*++next, 0, UINT32_MAX); break;
+        default: usage();
+        }
+    }
+    if (*next)
+        all.file = *next++;
+    if (*next)
+        all.recovered = *next++;
+    if (*next)
+        usage();
+    return all;
+}
+
+/* 0, and the file is as sent; or 1, and not every block is whole */
+static int recover(const struct receiver *receiver, struct bytes sent, const char *name)
+{
+    struct bytes all = joined(receiver), file;
+    int found = find_file(all, &file);
+    if (found) {
+        if (file.length != sent.length || memcmp(file.at, sent.at, sent.length) != 0)
+            fail("every block is whole, but the file is not as sent");
+        if (name)
+            write_file(name, file);
+        printf("recovered: %zu bytes, as sent\n", file.length);
+    } else {
+        print_not_whole(receiver);
+    }
+    free(all.at);
+    return !found;
+}
+
+int main(int argc, char **argv)
+{
+    const struct options options = options_of(argv + (argc > 0));
+    state = options.seed;
+    struct bytes file = options.file ? read_file(options.file) : sample();
+    struct link link = send_file(file, options.code, options.w);
+    const size_t sent = link.count;
+    lose(&link, options.percent);
+    shuffle(&link);
+
+    struct receiver *receiver = allocate_zeros(1, sizeof *receiver);
+    receive_all(receiver, &link);
+    printf("units: %zu sent, %zu arrived, %zu kept, %zu repeated, %zu refused\n", sent, link.count, receiver->kept, receiver->repeated,
+           receiver->refused);
+    print_blocks(receiver);
+    int status = recover(receiver, file, options.recovered);
+    free_receiver(receiver);
+    free_link(&link);
+    free(file.at);
+    return status;
+}

@@ -1,0 +1,140 @@
+// include/lipvezor.h in C++11: every call once, and what it answers. Exit status 0, or 1 and what is not so.
+#include "lipvezor.h"
+
+#include <cstdio>
+#include <cstring>
+#include <vector>
+
+namespace {
+
+typedef std::vector<uint8_t> Bytes;
+
+bool wrong = false;
+
+void expect(bool holds, const char *what)
+{
+    if (!holds) {
+        std::printf("calls: not so: %s\n", what);
+        wrong = true;
+    }
+}
+
+// a block's numbers, each of them another one
+const size_t W = 16;
+const lipvezor_block block = {LIPVEZOR_C1, W, 5, 1234};
+
+struct Sizes {
+    size_t n, k, m, information, parity, symbols, unit, work_words, work_bytes;
+};
+
+Sizes sizes()
+{
+    return Sizes{lipvezor_n(block.code), lipvezor_k(block.code), lipvezor_m(block.code), lipvezor_information_bytes(block.code, block.w),
+                 lipvezor_parity_bytes(block.code, block.w), lipvezor_symbol_bytes(block.code, block.w), lipvezor_unit_bytes(block.code, block.w),
+                 lipvezor_work_words(block.code), lipvezor_work_bytes(block.code, block.w)};
+}
+
+// every unit, in memory of its own
+std::vector<Bytes> send(const Sizes &size, const Bytes &information, Bytes &parity)
+{
+    std::vector<Bytes> units(size.n, Bytes(size.unit));
+    Bytes symbol(W);
+    expect(lipvezor_encode(block, information.data(), information.size(), parity.data(), parity.size()) == LIPVEZOR_DONE, "encode is done");
+    for (size_t lwc = 1; lwc <= size.n; lwc++) {
+        Bytes &unit = units[lwc - 1];
+        expect(lipvezor_show(block, information.data(), information.size(), parity.data(), parity.size(), lwc, symbol.data(), symbol.size())
+                   == LIPVEZOR_DONE, "show is done");
+        const uint8_t *sent = lwc <= size.k ? &information[(lwc - 1) * W] : &parity[(lwc - 1 - size.k) * W];
+        expect(std::memcmp(symbol.data(), sent, W) == 0, "the symbol of an LWC");
+        expect(lipvezor_write(block, lwc, symbol.data(), symbol.size(), unit.data(), unit.size()) == LIPVEZOR_DONE, "write is done");
+    }
+    expect(lipvezor_show(block, information.data(), information.size(), parity.data(), parity.size(), size.n + 1, symbol.data(), symbol.size())
+               == LIPVEZOR_REFUSED_POSITION, "show refuses a position");
+    expect(lipvezor_encode(block, information.data(), information.size(), parity.data(), parity.size() - 1) == LIPVEZOR_REFUSED_LENGTH,
+           "encode refuses a length");
+    return units;
+}
+
+void look(const Sizes &size, const Bytes &unit)
+{
+    lipvezor_parts parts = lipvezor_parts();
+    expect(lipvezor_read(unit.data(), unit.size(), &parts) == LIPVEZOR_DONE, "read is done");
+    expect(parts.protocol == block.protocol && parts.count == 1 && parts.lwc == 5 && parts.lsc == block.lsc && parts.symbol == size.unit - W
+           && parts.coding == 1 && parts.w == W && parts.k == size.k && parts.n == size.n && parts.seed == 0, "a unit's parts");
+    expect(lipvezor_read(unit.data(), 5, &parts) == LIPVEZOR_REFUSED_HEADER && parts.lwc == 5, "a refused read leaves the parts");
+}
+
+struct Received {
+    Bytes symbols, marks, bytes;
+    std::vector<uint64_t> words;
+
+    explicit Received(const Sizes &size)
+        : symbols(size.symbols, 0xA5), marks(size.n, 0xA5), bytes(size.work_bytes, 0xA5), words(size.work_words, 0xA5)
+    {
+    }
+
+    uint8_t open() { return lipvezor_open(block, symbols.data(), symbols.size(), marks.data(), marks.size()); }
+
+    uint8_t take(const lipvezor_block &of, const Bytes &unit, lipvezor_taken *taken)
+    {
+        return lipvezor_take(of, symbols.data(), symbols.size(), marks.data(), marks.size(), unit.data(), unit.size(), taken);
+    }
+
+    uint8_t close(size_t words_length, lipvezor_report *report)
+    {
+        return lipvezor_close(block, symbols.data(), symbols.size(), marks.data(), marks.size(), words.data(), words_length, bytes.data(),
+                              bytes.size(), report);
+    }
+};
+
+// every fourth unit is lost
+size_t take_all(const std::vector<Bytes> &units, Received &received)
+{
+    lipvezor_taken taken = lipvezor_taken();
+    size_t kept = 0;
+    expect(received.open() == LIPVEZOR_DONE, "open is done");
+    for (size_t i = 0; i < units.size(); i++) {
+        if (i % 4 == 2) {
+            continue;
+        }
+        expect(received.take(block, units[i], &taken) == LIPVEZOR_DONE && taken.result == LIPVEZOR_KEPT, "a unit is kept");
+        expect(received.take(block, units[i], &taken) == LIPVEZOR_DONE && taken.result == LIPVEZOR_REPEATED, "it is kept once");
+        kept++;
+    }
+    lipvezor_block other = block;
+    other.lsc++;
+    taken.result = 77;
+    expect(received.take(other, units[2], &taken) == LIPVEZOR_REFUSED_FOREIGN && taken.result == 77, "a refused take leaves its record");
+    return kept;
+}
+
+void close_all(const Sizes &size, Received &received, size_t kept)
+{
+    lipvezor_report report = {1, 2, 3, 4};
+    expect(received.close(size.work_words - 1, &report) == LIPVEZOR_REFUSED_LENGTH && report.verdict == 1 && report.heard == 2
+           && report.filled == 3 && report.left == 4, "a refused close leaves its record");
+    expect(received.close(size.work_words, &report) == LIPVEZOR_DONE, "close is done");
+    expect(report.verdict == LIPVEZOR_WHOLE && report.heard == kept && report.filled == size.n - kept && report.left == 0, "the report");
+}
+
+} // namespace
+
+int main()
+{
+    const Sizes size = sizes();
+    Bytes information(size.information), parity(size.parity);
+    for (size_t i = 0; i < information.size(); i++) {
+        information[i] = static_cast<uint8_t>(i * i >> 4);
+    }
+    expect(lipvezor_version() == LIPVEZOR_VERSION, "the version");
+    const std::vector<Bytes> units = send(size, information, parity);
+    look(size, units[4]);
+    Received received(size);
+    close_all(size, received, take_all(units, received));
+    expect(std::memcmp(received.symbols.data(), information.data(), information.size()) == 0, "the information is as sent");
+    expect(std::memcmp(&received.symbols[information.size()], parity.data(), parity.size()) == 0, "the parity is as sent");
+    if (!wrong) {
+        std::printf("calls: all as the header says, %s\n", lipvezor_refusal_text(LIPVEZOR_DONE));
+    }
+    return wrong;
+}

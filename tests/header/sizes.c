@@ -1,0 +1,158 @@
+/*
+ * What include/lipvezor.h says by itself is what the archive says: size macros and size functions, the version, the records' layout; and the
+ * texts of the refusals. Exit status 0, or 1 and what is not so.
+ */
+#include "lipvezor.h"
+
+#include <stdio.h>
+#include <string.h>
+
+/* the macros are constants */
+static uint8_t information[LIPVEZOR_INFORMATION_BYTES(C1, 16)];
+static uint8_t parity[LIPVEZOR_PARITY_BYTES(C1, 16)];
+static uint8_t symbols[LIPVEZOR_SYMBOL_BYTES(C2, LIPVEZOR_MAX_WIDTH)];
+static uint8_t marks[LIPVEZOR_N(C2)];
+static uint8_t unit[LIPVEZOR_UNIT_BYTES(C2, LIPVEZOR_MAX_WIDTH)];
+static uint64_t work_words[LIPVEZOR_WORK_WORDS(C2)];
+static uint8_t work_bytes[LIPVEZOR_WORK_BYTES(C2, LIPVEZOR_MAX_WIDTH)];
+_Static_assert(sizeof information == 8192 && sizeof parity == 4096, "C1's information and parity of 16 bytes a symbol");
+_Static_assert(sizeof symbols == 3145728 && sizeof marks == 3072, "the largest block");
+_Static_assert(sizeof unit == 1039 && LIPVEZOR_UNIT_BYTES(C1, 127) == 141 && LIPVEZOR_UNIT_BYTES(C1, 128) == 143, "units");
+_Static_assert(sizeof work_words == 401408 && sizeof work_bytes == 1048576, "the largest work buffers");
+_Static_assert(LIPVEZOR_SYMBOL_BYTES(C1, 8 + 8) == 12288 && LIPVEZOR_UNIT_BYTES(C1, 100 + 28) == 143, "a sum as W");
+_Static_assert(LIPVEZOR_K(C1) + LIPVEZOR_M(C1) == LIPVEZOR_N(C1) && LIPVEZOR_K(C2) + LIPVEZOR_M(C2) == LIPVEZOR_N(C2), "n = k + m");
+_Static_assert(LIPVEZOR_VERSION > 0 && LIPVEZOR_STACK > 0 && LIPVEZOR_CLOSE_STACK > LIPVEZOR_STACK, "other constants");
+
+/* the archive has a record as an array of size_t, in this order */
+#define MEMBER(record, member, index) _Static_assert(offsetof(record, member) == (index) * sizeof(size_t), #record "." #member)
+#define MEMBERS(record, count) _Static_assert(sizeof(record) == (count) * sizeof(size_t) && _Alignof(record) == _Alignof(size_t), #record)
+MEMBERS(lipvezor_block, 4);
+MEMBER(lipvezor_block, code, 0);
+MEMBER(lipvezor_block, w, 1);
+MEMBER(lipvezor_block, protocol, 2);
+MEMBER(lipvezor_block, lsc, 3);
+MEMBERS(lipvezor_parts, 10);
+MEMBER(lipvezor_parts, protocol, 0);
+MEMBER(lipvezor_parts, count, 1);
+MEMBER(lipvezor_parts, lwc, 2);
+MEMBER(lipvezor_parts, lsc, 3);
+MEMBER(lipvezor_parts, symbol, 4);
+MEMBER(lipvezor_parts, coding, 5);
+MEMBER(lipvezor_parts, w, 6);
+MEMBER(lipvezor_parts, k, 7);
+MEMBER(lipvezor_parts, n, 8);
+MEMBER(lipvezor_parts, seed, 9);
+MEMBERS(lipvezor_taken, 1);
+MEMBER(lipvezor_taken, result, 0);
+MEMBERS(lipvezor_report, 4);
+MEMBER(lipvezor_report, verdict, 0);
+MEMBER(lipvezor_report, heard, 1);
+MEMBER(lipvezor_report, filled, 2);
+MEMBER(lipvezor_report, left, 3);
+
+static int wrong;
+
+static void same(const char *what, size_t w, size_t ours, size_t theirs)
+{
+    if (ours != theirs) {
+        printf("sizes: %s, W %zu: %zu by the header, %zu by the archive\n", what, w, ours, theirs);
+        wrong = 1;
+    }
+}
+
+static void expect(int holds, const char *what)
+{
+    if (!holds) {
+        printf("sizes: not so: %s\n", what);
+        wrong = 1;
+    }
+}
+
+#define SAME_SIZES(code, number, w) \
+    do { \
+        same(#code " n", w, LIPVEZOR_N(code), lipvezor_n(number)); \
+        same(#code " k", w, LIPVEZOR_K(code), lipvezor_k(number)); \
+        same(#code " m", w, LIPVEZOR_M(code), lipvezor_m(number)); \
+        same(#code " information", w, LIPVEZOR_INFORMATION_BYTES(code, w), lipvezor_information_bytes(number, w)); \
+        same(#code " parity", w, LIPVEZOR_PARITY_BYTES(code, w), lipvezor_parity_bytes(number, w)); \
+        same(#code " symbols", w, LIPVEZOR_SYMBOL_BYTES(code, w), lipvezor_symbol_bytes(number, w)); \
+        same(#code " unit", w, LIPVEZOR_UNIT_BYTES(code, w), lipvezor_unit_bytes(number, w)); \
+        same(#code " work words", w, LIPVEZOR_WORK_WORDS(code), lipvezor_work_words(number)); \
+        same(#code " work bytes", w, LIPVEZOR_WORK_BYTES(code, w), lipvezor_work_bytes(number, w)); \
+    } while (0)
+
+/* 0 for numbers that are refused */
+static void no_sizes(size_t code, size_t w)
+{
+    same("information, refused", w, 0, lipvezor_information_bytes(code, w));
+    same("parity, refused", w, 0, lipvezor_parity_bytes(code, w));
+    same("symbols, refused", w, 0, lipvezor_symbol_bytes(code, w));
+    same("unit, refused", w, 0, lipvezor_unit_bytes(code, w));
+    same("work bytes, refused", w, 0, lipvezor_work_bytes(code, w));
+}
+
+static void no_code(size_t code)
+{
+    same("n, refused", 0, 0, lipvezor_n(code));
+    same("k, refused", 0, 0, lipvezor_k(code));
+    same("m, refused", 0, 0, lipvezor_m(code));
+    same("work words, refused", 0, 0, lipvezor_work_words(code));
+    no_sizes(code, 1);
+}
+
+static void compare_sizes(void)
+{
+    for (size_t w = 1; w <= LIPVEZOR_MAX_WIDTH; w++) {
+        SAME_SIZES(C1, LIPVEZOR_C1, w);
+        SAME_SIZES(C2, LIPVEZOR_C2, w);
+    }
+    const size_t codes[] = {0, 3, 256 + 1, SIZE_MAX}, widths[] = {0, LIPVEZOR_MAX_WIDTH + 1, SIZE_MAX};
+    for (size_t i = 0; i < sizeof codes / sizeof *codes; i++)
+        no_code(codes[i]);
+    for (size_t i = 0; i < sizeof widths / sizeof *widths; i++)
+        no_sizes(LIPVEZOR_C1, widths[i]), no_sizes(LIPVEZOR_C2, widths[i]);
+}
+
+static void compare_version(void)
+{
+    size_t first, second, third;
+    char text[32];
+    same("version", 0, LIPVEZOR_VERSION, lipvezor_version());
+    expect(sscanf(LIPVEZOR_VERSION_TEXT, "%zu.%zu.%zu", &first, &second, &third) == 3, "the version's text has three numbers");
+    same("version by its text", 0, first * 10000 + second * 100 + third, lipvezor_version());
+    snprintf(text, sizeof text, "%zu.%zu.%zu", first, second, third);
+    expect(strcmp(text, LIPVEZOR_VERSION_TEXT) == 0, "the version's text has nothing but them");
+}
+
+/* a number of the enum has a text of its own, any other the common one */
+static void compare_texts(void)
+{
+    static const unsigned numbers[] = {
+        LIPVEZOR_DONE, LIPVEZOR_REFUSED_CODE, LIPVEZOR_REFUSED_WIDTH, LIPVEZOR_REFUSED_LABEL, LIPVEZOR_REFUSED_LENGTH, LIPVEZOR_REFUSED_HEADER,
+        LIPVEZOR_REFUSED_EXTENSION, LIPVEZOR_REFUSED_NUMBER, LIPVEZOR_REFUSED_EXTENSION_KIND, LIPVEZOR_REFUSED_PARAMETERS,
+        LIPVEZOR_REFUSED_FOREIGN, LIPVEZOR_REFUSED_POSITION, LIPVEZOR_REFUSED_SYMBOL, LIPVEZOR_REFUSED_MARK, LIPVEZOR_REFUSED_CONFLICT,
+    };
+    const size_t count = sizeof numbers / sizeof *numbers;
+    const char *common = lipvezor_refusal_text(255);
+    size_t others = 0;
+    for (unsigned number = 0; number < 1000; number++) {
+        const char *text = lipvezor_refusal_text(number);
+        expect(text && *text, "each number has a text");
+        others += text && strcmp(text, common) == 0;
+    }
+    expect(others == 1000 - count, "as many texts as refusals, and done");
+    for (size_t i = 0; i < count; i++)
+        for (size_t j = 0; j < i; j++)
+            expect(strcmp(lipvezor_refusal_text(numbers[i]), lipvezor_refusal_text(numbers[j])) != 0, "texts differ");
+}
+
+int main(void)
+{
+    compare_sizes();
+    compare_version();
+    compare_texts();
+    (void)information, (void)parity, (void)symbols, (void)marks, (void)unit, (void)work_words, (void)work_bytes;
+    if (!wrong)
+        printf("sizes: header and archive agree, version %s\n", LIPVEZOR_VERSION_TEXT);
+    return wrong;
+}
