@@ -66,7 +66,7 @@ _Static_assert(sizeof(size_t) == 8, "lipvezor: a size_t has 64 bits");
 
 #define LIPVEZOR_VERSION_TEXT "0.3.0"
 /* first number * 10000 + second * 100 + third */
-#define LIPVEZOR_VERSION ((size_t)300)
+#define LIPVEZOR_VERSION 300
 
 /* The archive's version, as LIPVEZOR_VERSION. */
 size_t lipvezor_version(void);
@@ -119,8 +119,8 @@ static inline const char *lipvezor_refusal_text(unsigned number)
 /* ---- codes and sizes */
 
 /* The codes, by their number. */
-#define LIPVEZOR_C1 ((size_t)1)
-#define LIPVEZOR_C2 ((size_t)2)
+#define LIPVEZOR_C1 1
+#define LIPVEZOR_C2 2
 
 /* The largest W. */
 #define LIPVEZOR_MAX_WIDTH 1024
@@ -138,13 +138,14 @@ static inline const char *lipvezor_refusal_text(unsigned number)
 #define LIPVEZOR_INFORMATION_BYTES(code, w) (LIPVEZOR_##code##_K * (w))
 #define LIPVEZOR_PARITY_BYTES(code, w) (LIPVEZOR_##code##_M * (w))
 #define LIPVEZOR_SYMBOL_BYTES(code, w) ((LIPVEZOR_##code##_K + LIPVEZOR_##code##_M) * (w))
-#define LIPVEZOR_UNIT_BYTES(code, w) (8 + 6 + ((w) >= 128) + (w))
+#define LIPVEZOR_UNIT_BYTES(code, w) (((w) < 128 ? 14 : 15) + (w))
 #define LIPVEZOR_WORK_WORDS(code) (LIPVEZOR_##code##_M * ((LIPVEZOR_##code##_K + LIPVEZOR_##code##_M) / 64 + 1))
 #define LIPVEZOR_WORK_BYTES(code, w) (LIPVEZOR_##code##_M * (w))
 
-/* Bytes of stack that lipvezor_close takes at most, and that every other call does. */
-#define LIPVEZOR_CLOSE_STACK 40000
-#define LIPVEZOR_STACK 4000
+/* Bytes of stack that lipvezor_close takes at most, and that every other call does, with 256 for memset. Where memset is bound at its first
+   call, the loader takes some thousand more then; -Wl,-z,now, LD_BIND_NOW=1 or a static link binds it at the start. */
+#define LIPVEZOR_CLOSE_STACK 36000
+#define LIPVEZOR_STACK 4800
 
 /* The same sizes by a code's number: 0 for a number or a W that is refused. */
 
