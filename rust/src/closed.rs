@@ -1,0 +1,300 @@
+//! A block after a close: its verdict, and the bytes that the verdict allows.
+use core::fmt;
+use core::iter::{Enumerate, FusedIterator, Zip};
+use core::slice::{ChunksExact, Iter};
+
+use crate::{Mark, Record, Report, Verdict};
+
+/// A block after a close, from [`Block::close`](crate::Block::close). It borrows the block, and gives out the bytes that its verdict allows: all of
+/// a whole block, the heard and the filled symbols one by one of an ambiguous one, none of an inconsistent one.
+///
+/// ```
+/// use lipvezor::{Block, Closed, Code, Codeword, Mark, Record, Refusal, Work};
+///
+/// # fn main() -> Result<(), Refusal> {
+/// let record = Record::new(Code::C1, 1);
+/// let sent = Codeword::encode(record, [7; 512])?;
+/// let mut block = Block::open(record)?;
+/// for lwc in 1..=511 {
+///     block.take(&sent.unit(lwc)?)?;
+/// }
+/// let mut work = Work::of(record);
+/// match block.close(&mut work)? {
+///     Closed::Whole(_) => unreachable!("too few units came"),
+///     Closed::Ambiguous(block) => {
+///         let first = block.symbols().next().expect("it was heard");
+///         assert_eq!((first.position, first.mark, first.bytes), (0, Mark::Heard, &[7][..]));
+///         assert_eq!(block.missing().next(), Some(511));
+///     }
+///     Closed::Inconsistent(block) => println!("{}", block.report()),
+///     _ => {}
+/// }
+///
+/// // the last parity symbol is the sum of all information symbols
+/// block.take(&sent.unit(768)?)?;
+/// let closed = block.close(&mut work)?;
+/// assert_eq!(closed.to_string(), "whole: heard 512, filled 256, left 0");
+/// assert_eq!(closed.information(), Some(sent.information()));
+/// # Ok(())
+/// # }
+/// ```
+#[must_use]
+#[non_exhaustive]
+#[derive(Clone, Copy, Debug, PartialEq, Eq)]
+pub enum Closed<'a> {
+    /// Just one codeword agrees with the symbols heard; the block is that codeword.
+    Whole(Whole<'a>),
+    /// Two or more agree; the symbols on which they all agree are filled.
+    Ambiguous(Ambiguous<'a>),
+    /// None agrees: a symbol was heard that was not sent.
+    Inconsistent(Inconsistent<'a>),
+}
+
+impl<'a> Closed<'a> {
+    /// What a close found, and what it left in the block's buffers.
+    pub(crate) fn new(record: Record, report: Report, symbols: &'a [u8], marks: &'a [u8]) -> Closed<'a> {
+        let parts = Parts { record, report, symbols, marks };
+        match report.verdict {
+            Verdict::Whole => Closed::Whole(Whole(parts)),
+            Verdict::Ambiguous => Closed::Ambiguous(Ambiguous(parts)),
+            Verdict::Inconsistent => Closed::Inconsistent(Inconsistent(parts)),
+        }
+    }
+
+    /// The verdict and the counts.
+    pub fn report(&self) -> Report {
+        match self {
+            Closed::Whole(block) => block.report(),
+            Closed::Ambiguous(block) => block.report(),
+            Closed::Inconsistent(block) => block.report(),
+        }
+    }
+
+    /// The verdict.
+    #[must_use]
+    pub fn verdict(&self) -> Verdict {
+        self.report().verdict
+    }
+
+    /// The information, k symbols one after the other, of a whole block; else `None`.
+    #[must_use]
+    pub fn information(&self) -> Option<&'a [u8]> {
+        match self {
+            Closed::Whole(block) => Some(block.information()),
+            Closed::Ambiguous(_) | Closed::Inconsistent(_) => None,
+        }
+    }
+}
+
+/// As the [`Report`].
+impl fmt::Display for Closed<'_> {
+    fn fmt(&self, f: &mut fmt::Formatter<'_>) -> fmt::Result {
+        self.report().fmt(f)
+    }
+}
+
+/// A closed block's numbers, what its close found, and its buffers.
+#[derive(Clone, Copy, PartialEq, Eq)]
+struct Parts<'a> {
+    record: Record,
+    report: Report,
+    symbols: &'a [u8],
+    marks: &'a [u8],
+}
+
+impl<'a> Parts<'a> {
+    fn symbol(&self, position: usize) -> Option<&'a [u8]> {
+        self.symbols.chunks_exact(self.record.w).nth(position)
+    }
+
+    /// Numbers and counts alone: the bytes are not for a log.
+    fn debug(&self, f: &mut fmt::Formatter<'_>, name: &str) -> fmt::Result {
+        f.debug_struct(name).field("record", &self.record).field("report", &self.report).finish_non_exhaustive()
+    }
+}
+
+/// A block that closed whole: all its bytes are there. [`Closed`] has an example.
+#[derive(Clone, Copy, PartialEq, Eq)]
+pub struct Whole<'a>(Parts<'a>);
+
+impl<'a> Whole<'a> {
+    /// The block's numbers.
+    #[must_use]
+    pub fn record(&self) -> Record {
+        self.0.record
+    }
+
+    /// The verdict and the counts.
+    pub fn report(&self) -> Report {
+        self.0.report
+    }
+
+    /// The information, k symbols one after the other.
+    #[must_use]
+    pub fn information(&self) -> &'a [u8] {
+        &self.0.symbols[..self.0.record.information_bytes()]
+    }
+
+    /// The parity, m symbols one after the other.
+    #[must_use]
+    pub fn parity(&self) -> &'a [u8] {
+        &self.0.symbols[self.0.record.information_bytes()..]
+    }
+
+    /// The symbol at a position; `None` beyond the block.
+    #[must_use]
+    pub fn symbol(&self, position: usize) -> Option<&'a [u8]> {
+        self.0.symbol(position)
+    }
+}
+
+impl fmt::Debug for Whole<'_> {
+    fn fmt(&self, f: &mut fmt::Formatter<'_>) -> fmt::Result {
+        self.0.debug(f, "Whole")
+    }
+}
+
+/// A block that closed ambiguous: some of its symbols are there. [`Closed`] has an example.
+#[derive(Clone, Copy, PartialEq, Eq)]
+pub struct Ambiguous<'a>(Parts<'a>);
+
+impl<'a> Ambiguous<'a> {
+    /// The block's numbers.
+    #[must_use]
+    pub fn record(&self) -> Record {
+        self.0.record
+    }
+
+    /// The verdict and the counts.
+    pub fn report(&self) -> Report {
+        self.0.report
+    }
+
+    /// The symbols that were heard or filled, in the order of their positions. A heard one is as it came: an ambiguous block may have heard a
+    /// symbol that was not sent, and what was filled is then wrong too.
+    pub fn symbols(&self) -> Symbols<'a> {
+        Symbols(self.0.marks.iter().enumerate().zip(self.0.symbols.chunks_exact(self.0.record.w)))
+    }
+
+    /// The symbol at a position, where it was heard or filled; `None` where it is missing, and beyond the block.
+    #[must_use]
+    pub fn symbol(&self, position: usize) -> Option<Symbol<'a>> {
+        Symbol::new(position, *self.0.marks.get(position)?, self.0.symbol(position)?)
+    }
+
+    /// The positions that are missing, in order.
+    pub fn missing(&self) -> Missing<'a> {
+        Missing::new(self.0.marks)
+    }
+}
+
+impl fmt::Debug for Ambiguous<'_> {
+    fn fmt(&self, f: &mut fmt::Formatter<'_>) -> fmt::Result {
+        self.0.debug(f, "Ambiguous")
+    }
+}
+
+/// A block that closed inconsistent. Some symbol that it heard was not sent, and nothing says which: it gives out none. [`Closed`] has an
+/// example.
+#[derive(Clone, Copy, PartialEq, Eq)]
+pub struct Inconsistent<'a>(Parts<'a>);
+
+impl Inconsistent<'_> {
+    /// The block's numbers.
+    #[must_use]
+    pub fn record(&self) -> Record {
+        self.0.record
+    }
+
+    /// The verdict and the counts.
+    pub fn report(&self) -> Report {
+        self.0.report
+    }
+}
+
+impl fmt::Debug for Inconsistent<'_> {
+    fn fmt(&self, f: &mut fmt::Formatter<'_>) -> fmt::Result {
+        self.0.debug(f, "Inconsistent")
+    }
+}
+
+/// A symbol of an ambiguous block, from [`Ambiguous::symbols`]; heard or filled, as its mark says.
+#[non_exhaustive]
+#[derive(Clone, Copy, Debug, PartialEq, Eq)]
+pub struct Symbol<'a> {
+    /// Its position, from 0.
+    pub position: usize,
+    /// [`Mark::Heard`] or [`Mark::Filled`].
+    pub mark: Mark,
+    /// Its W bytes.
+    pub bytes: &'a [u8],
+}
+
+impl<'a> Symbol<'a> {
+    /// The symbol at a position, unless its mark says that it is missing.
+    fn new(position: usize, mark: u8, bytes: &'a [u8]) -> Option<Symbol<'a>> {
+        let mark = Mark::try_from(mark).ok().filter(|&mark| mark != Mark::Left)?;
+        Some(Symbol { position, mark, bytes })
+    }
+}
+
+/// The symbols of an ambiguous block that were heard or filled, from [`Ambiguous::symbols`].
+#[must_use]
+#[derive(Clone, Debug)]
+pub struct Symbols<'a>(Zip<Enumerate<Iter<'a, u8>>, ChunksExact<'a, u8>>);
+
+impl<'a> Iterator for Symbols<'a> {
+    type Item = Symbol<'a>;
+
+    fn next(&mut self) -> Option<Symbol<'a>> {
+        self.0.find_map(|((position, &mark), bytes)| Symbol::new(position, mark, bytes))
+    }
+
+    fn size_hint(&self) -> (usize, Option<usize>) {
+        (0, Some(self.0.len()))
+    }
+}
+
+impl DoubleEndedIterator for Symbols<'_> {
+    fn next_back(&mut self) -> Option<Self::Item> {
+        self.0.by_ref().rev().find_map(|((position, &mark), bytes)| Symbol::new(position, mark, bytes))
+    }
+}
+
+impl FusedIterator for Symbols<'_> {}
+
+/// The positions of a block that are missing, in order, from [`Block::missing`](crate::Block::missing) and [`Ambiguous::missing`].
+#[must_use]
+#[derive(Clone, Debug)]
+pub struct Missing<'a>(Enumerate<Iter<'a, u8>>);
+
+impl<'a> Missing<'a> {
+    pub(crate) fn new(marks: &'a [u8]) -> Missing<'a> {
+        Missing(marks.iter().enumerate())
+    }
+}
+
+/// A position, if its mark says that it is missing.
+fn left((position, &mark): (usize, &u8)) -> Option<usize> {
+    (mark == u8::from(Mark::Left)).then_some(position)
+}
+
+impl Iterator for Missing<'_> {
+    type Item = usize;
+
+    fn next(&mut self) -> Option<usize> {
+        self.0.find_map(left)
+    }
+
+    fn size_hint(&self) -> (usize, Option<usize>) {
+        (0, Some(self.0.len()))
+    }
+}
+
+impl DoubleEndedIterator for Missing<'_> {
+    fn next_back(&mut self) -> Option<usize> {
+        self.0.by_ref().rev().find_map(left)
+    }
+}
+
+impl FusedIterator for Missing<'_> {}
