@@ -3,9 +3,9 @@
 use alloc::{vec, vec::Vec};
 use core::fmt;
 
-use crate::{calls, Closed, Mark, Missing, Record, Refusal, Taken};
 #[cfg(feature = "alloc")]
 use crate::Work;
+use crate::{calls, Closed, Mark, Missing, Record, Refusal, Taken};
 
 /// A block on the ground: its record, and two buffers, which it owns (`Block`) or borrows (`Block<&mut [u8]>`, any type that lends its bytes will
 /// do).
@@ -155,5 +155,88 @@ impl<B: AsRef<[u8]> + AsMut<[u8]>> Block<B> {
 impl<B> fmt::Debug for Block<B> {
     fn fmt(&self, f: &mut fmt::Formatter<'_>) -> fmt::Result {
         f.debug_struct("Block").field("record", &self.record).finish_non_exhaustive()
+    }
+}
+
+#[cfg(all(test, feature = "alloc"))]
+mod tests {
+    use super::*;
+    use crate::{Code, Codeword};
+
+    #[test]
+    fn a_borrowing_block_does_as_an_owning_one() {
+        let record = Record::new(Code::C1, 3).with_protocol(2).with_lsc(65_534);
+        let sent = Codeword::encode(record, (0..1536).map(|i| (i * 7 % 251) as u8).collect::<Vec<u8>>()).unwrap();
+        let (mut symbols, mut marks) = (vec![0xEE; 768 * 3], vec![0xEE; 768]);
+        let mut owning = Block::open(record).unwrap();
+        let mut borrowing = Block::open_in(record, &mut symbols[..], &mut marks[..]).unwrap();
+        assert_eq!(owning.buffers(), borrowing.buffers());
+        for unit in sent.units().unwrap().step_by(2).chain(sent.units().unwrap().skip(300).take(200)) {
+            assert_eq!(owning.take(&unit), borrowing.take(&unit));
+        }
+        let (mut words, mut bytes) = (vec![!0; record.work_words()], vec![0xEE; record.work_bytes()]);
+        let mut work = Work::of(record);
+        let closed = owning.close(&mut work);
+        assert_eq!(closed, borrowing.close_with(&mut words, &mut bytes));
+        assert_eq!(closed.unwrap().report().heard, 484);
+        assert!(words.iter().all(|&x| x == 0) && bytes.iter().all(|&x| x == 0));
+        let (lent_symbols, lent_marks) = borrowing.into_buffers();
+        let (own_symbols, own_marks) = owning.into_buffers();
+        assert_eq!((&own_symbols[..], &own_marks[..]), (&*lent_symbols, &*lent_marks));
+    }
+
+    #[test]
+    fn buffers_of_other_sizes_are_refused() {
+        let record = Record::new(Code::C1, 1);
+        for (symbols, marks) in [(767, 768), (769, 768), (768, 767), (768, 769), (0, 768), (768, 0), (3072, 3072)] {
+            let (mut symbols, mut marks) = (vec![0xEE; symbols], vec![0xEE; marks]);
+            assert_eq!(Block::open_in(record, &mut symbols, &mut marks).unwrap_err(), Refusal::Length);
+            assert!(symbols.iter().chain(&marks).all(|&x| x == 0xEE));
+        }
+        let mut block = Block::open(record).unwrap();
+        let (words, bytes) = (record.work_words(), record.work_bytes());
+        for (words, bytes) in [(words - 1, bytes), (words + 1, bytes), (words, bytes - 1), (words, bytes + 1), (0, 0)] {
+            assert_eq!(block.close_with(&mut vec![0; words], &mut vec![0; bytes]), Err(Refusal::Length));
+        }
+        assert_eq!(block.close(&mut Work::new(Code::from_number(0), 1)), Err(Refusal::Length));
+        assert_eq!(block.close(&mut Work::new(Code::C1, 0)), Err(Refusal::Length));
+    }
+
+    #[test]
+    fn numbers_of_any_size_are_refused_without_buffers() {
+        for code in [0, 3, usize::MAX].map(Code::from_number) {
+            assert_eq!(Block::open(Record::new(code, 1)).unwrap_err(), Refusal::Code);
+            let all = Record::new(code, usize::MAX).with_protocol(usize::MAX).with_lsc(usize::MAX);
+            assert_eq!(Block::open(all).unwrap_err(), Refusal::Code);
+        }
+        for w in [0, 1025, 1 << 32, usize::MAX / 3072, usize::MAX] {
+            for code in Code::ALL {
+                assert_eq!(Block::open(Record::new(code, w).with_protocol(usize::MAX).with_lsc(0)).unwrap_err(), Refusal::Width);
+            }
+        }
+        for (protocol, lsc) in [(8, 1), (usize::MAX, 1), (0, 0), (0, 65_535), (0, usize::MAX)] {
+            assert_eq!(Block::open(Record::new(Code::C1, 1).with_protocol(protocol).with_lsc(lsc)).unwrap_err(), Refusal::Label);
+        }
+    }
+
+    #[test]
+    fn outside_a_verdict_only_heard_symbols_are_shown() {
+        let record = Record::new(Code::C1, 1);
+        let sent = Codeword::encode(record, (0..512).map(|i| i as u8).collect::<Vec<u8>>()).unwrap();
+        let mut block = Block::open(record).unwrap();
+        for lwc in 2..=512 {
+            block.take(&sent.unit(lwc).unwrap()).unwrap();
+        }
+        assert!(block.missing().eq((0..1).chain(512..768)));
+        assert!(block.missing().rev().eq((0..1).chain(512..768).rev()));
+        assert_eq!((block.mark(0), block.heard(0)), (Some(Mark::Left), None));
+        assert_eq!((block.mark(511), block.heard(511)), (Some(Mark::Heard), Some(&[255][..])));
+        for beyond in [768, 769, usize::MAX] {
+            assert_eq!((block.mark(beyond), block.heard(beyond)), (None, None));
+        }
+        // the sum of all information symbols
+        block.take(&sent.unit(768).unwrap()).unwrap();
+        assert!(block.close(&mut Work::of(record)).unwrap().information().is_some());
+        assert_eq!((block.mark(0), block.heard(0), block.missing().next()), (Some(Mark::Filled), None, None));
     }
 }

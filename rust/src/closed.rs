@@ -298,3 +298,102 @@ impl DoubleEndedIterator for Missing<'_> {
 }
 
 impl FusedIterator for Missing<'_> {}
+
+#[cfg(all(test, feature = "alloc"))]
+mod tests {
+    use alloc::string::ToString;
+    use alloc::vec::Vec;
+    use alloc::{format, vec};
+
+    use super::*;
+    use crate::{Block, Code, Codeword, Work};
+
+    const W: usize = 3;
+
+    fn record() -> Record {
+        Record::new(Code::C1, W).with_protocol(2).with_lsc(9)
+    }
+
+    fn sent() -> Codeword<Vec<u8>> {
+        Codeword::encode(record(), (0..512 * W).map(|i| (i * 31 % 253) as u8).collect::<Vec<u8>>()).unwrap()
+    }
+
+    /// A block that took the units of these positions.
+    fn block(positions: impl IntoIterator<Item = usize>) -> Block {
+        let (sent, mut block) = (sent(), Block::open(record()).unwrap());
+        for position in positions {
+            block.take(&sent.unit(position + 1).unwrap()).unwrap();
+        }
+        block
+    }
+
+    #[test]
+    fn a_whole_block_has_all_its_bytes() {
+        let (sent, mut block, mut work) = (sent(), block((0..768).filter(|position| position % 5 != 0)), Work::of(record()));
+        let closed = block.close(&mut work).unwrap();
+        assert_eq!((closed.verdict(), closed.report().verdict), (Verdict::Whole, Verdict::Whole));
+        assert_eq!(closed.to_string(), "whole: heard 614, filled 154, left 0");
+        let Closed::Whole(whole) = closed else { panic!("{closed:?}") };
+        assert_eq!((whole.record(), whole.report()), (record(), closed.report()));
+        assert_eq!((whole.information(), whole.parity()), (sent.information(), sent.parity()));
+        assert_eq!(closed.information(), Some(sent.information()));
+        for position in 0..768 {
+            assert_eq!(whole.symbol(position), Some(&sent.symbol(position + 1).unwrap()[..]));
+        }
+        assert_eq!([768, usize::MAX].map(|beyond| whole.symbol(beyond)), [None, None]);
+    }
+
+    #[test]
+    fn an_ambiguous_block_has_symbols_by_their_positions() {
+        // position 0 is lost, with the 79 parity symbols that change with it, and p_60, which is filled
+        let lost =
+            |position: &usize| *position == 0 || [41..61, 72..98, 222..256].iter().any(|run| run.contains(&position.wrapping_sub(512)));
+        let (sent, mut block, mut work) = (sent(), block((0..768).filter(|position| !lost(position))), Work::of(record()));
+        let closed = block.close(&mut work).unwrap();
+        assert_eq!((closed.verdict(), closed.information()), (Verdict::Ambiguous, None));
+        assert_eq!(closed.to_string(), "ambiguous: heard 687, filled 1, left 80");
+        let Closed::Ambiguous(ambiguous) = closed else { panic!("{closed:?}") };
+        assert_eq!((ambiguous.record(), ambiguous.report()), (record(), closed.report()));
+        let symbols: Vec<Symbol<'_>> = ambiguous.symbols().collect();
+        assert_eq!(symbols.len(), 688);
+        for symbol in &symbols {
+            let mark = if symbol.position == 512 + 60 { Mark::Filled } else { Mark::Heard };
+            assert_eq!((symbol.mark, symbol.bytes), (mark, &sent.symbol(symbol.position + 1).unwrap()[..]));
+            assert_eq!(ambiguous.symbol(symbol.position), Some(*symbol));
+        }
+        let missing: Vec<usize> = ambiguous.missing().collect();
+        assert!(missing.iter().all(|&position| ambiguous.symbol(position).is_none()));
+        assert!(missing.iter().all(|position| lost(position) && *position != 512 + 60));
+        assert_eq!(missing.len(), 80);
+        let mut positions: Vec<usize> = symbols.iter().map(|symbol| symbol.position).chain(missing).collect();
+        positions.sort_unstable();
+        assert!(positions.into_iter().eq(0..768));
+        assert_eq!(ambiguous.symbol(768), None);
+        assert!(ambiguous.symbols().rev().eq(symbols.into_iter().rev()));
+    }
+
+    #[test]
+    fn an_inconsistent_block_gives_out_nothing() {
+        // all symbols are heard, one of them not as it was sent
+        let (sent, mut block, mut work) = (sent(), block(1..768), Work::of(record()));
+        let mut unit = sent.unit(1).unwrap();
+        *unit.last_mut().unwrap() ^= 1;
+        block.take(&unit).unwrap();
+        let closed = block.close(&mut work).unwrap();
+        assert_eq!((closed.verdict(), closed.information()), (Verdict::Inconsistent, None));
+        assert_eq!(closed.to_string(), "inconsistent: heard 768, filled 0, left 0");
+        let Closed::Inconsistent(inconsistent) = closed else { panic!("{closed:?}") };
+        assert_eq!((inconsistent.record(), inconsistent.report()), (record(), closed.report()));
+        // the block shows what came there, as it came
+        assert_eq!(block.heard(0), unit.get(unit.len() - W..));
+        assert_eq!(block.buffers().1, vec![1; 768]);
+    }
+
+    #[test]
+    fn no_bytes_are_shown_for_a_log() {
+        let mut block = block(0..768);
+        let shown = format!("{:?}", block.close(&mut Work::of(record())).unwrap());
+        assert!(shown.starts_with("Whole(Whole { record: Record { code: Code(1), w: 3, protocol: 2, lsc: 9 }, report: "), "{shown}");
+        assert!(shown.ends_with(", .. })") && shown.len() < 200, "{shown}");
+    }
+}

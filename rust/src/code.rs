@@ -172,7 +172,10 @@ mod tests {
 
     #[test]
     fn a_code_is_shown_by_its_name() {
-        assert_eq!((Code::C1.to_string(), Code::C2.to_string(), Code::from_number(3).to_string()), ("C1".into(), "C2".into(), "code 3".into()));
+        assert_eq!(
+            (Code::C1.to_string(), Code::C2.to_string(), Code::from_number(3).to_string()),
+            ("C1".into(), "C2".into(), "code 3".into())
+        );
         assert_eq!(format!("{:>4}|{:<4}", Code::C1, Code::C2), "  C1|C2  ");
     }
 }

@@ -219,3 +219,111 @@ impl ExactSizeIterator for Units<'_> {}
 
 #[cfg(feature = "alloc")]
 impl FusedIterator for Units<'_> {}
+
+#[cfg(all(test, feature = "alloc"))]
+mod tests {
+    use super::*;
+    use crate::{Code, Unit};
+
+    fn word(record: Record) -> Codeword<Vec<u8>> {
+        let information: Vec<u8> = (0..record.information_bytes()).map(|i| (i * 31 % 253) as u8).collect();
+        Codeword::encode(record, information).unwrap()
+    }
+
+    #[test]
+    fn a_symbol_is_the_one_that_show_copies() {
+        for (code, w) in [(Code::C1, 1), (Code::C1, 5), (Code::C2, 3)] {
+            let word = word(Record::new(code, w));
+            let all = [word.information(), word.parity()].concat();
+            for (lwc, expected) in (1..=code.n()).zip(all.chunks(w)) {
+                assert_eq!(word.symbol(lwc).as_deref(), Ok(expected), "LWC {lwc}");
+                assert_eq!(Unit::read(&word.unit(lwc).unwrap()).unwrap().symbol, expected, "LWC {lwc}");
+            }
+            for lwc in [0, code.n() + 1, usize::MAX / w, usize::MAX - 1, usize::MAX] {
+                assert_eq!(word.symbol(lwc), Err(Refusal::Position), "LWC {lwc}");
+            }
+            for length in [0, w - 1, w + 1] {
+                let mut out = vec![0xEE; length];
+                assert_eq!([0, 1].map(|lwc| word.copy_symbol(lwc, &mut out)), [Err(Refusal::Length); 2]);
+                assert!(out.iter().all(|&x| x == 0xEE));
+            }
+        }
+    }
+
+    #[test]
+    fn buffers_are_kept_or_borrowed() {
+        let record = Record::new(Code::C1, 1);
+        let owned = vec![9; 512];
+        let place = owned.as_ptr();
+        let borrowing = Codeword::encode(record, &owned[..]).unwrap();
+        assert_eq!(borrowing.information().as_ptr(), place);
+        let parity = borrowing.parity().to_vec();
+        let mut lent = [0xEE; 256];
+        let lending = Codeword::encode_in(record, &owned, &mut lent).unwrap();
+        assert_eq!((lending.information().as_ptr(), lending.parity()), (place, &parity[..]));
+        assert!(lending.units().unwrap().eq(borrowing.units().unwrap()));
+        assert_eq!(lent[..], parity[..]);
+        let owning = Codeword::encode(record, owned).unwrap();
+        assert_eq!((owning.information().as_ptr(), owning.parity()), (place, &parity[..]));
+        assert_eq!(owning.into_buffers(), (vec![9; 512], parity));
+    }
+
+    #[test]
+    fn what_does_not_fit_is_refused() {
+        for code in [0, 3, usize::MAX].map(Code::from_number) {
+            assert_eq!(Codeword::encode(Record::new(code, 1), []).unwrap_err(), Refusal::Code);
+        }
+        for w in [0, 1025, usize::MAX / 512, usize::MAX] {
+            assert_eq!(Codeword::encode(Record::new(Code::C2, w), []).unwrap_err(), Refusal::Width);
+        }
+        for length in [0, 511, 513] {
+            assert_eq!(Codeword::encode(Record::new(Code::C1, 1), vec![0; length]).unwrap_err(), Refusal::Length);
+        }
+        for length in [0, 255, 257] {
+            let mut parity = vec![0xEE; length];
+            assert_eq!(Codeword::encode_in(Record::new(Code::C1, 1), [0; 512], &mut parity).unwrap_err(), Refusal::Length);
+            assert!(parity.iter().all(|&x| x == 0xEE));
+        }
+    }
+
+    #[test]
+    fn a_unit_is_refused_as_write_refuses_it() {
+        for (protocol, lsc) in [(8, 1), (0, 0), (0, 65_535)] {
+            let word = word(Record::new(Code::C1, 2).with_protocol(protocol).with_lsc(lsc));
+            assert_eq!(word.units().unwrap_err(), Refusal::Label);
+            assert_eq!(word.unit(0), Err(Refusal::Label));
+            assert_eq!(word.write_unit(1, &mut []), Err(Refusal::Label));
+            assert_eq!(word.symbol(1).unwrap().len(), 2);
+        }
+        let word = word(Record::new(Code::C1, 2));
+        let length = word.record().unit_bytes();
+        for other in [0, length - 1, length + 1] {
+            let mut out = vec![0xEE; other];
+            assert_eq!([0, 1].map(|lwc| word.write_unit(lwc, &mut out)), [Err(Refusal::Length); 2]);
+            assert!(out.iter().all(|&x| x == 0xEE));
+        }
+        for lwc in [0, 769, usize::MAX] {
+            assert_eq!(word.unit(lwc), Err(Refusal::Position));
+        }
+    }
+
+    #[test]
+    fn units_come_from_both_ends() {
+        let word = word(Record::new(Code::C1, 1).with_protocol(3).with_lsc(9));
+        let all: Vec<Vec<u8>> = (1..=768).map(|lwc| word.unit(lwc).unwrap()).collect();
+        let mut units = word.units().unwrap();
+        assert_eq!(units.next().as_ref(), all.first());
+        assert_eq!(units.next_back().as_ref(), all.last());
+        assert_eq!(units.nth(10).as_ref(), all.get(11));
+        assert_eq!(units.len(), 768 - 13);
+        assert!(units.eq(all[12..767].iter().cloned()));
+        assert_eq!(word.units().unwrap().nth(768), None);
+    }
+
+    #[test]
+    fn the_widest_unit_is_written() {
+        let word = word(Record::new(Code::C1, MAX_WIDTH));
+        let unit = word.unit(512).unwrap();
+        assert_eq!((unit.len(), &unit[15..]), (crate::MAX_UNIT_BYTES, &word.information()[511 * 1024..]));
+    }
+}

@@ -172,16 +172,7 @@ pub fn encode(block: Numbers, information: &[u8], parity: &mut [u8]) -> u8 {
 #[inline]
 pub fn show(block: Numbers, information: &[u8], parity: &[u8], lwc: usize, out: &mut [u8]) -> u8 {
     unsafe {
-        c::lipvezor_show(
-            block,
-            information.as_ptr(),
-            information.len(),
-            parity.as_ptr(),
-            parity.len(),
-            lwc,
-            out.as_mut_ptr(),
-            out.len(),
-        )
+        c::lipvezor_show(block, information.as_ptr(), information.len(), parity.as_ptr(), parity.len(), lwc, out.as_mut_ptr(), out.len())
     }
 }
 
@@ -203,16 +194,7 @@ pub fn open(block: Numbers, symbols: &mut [u8], marks: &mut [u8]) -> u8 {
 #[inline]
 pub fn take(block: Numbers, symbols: &mut [u8], marks: &mut [u8], unit: &[u8], taken: &mut Taken) -> u8 {
     unsafe {
-        c::lipvezor_take(
-            block,
-            symbols.as_mut_ptr(),
-            symbols.len(),
-            marks.as_mut_ptr(),
-            marks.len(),
-            unit.as_ptr(),
-            unit.len(),
-            taken,
-        )
+        c::lipvezor_take(block, symbols.as_mut_ptr(), symbols.len(), marks.as_mut_ptr(), marks.len(), unit.as_ptr(), unit.len(), taken)
     }
 }
 

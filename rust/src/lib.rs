@@ -96,12 +96,15 @@
 //! let record = Record::new(Code::C1, 4).with_protocol(1);
 //! let scene: Vec<u8> = (0..3 * record.information_bytes()).map(|i| (i % 253) as u8).collect();
 //!
-//! // on board: three blocks, whose units leave mixed, and every fourth is lost
-//! let sent: Vec<_> = (1..).zip(scene.chunks(record.information_bytes())).map(|(lsc, part)| Codeword::encode(record.with_lsc(lsc), part)).collect();
+//! // on board: three blocks; their units come mixed, and every fourth is lost
+//! let mut sent = Vec::new();
+//! for (part, lsc) in scene.chunks(record.information_bytes()).zip(1..) {
+//!     sent.push(Codeword::encode(record.with_lsc(lsc), part)?);
+//! }
 //! let mut receiver = Receiver::new(1)?.with_limit(8);
 //! for lwc in (1..=record.n()).filter(|lwc| lwc % 4 != 0) {
 //!     for word in &sent {
-//!         receiver.take(&word.as_ref().unwrap().unit(lwc)?)?;
+//!         receiver.take(&word.unit(lwc)?)?;
 //!     }
 //! }
 //!

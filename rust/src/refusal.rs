@@ -169,7 +169,10 @@ mod tests {
         let after = |start: &str| header.split_once(start).unwrap_or_else(|| panic!("{start} is in the header")).1;
         let mut place = 0;
         for refusal in Refusal::ALL {
-            let name: String = format!("{refusal:?}").chars().flat_map(|c| c.is_uppercase().then_some('_').into_iter().chain([c.to_ascii_uppercase()])).collect();
+            let name: String = format!("{refusal:?}")
+                .chars()
+                .flat_map(|c| c.is_uppercase().then_some('_').into_iter().chain([c.to_ascii_uppercase()]))
+                .collect();
             // in the enum: the same number, after the one before
             let line = format!("    LIPVEZOR_REFUSED{name} = {}", refusal.number());
             let found = header.find(&line).unwrap_or_else(|| panic!("{line} is in the header"));
