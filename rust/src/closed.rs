@@ -113,7 +113,25 @@ impl<'a> Parts<'a> {
     }
 }
 
-/// A block that closed whole: all its bytes are there. [`Closed`] has an example.
+/// A block that closed whole: all its bytes are there.
+///
+/// ```
+/// use lipvezor::{Block, Closed, Code, Codeword, Record, Work};
+///
+/// # fn main() -> Result<(), lipvezor::Refusal> {
+/// let record = Record::new(Code::C1, 2);
+/// let sent = Codeword::encode(record, [7; 1024])?;
+/// let mut block = Block::open(record)?;
+/// for unit in sent.units()?.skip(100) {
+///     block.take(&unit)?;
+/// }
+/// if let Closed::Whole(whole) = block.close(&mut Work::of(record))? {
+///     assert_eq!((whole.information(), whole.parity()), (sent.information(), sent.parity()));
+///     assert_eq!(whole.symbol(0), Some(&[7, 7][..]));
+/// }
+/// # Ok(())
+/// # }
+/// ```
 #[derive(Clone, Copy, PartialEq, Eq)]
 pub struct Whole<'a>(Parts<'a>);
 
@@ -154,7 +172,24 @@ impl fmt::Debug for Whole<'_> {
     }
 }
 
-/// A block that closed ambiguous: some of its symbols are there. [`Closed`] has an example.
+/// A block that closed ambiguous: some of its symbols are there.
+///
+/// ```
+/// use lipvezor::{Block, Closed, Code, Mark, Record, Work};
+///
+/// # fn main() -> Result<(), lipvezor::Refusal> {
+/// // Nothing was heard. C2's last parity symbol is zero in every codeword, so it is filled.
+/// let record = Record::new(Code::C2, 2);
+/// if let Closed::Ambiguous(block) = Block::open(record)?.close(&mut Work::of(record))? {
+///     for symbol in block.symbols() {
+///         assert_eq!((symbol.position, symbol.mark, symbol.bytes), (3071, Mark::Filled, &[0, 0][..]));
+///     }
+///     assert!(block.missing().eq(0..3071));
+///     assert_eq!(block.symbol(0), None);
+/// }
+/// # Ok(())
+/// # }
+/// ```
 #[derive(Clone, Copy, PartialEq, Eq)]
 pub struct Ambiguous<'a>(Parts<'a>);
 
@@ -194,8 +229,28 @@ impl fmt::Debug for Ambiguous<'_> {
     }
 }
 
-/// A block that closed inconsistent. Some symbol that it heard was not sent, and nothing says which: it gives out none. [`Closed`] has an
-/// example.
+/// A block that closed inconsistent. Some symbol that it heard was not sent, and nothing says which: it gives out none.
+///
+/// ```
+/// use lipvezor::{Block, Closed, Code, Codeword, Record, Work};
+///
+/// # fn main() -> Result<(), lipvezor::Refusal> {
+/// let record = Record::new(Code::C1, 1);
+/// let mut block = Block::open(record)?;
+/// for mut unit in Codeword::encode(record, [7; 512])?.units()? {
+///     if block.missing().next() == Some(9) {
+///         unit[14] ^= 1; // changed on the way, and no CRC-32 was tested
+///     }
+///     block.take(&unit)?;
+/// }
+/// let closed = block.close(&mut Work::of(record))?;
+/// assert_eq!(closed.information(), None);
+/// if let Closed::Inconsistent(block) = closed {
+///     assert_eq!(block.report().to_string(), "inconsistent: heard 768, filled 0, left 0");
+/// }
+/// # Ok(())
+/// # }
+/// ```
 #[derive(Clone, Copy, PartialEq, Eq)]
 pub struct Inconsistent<'a>(Parts<'a>);
 
@@ -218,7 +273,7 @@ impl fmt::Debug for Inconsistent<'_> {
     }
 }
 
-/// A symbol of an ambiguous block, from [`Ambiguous::symbols`]; heard or filled, as its mark says.
+/// A symbol of an ambiguous block, from [`Ambiguous::symbols`]; heard or filled, as its mark says. [`Ambiguous`] has an example.
 #[non_exhaustive]
 #[derive(Clone, Copy, Debug, PartialEq, Eq)]
 pub struct Symbol<'a> {
@@ -238,7 +293,8 @@ impl<'a> Symbol<'a> {
     }
 }
 
-/// The symbols of an ambiguous block that were heard or filled, from [`Ambiguous::symbols`].
+/// The symbols of an ambiguous block that were heard or filled, in the order of their positions, from [`Ambiguous::symbols`], which has an
+/// example.
 #[must_use]
 #[derive(Clone, Debug)]
 pub struct Symbols<'a>(Zip<Enumerate<Iter<'a, u8>>, ChunksExact<'a, u8>>);
@@ -264,6 +320,21 @@ impl DoubleEndedIterator for Symbols<'_> {
 impl FusedIterator for Symbols<'_> {}
 
 /// The positions of a block that are missing, in order, from [`Block::missing`](crate::Block::missing) and [`Ambiguous::missing`].
+///
+/// ```
+/// use lipvezor::{Block, Code, Codeword, Record};
+///
+/// # fn main() -> Result<(), lipvezor::Refusal> {
+/// let record = Record::new(Code::C1, 1);
+/// let mut block = Block::open(record)?;
+/// for unit in Codeword::encode(record, [7; 512])?.units()?.skip(2).step_by(2) {
+///     block.take(&unit)?;
+/// }
+/// assert!(block.missing().take(4).eq([0, 1, 3, 5]));
+/// assert_eq!(block.missing().count(), 385);
+/// # Ok(())
+/// # }
+/// ```
 #[must_use]
 #[derive(Clone, Debug)]
 pub struct Missing<'a>(Enumerate<Iter<'a, u8>>);

@@ -49,6 +49,19 @@ pub struct Receiver {
 }
 
 /// What a receiver did with a unit: of which block it is, and whether it is new there.
+///
+/// ```
+/// use lipvezor::{Code, Codeword, Receiver, Record};
+///
+/// # fn main() -> Result<(), Box<dyn std::error::Error>> {
+/// let sent = Codeword::encode(Record::new(Code::C1, 1).with_lsc(7), [0; 512])?;
+/// let mut receiver = Receiver::new(0)?;
+/// let received = receiver.take(&sent.unit(1)?)?;
+/// assert_eq!(received.lsc, 7);
+/// assert_eq!(received.to_string(), "LSC 7: kept");
+/// # Ok(())
+/// # }
+/// ```
 #[non_exhaustive]
 #[derive(Clone, Copy, Debug, PartialEq, Eq, Hash)]
 pub struct Received {
@@ -66,6 +79,19 @@ impl fmt::Display for Received {
 }
 
 /// Why a receiver turned a call down; nothing has changed then.
+///
+/// ```
+/// use lipvezor::{Code, Codeword, ReceiveError, Receiver, Record, Refusal};
+///
+/// # fn main() -> Result<(), Refusal> {
+/// let unit = Codeword::encode(Record::new(Code::C1, 1).with_lsc(7), [0; 512])?.unit(1)?;
+/// let mut none = Receiver::new(0)?.with_limit(0);
+/// assert_eq!(none.take(&unit), Err(ReceiveError::Full));
+/// assert_eq!(none.take(&unit[1..]), Err(ReceiveError::Refused(Refusal::Header)));
+/// assert_eq!(none.close(7), Err(ReceiveError::NotOpen));
+/// # Ok(())
+/// # }
+/// ```
 #[non_exhaustive]
 #[derive(Clone, Copy, Debug, PartialEq, Eq, Hash)]
 pub enum ReceiveError {

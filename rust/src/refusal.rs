@@ -140,8 +140,22 @@ impl From<Refusal> for u8 {
 }
 
 /// A number that is no refusal's, from `Refusal::try_from`.
+///
+/// ```
+/// use lipvezor::Refusal;
+///
+/// assert_eq!(Refusal::try_from(0).unwrap_err().number(), 0);
+/// ```
 #[derive(Clone, Copy, Debug, PartialEq, Eq, Hash)]
 pub struct UnknownRefusal(u8);
+
+impl UnknownRefusal {
+    /// The number.
+    #[must_use]
+    pub const fn number(self) -> u8 {
+        self.0
+    }
+}
 
 impl fmt::Display for UnknownRefusal {
     fn fmt(&self, f: &mut fmt::Formatter<'_>) -> fmt::Result {

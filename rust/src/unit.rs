@@ -1,7 +1,19 @@
 //! A unit's bytes, read.
 use crate::{calls, Code, Refusal};
 
-/// Coding parameters, a unit's extension of type 1. [`Unit`] has an example.
+/// Coding parameters, a unit's extension of type 1.
+///
+/// ```
+/// use lipvezor::{Code, Codeword, Record, Unit};
+///
+/// # fn main() -> Result<(), lipvezor::Refusal> {
+/// let unit = Codeword::encode(Record::new(Code::C2, 3), [0; 2048 * 3])?.unit(1)?;
+/// let coding = Unit::read(&unit)?.coding.expect("our units have them");
+/// assert_eq!((coding.w, coding.k, coding.n, coding.seed), (3, 2048, 3072, 0));
+/// assert_eq!(coding.code(), Some(Code::C2));
+/// # Ok(())
+/// # }
+/// ```
 #[non_exhaustive]
 #[derive(Clone, Copy, Debug, PartialEq, Eq, Hash)]
 pub struct Parameters {
