@@ -60,7 +60,7 @@ pub fn version() -> usize {
 /// Refusals: code, width, length.
 #[inline]
 pub fn encode(record: Record, information: &[u8], parity: &mut [u8]) -> Result<(), Refusal> {
-    done(ffi::encode(record.into(), information, parity))
+    done(ffi::encode(record, information, parity))
 }
 
 /// The symbol of an LWC, copied from the encoder's two buffers to an output of W bytes. Of the record only code and W count.
@@ -68,7 +68,7 @@ pub fn encode(record: Record, information: &[u8], parity: &mut [u8]) -> Result<(
 /// Refusals: code, width, length (of any of the three), position.
 #[inline]
 pub fn show(record: Record, information: &[u8], parity: &[u8], lwc: usize, out: &mut [u8]) -> Result<(), Refusal> {
-    done(ffi::show(record.into(), information, parity, lwc, out))
+    done(ffi::show(record, information, parity, lwc, out))
 }
 
 /// The unit of one symbol of W bytes, into an output of [`Record::unit_bytes`] bytes. The output may begin at any address; wide symbols are
@@ -77,7 +77,7 @@ pub fn show(record: Record, information: &[u8], parity: &[u8], lwc: usize, out: 
 /// Refusals: code, width, label, length (of the output), position, symbol.
 #[inline]
 pub fn write(record: Record, lwc: usize, symbol: &[u8], out: &mut [u8]) -> Result<(), Refusal> {
-    done(ffi::write(record.into(), lwc, symbol, out))
+    done(ffi::write(record, lwc, symbol, out))
 }
 
 /// What a unit says by itself, whatever block it is of. Take reads units too: this call is for seeing which block a unit is of.
@@ -97,7 +97,7 @@ pub fn read(unit: &[u8]) -> Result<Unit<'_>, Refusal> {
 /// Refusals: code, width, label, length.
 #[inline]
 pub fn open(record: Record, symbols: &mut [u8], marks: &mut [u8]) -> Result<(), Refusal> {
-    done(ffi::open(record.into(), symbols, marks))
+    done(ffi::open(record, symbols, marks))
 }
 
 /// Takes one unit. Only a kept one changes the block: its symbol stands at position LWC - 1, with mark 1.
@@ -106,7 +106,7 @@ pub fn open(record: Record, symbols: &mut [u8], marks: &mut [u8]) -> Result<(), 
 #[inline]
 pub fn take(record: Record, symbols: &mut [u8], marks: &mut [u8], unit: &[u8]) -> Result<Taken, Refusal> {
     let mut taken = ffi::Taken::default();
-    done(ffi::take(record.into(), symbols, marks, unit, &mut taken))?;
+    done(ffi::take(record, symbols, marks, unit, &mut taken))?;
     match taken.result {
         1 => Ok(Taken::Kept),
         2 => Ok(Taken::Repeated),
@@ -121,7 +121,7 @@ pub fn take(record: Record, symbols: &mut [u8], marks: &mut [u8], unit: &[u8]) -
 #[inline]
 pub fn close(record: Record, symbols: &mut [u8], marks: &mut [u8], words: &mut [u64], bytes: &mut [u8]) -> Result<Report, Refusal> {
     let mut report = ffi::Report::default();
-    done(ffi::close(record.into(), symbols, marks, words, bytes, &mut report))?;
+    done(ffi::close(record, symbols, marks, words, bytes, &mut report))?;
     let verdict = match report.verdict {
         1 => Verdict::Whole,
         2 => Verdict::Ambiguous,

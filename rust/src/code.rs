@@ -20,6 +20,7 @@ use crate::{ffi, Refusal};
 /// assert_eq!(Code::try_from(3), Err(Refusal::Code));
 /// ```
 #[derive(Clone, Copy, Debug, PartialEq, Eq, PartialOrd, Ord, Hash)]
+#[repr(transparent)]
 pub struct Code(usize);
 
 impl Code {

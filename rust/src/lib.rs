@@ -9,7 +9,7 @@
 //! has unsafe code. [`calls`] has the archive's calls one to one; the types keep the buffers for them.
 //!
 //! Units are without the CRC-32 that ends an erasure coding data unit of the standard: it is added after this layer, and tested and removed
-//! before it.
+//! before it. A unit that was changed on the way and is taken all the same makes a block inconsistent, or whole and wrong.
 //!
 //! # There and back
 //!

@@ -16,6 +16,8 @@ use crate::Code;
 /// // protocol ID 0 and LSC 1 where none is named
 /// assert_eq!(Record::new(Code::C1, 16), record.with_protocol(0).with_lsc(1));
 /// ```
+// Laid out as lipvezor_block of the header, and handed over as it is: a struct of the same numbers beside it costs one more copy for each call.
+#[repr(C)]
 #[non_exhaustive]
 #[derive(Clone, Copy, Debug, PartialEq, Eq, Hash)]
 pub struct Record {
@@ -125,8 +127,16 @@ impl fmt::Display for Record {
 #[cfg(all(test, feature = "alloc"))]
 mod tests {
     use alloc::string::ToString;
+    use core::mem::{offset_of, size_of};
 
     use super::*;
+
+    #[test]
+    fn a_record_is_laid_out_as_the_header_has_it() {
+        let word = size_of::<usize>();
+        let places = [offset_of!(Record, code), offset_of!(Record, w), offset_of!(Record, protocol), offset_of!(Record, lsc)];
+        assert_eq!((places, size_of::<Record>()), ([0, word, 2 * word, 3 * word], 4 * word));
+    }
 
     #[test]
     fn each_number_stands_in_its_place() {
