@@ -38,6 +38,17 @@ use crate::{Mark, Record, Report, Verdict};
 /// # Ok(())
 /// # }
 /// ```
+///
+/// No unit is taken while its bytes are in use: they are those that the verdict was on.
+///
+/// ```compile_fail,E0499
+/// # use lipvezor::{Block, Closed, Refusal, Work};
+/// fn late(block: &mut Block, work: &mut Work, unit: &[u8]) -> Result<usize, Refusal> {
+///     let closed = block.close(work)?;
+///     block.take(unit)?; // the block is still lent to closed
+///     Ok(closed.information().map_or(0, |bytes| bytes.len()))
+/// }
+/// ```
 #[must_use]
 #[non_exhaustive]
 #[derive(Clone, Copy, Debug, PartialEq, Eq)]
