@@ -7,7 +7,7 @@ use crate::{calls, Block, Closed, Code, Record, Refusal, Taken, Unit, Work, MAX_
 /// The blocks of one protocol ID on the ground, kept by their LSC. Each is opened by its first unit, whose coding parameters name its code and
 /// W. Units may come in any order, those of different blocks mixed, and any number of times.
 ///
-/// If that unit was changed on the way, and no CRC-32 found it, the block's units are refused with [`Refusal::Parameters`] until it is removed.
+/// If those were changed on the way, and no CRC-32 found it, the block's other units are refused with [`Refusal::Parameters`] until it is removed.
 ///
 /// A close keeps the block, so that more units may come and it may be closed again. [`Receiver::remove`] gives it back; a unit of the same LSC
 /// that comes after that opens a new block. LSCs come again after 65,534 blocks, so a block must be removed before its number does.
