@@ -1,4 +1,7 @@
-// Names the proved archive: liblipvezor.a where `make archive` puts it, or in the folder LIPVEZOR_LIB_DIR.
+// Names the proved archive, liblipvezor.a. It is looked for in
+//   1. the folder LIPVEZOR_LIB_DIR, if that is set,
+//   2. lib beside this crate's folder, as in a release,
+//   3. target/staticlib beside this crate's folder, where `make archive` puts it.
 //
 // Where LIPVEZOR_EARLIER names a folder with the archive of an earlier version, the examples get that too, with its calls renamed earlier_…, and
 // cfg(earlier): `make bench` then measures beside it. Only this needs objcopy.
@@ -8,9 +11,40 @@ use std::process::Command;
 /// The calls of an earlier version that the bench measures.
 const MEASURED: [&str; 4] = ["encode", "write", "take", "close"];
 
+/// Ends the build with one line that says why.
+fn fail(why: String) -> ! {
+    eprintln!("lipvezor: {why}");
+    std::process::exit(1)
+}
+
+/// A folder that cargo or the caller names.
+fn folder(variable: &str) -> Option<PathBuf> {
+    std::env::var_os(variable).map(PathBuf::from)
+}
+
 /// The archive in a folder.
 fn archive(folder: &Path) -> PathBuf {
     folder.join("liblipvezor.a")
+}
+
+/// The folder with the archive.
+fn find() -> PathBuf {
+    if let Some(named) = folder("LIPVEZOR_LIB_DIR") {
+        if !archive(&named).exists() {
+            fail(format!("LIPVEZOR_LIB_DIR is {}, and no liblipvezor.a is there", named.display()));
+        }
+        return named;
+    }
+    let here = folder("CARGO_MANIFEST_DIR").expect("cargo sets it");
+    let places = [here.join("../lib"), here.join("../target/staticlib")];
+    match places.iter().find(|place| archive(place).exists()) {
+        Some(place) => place.clone(),
+        None => fail(format!(
+            "no liblipvezor.a in {} or {}: `make archive` makes it, and LIPVEZOR_LIB_DIR may name another folder",
+            places[0].display(),
+            places[1].display()
+        )),
+    }
 }
 
 /// A copy of an archive in which the measured calls begin with earlier_, and nothing else is seen from outside.
@@ -19,28 +53,24 @@ fn rename(archive: &Path, copy: &Path) {
     for call in MEASURED {
         objcopy.arg(format!("--redefine-sym=lipvezor_{call}=earlier_{call}")).arg(format!("--keep-global-symbol=earlier_{call}"));
     }
-    let done = objcopy.arg(archive).arg(copy).status().expect("LIPVEZOR_EARLIER needs objcopy");
-    assert!(done.success(), "objcopy can't read {}", archive.display());
+    match objcopy.arg(archive).arg(copy).status() {
+        Ok(done) if done.success() => {}
+        Ok(_) => fail(format!("objcopy can't read {}", archive.display())),
+        Err(why) => fail(format!("LIPVEZOR_EARLIER needs objcopy: {why}")),
+    }
 }
 
 fn main() {
-    let folder = match std::env::var_os("LIPVEZOR_LIB_DIR") {
-        Some(folder) => PathBuf::from(folder),
-        None => PathBuf::from(std::env::var_os("CARGO_MANIFEST_DIR").unwrap()).join("../target/staticlib"),
-    };
-    let path = archive(&folder);
-    if !path.exists() {
-        println!("cargo:warning={} is not there; `make archive` makes it", path.display());
-    }
-    println!("cargo:rustc-link-search=native={}", folder.display());
-    println!("cargo:rustc-link-lib=static=lipvezor");
     println!("cargo:rerun-if-env-changed=LIPVEZOR_LIB_DIR");
-    println!("cargo:rerun-if-changed={}", path.display());
-    println!("cargo:rustc-check-cfg=cfg(earlier)");
     println!("cargo:rerun-if-env-changed=LIPVEZOR_EARLIER");
-    if let Some(folder) = std::env::var_os("LIPVEZOR_EARLIER") {
-        let earlier = archive(Path::new(&folder));
-        let copy = PathBuf::from(std::env::var_os("OUT_DIR").unwrap()).join("libearlier.a");
+    println!("cargo:rustc-check-cfg=cfg(earlier)");
+    let place = find();
+    println!("cargo:rustc-link-search=native={}", place.display());
+    println!("cargo:rustc-link-lib=static=lipvezor");
+    println!("cargo:rerun-if-changed={}", archive(&place).display());
+    if let Some(named) = folder("LIPVEZOR_EARLIER") {
+        let earlier = archive(&named);
+        let copy = folder("OUT_DIR").expect("cargo sets it").join("libearlier.a");
         rename(&earlier, &copy);
         println!("cargo:rerun-if-changed={}", earlier.display());
         println!("cargo:rustc-link-arg-examples={}", copy.display());

@@ -1,138 +1,196 @@
 //! A block on board: information, parity and units.
-use std::borrow::Cow;
-use std::fmt;
-use std::iter::FusedIterator;
-use std::ops::Range;
+#[cfg(feature = "alloc")]
+use alloc::{vec, vec::Vec};
+use core::fmt;
+#[cfg(feature = "alloc")]
+use core::{iter::FusedIterator, ops::Range};
 
-use crate::{calls, Code, Refusal};
+use crate::{calls, Record, Refusal, MAX_WIDTH};
 
-/// A block on board: its information, owned or borrowed, and the parity that encoding adds. Symbols are called by their LWC, from 1 to n:
-/// information symbols have LWC 1 to k, parity symbols k + 1 to n.
+/// A block on board: its record, its information and the parity that encoding adds. Both are in buffers that it owns or borrows; any type that
+/// lends its bytes will do. Symbols are called by their LWC, from 1 to n: information symbols have LWC 1 to k, parity symbols k + 1 to n.
 ///
 /// ```
-/// use lipvezor::{Code, Codeword, Refusal};
+/// use lipvezor::{Code, Codeword, Record, Refusal, Unit};
 ///
 /// # fn main() -> Result<(), Refusal> {
-/// let information = vec![7; Code::C1.information_bytes(4)];
-/// let sent = Codeword::encode(Code::C1, 4, &information)?;
-/// assert_eq!(sent.symbol(1), Some(&[7, 7, 7, 7][..]));
-/// assert_eq!(sent.symbol(768), Some(&[0, 0, 0, 0][..])); // C1's last parity symbol is the sum of all information symbols
-/// assert_eq!(sent.symbol(0), None);
+/// let record = Record::new(Code::C1, 4).with_protocol(1).with_lsc(7);
+/// let information = vec![7; record.information_bytes()];
+/// let sent = Codeword::encode(record, &information)?;
+/// assert_eq!(sent.symbol(1)?, [7, 7, 7, 7]);
+/// assert_eq!(sent.symbol(768)?, [0, 0, 0, 0]); // C1's last parity symbol is the sum of all information symbols
+/// assert_eq!(sent.symbol(0), Err(Refusal::Position));
 ///
-/// let unit = sent.unit(1, 7, 512)?;
-/// assert_eq!(unit.len(), Code::C1.unit_bytes(4));
-/// assert_eq!(sent.unit(1, 7, 769), Err(Refusal::Position));
-/// assert_eq!(Codeword::encode(Code::C1, 5, &information).unwrap_err(), Refusal::Length);
+/// let unit = sent.unit(512)?;
+/// assert_eq!(unit.len(), record.unit_bytes());
+/// assert_eq!(Unit::read(&unit)?.lwc, 512);
+/// assert_eq!(sent.unit(769), Err(Refusal::Position));
+///
+/// let wider = Record::new(Code::C1, 5);
+/// assert_eq!(Codeword::encode(wider, &information).unwrap_err(), Refusal::Length);
+/// # Ok(())
+/// # }
+/// ```
+///
+/// With lent buffers nothing is allocated:
+///
+/// ```
+/// use lipvezor::{Code, Codeword, Record, MAX_UNIT_BYTES};
+///
+/// # fn main() -> Result<(), lipvezor::Refusal> {
+/// let record = Record::new(Code::C1, 4).with_protocol(1).with_lsc(7);
+/// let (information, mut parity) = ([7; 512 * 4], [0; 256 * 4]);
+/// let sent = Codeword::encode_in(record, &information, &mut parity)?;
+/// let mut buffer = [0; MAX_UNIT_BYTES];
+/// let unit = &mut buffer[..record.unit_bytes()];
+/// for lwc in 1..=record.n() {
+///     sent.write_unit(lwc, unit)?;
+///     // send it
+/// }
 /// # Ok(())
 /// # }
 /// ```
 #[derive(Clone, PartialEq, Eq)]
-pub struct Codeword<'a> {
-    code: Code,
-    w: usize,
-    information: Cow<'a, [u8]>,
-    parity: Vec<u8>,
+pub struct Codeword<I, #[cfg(feature = "alloc")] P = Vec<u8>, #[cfg(not(feature = "alloc"))] P> {
+    record: Record,
+    information: I,
+    parity: P,
 }
 
-impl<'a> Codeword<'a> {
-    /// Encodes [`Code::information_bytes`] bytes. A `Vec<u8>` is kept, a `&[u8]` borrowed; neither is copied.
+#[cfg(feature = "alloc")]
+impl<I: AsRef<[u8]>> Codeword<I> {
+    /// Encodes [`Record::information_bytes`] bytes, with a parity buffer of its own.
     ///
-    /// Refusals: code, width, length. For a code or width that is refused no parity is allocated.
-    pub fn encode(code: Code, w: usize, information: impl Into<Cow<'a, [u8]>>) -> Result<Codeword<'a>, Refusal> {
-        let mut word = Codeword { code, w, information: information.into(), parity: vec![0; code.parity_bytes(w)] };
-        calls::encode(code, w, &word.information, &mut word.parity)?;
-        Ok(word)
+    /// Refusals: code, width, length. For a code or width that is refused no parity is allocated. Protocol ID and LSC count only when units are
+    /// written.
+    pub fn encode(record: Record, information: I) -> Result<Codeword<I>, Refusal> {
+        Codeword::encode_in(record, information, vec![0; record.parity_bytes()])
     }
+}
 
-    /// The code.
-    pub fn code(&self) -> Code {
-        self.code
+impl<I: AsRef<[u8]>, P: AsRef<[u8]> + AsMut<[u8]>> Codeword<I, P> {
+    /// Encodes [`Record::information_bytes`] bytes into a given parity buffer of [`Record::parity_bytes`] bytes. What that held is overwritten.
+    ///
+    /// Refusals: code, width, length.
+    pub fn encode_in(record: Record, information: I, mut parity: P) -> Result<Codeword<I, P>, Refusal> {
+        calls::encode(record, information.as_ref(), parity.as_mut())?;
+        Ok(Codeword { record, information, parity })
     }
+}
 
-    /// Bytes of a symbol.
-    pub fn w(&self) -> usize {
-        self.w
+impl<I: AsRef<[u8]>, P: AsRef<[u8]>> Codeword<I, P> {
+    /// The block's numbers.
+    #[must_use]
+    pub fn record(&self) -> Record {
+        self.record
     }
 
     /// The information, k symbols one after the other.
+    #[must_use]
     pub fn information(&self) -> &[u8] {
-        &self.information
+        self.information.as_ref()
     }
 
     /// The parity, m symbols one after the other.
+    #[must_use]
     pub fn parity(&self) -> &[u8] {
-        &self.parity
+        self.parity.as_ref()
     }
 
-    /// The symbol of an LWC, the one that [`calls::show`] copies; `None` for LWC 0 or above n.
-    pub fn symbol(&self, lwc: usize) -> Option<&[u8]> {
-        let position = lwc.checked_sub(1)?;
-        match position.checked_sub(self.code.k()) {
-            None => self.information.chunks_exact(self.w).nth(position),
-            Some(j) => self.parity.chunks_exact(self.w).nth(j),
+    /// The symbol of an LWC, copied to an output of exactly W bytes.
+    ///
+    /// Refusals: length, position.
+    pub fn copy_symbol(&self, lwc: usize, out: &mut [u8]) -> Result<(), Refusal> {
+        calls::show(self.record, self.information(), self.parity(), lwc, out)
+    }
+
+    /// The symbol of an LWC.
+    ///
+    /// Refusals: position.
+    #[cfg(feature = "alloc")]
+    pub fn symbol(&self, lwc: usize) -> Result<Vec<u8>, Refusal> {
+        let mut symbol = vec![0; self.record.w];
+        self.copy_symbol(lwc, &mut symbol)?;
+        Ok(symbol)
+    }
+
+    /// The unit of an LWC, without a CRC-32, into an output of exactly [`Record::unit_bytes`] bytes.
+    ///
+    /// Refusals: label, length, position.
+    pub fn write_unit(&self, lwc: usize, out: &mut [u8]) -> Result<(), Refusal> {
+        let mut symbol = [0; MAX_WIDTH];
+        let symbol = &mut symbol[..self.record.w];
+        match self.copy_symbol(lwc, symbol) {
+            Ok(()) => calls::write(self.record, lwc, symbol, out),
+            // the position is refused; write answers so too, or what it tries before that
+            Err(_) => calls::write(self.record, lwc, &[], out),
         }
     }
 
     /// The unit of an LWC, without a CRC-32.
     ///
     /// Refusals: label, position.
-    pub fn unit(&self, protocol: usize, lsc: usize, lwc: usize) -> Result<Vec<u8>, Refusal> {
-        let mut unit = vec![0; self.code.unit_bytes(self.w)];
-        self.write_unit(protocol, lsc, lwc, &mut unit)?;
+    #[cfg(feature = "alloc")]
+    pub fn unit(&self, lwc: usize) -> Result<Vec<u8>, Refusal> {
+        let mut unit = vec![0; self.record.unit_bytes()];
+        self.write_unit(lwc, &mut unit)?;
         Ok(unit)
-    }
-
-    /// The unit of an LWC, into an output of exactly [`Code::unit_bytes`] bytes.
-    ///
-    /// Refusals: label, length, position.
-    pub fn write_unit(&self, protocol: usize, lsc: usize, lwc: usize, out: &mut [u8]) -> Result<(), Refusal> {
-        calls::write(self.code, self.w, protocol, lsc, lwc, self.symbol(lwc).unwrap_or(&[]), out)
     }
 
     /// All n units, in the order of LWC.
     ///
     /// Refusals: label.
-    pub fn units(&self, protocol: usize, lsc: usize) -> Result<Units<'_>, Refusal> {
-        self.unit(protocol, lsc, 1)?;
-        Ok(Units { word: self, protocol, lsc, lwcs: 1..self.code.n() + 1 })
+    #[cfg(feature = "alloc")]
+    pub fn units(&self) -> Result<Units<'_>, Refusal> {
+        self.unit(1)?;
+        let word = Codeword { record: self.record, information: self.information(), parity: self.parity() };
+        Ok(Units { word, lwcs: 1..self.record.n() + 1 })
+    }
+
+    /// The two buffers, information and parity.
+    #[must_use]
+    pub fn into_buffers(self) -> (I, P) {
+        (self.information, self.parity)
     }
 }
 
-impl fmt::Debug for Codeword<'_> {
+impl<I, P> fmt::Debug for Codeword<I, P> {
     fn fmt(&self, f: &mut fmt::Formatter<'_>) -> fmt::Result {
-        f.debug_struct("Codeword").field("code", &self.code).field("w", &self.w).finish_non_exhaustive()
+        f.debug_struct("Codeword").field("record", &self.record).finish_non_exhaustive()
     }
 }
 
 /// The units of a codeword, from [`Codeword::units`].
 ///
 /// ```
-/// use lipvezor::{calls, Code, Codeword};
+/// use lipvezor::{Code, Codeword, Record, Unit};
 ///
 /// # fn main() -> Result<(), lipvezor::Refusal> {
-/// let sent = Codeword::encode(Code::C1, 1, vec![0; 512])?;
-/// let units = sent.units(1, 7)?;
+/// let sent = Codeword::encode(Record::new(Code::C1, 1), [0; 512])?;
+/// let units = sent.units()?;
 /// assert_eq!(units.len(), 768);
 /// for (unit, lwc) in units.zip(1..) {
-///     assert_eq!(calls::read(&unit)?.lwc, lwc);
+///     assert_eq!(Unit::read(&unit)?.lwc, lwc);
 /// }
 /// # Ok(())
 /// # }
 /// ```
+#[cfg(feature = "alloc")]
+#[must_use]
 #[derive(Clone, Debug)]
 pub struct Units<'a> {
-    word: &'a Codeword<'a>,
-    protocol: usize,
-    lsc: usize,
+    word: Codeword<&'a [u8], &'a [u8]>,
     lwcs: Range<usize>,
 }
 
+#[cfg(feature = "alloc")]
 impl Units<'_> {
     fn unit(&self, lwc: usize) -> Vec<u8> {
-        self.word.unit(self.protocol, self.lsc, lwc).expect("label and LWC are in range")
+        self.word.unit(lwc).expect("label and LWC are in range")
     }
 }
 
+#[cfg(feature = "alloc")]
 impl Iterator for Units<'_> {
     type Item = Vec<u8>;
 
@@ -149,85 +207,123 @@ impl Iterator for Units<'_> {
     }
 }
 
+#[cfg(feature = "alloc")]
 impl DoubleEndedIterator for Units<'_> {
     fn next_back(&mut self) -> Option<Vec<u8>> {
         self.lwcs.next_back().map(|lwc| self.unit(lwc))
     }
 }
 
+#[cfg(feature = "alloc")]
 impl ExactSizeIterator for Units<'_> {}
 
+#[cfg(feature = "alloc")]
 impl FusedIterator for Units<'_> {}
 
-#[cfg(test)]
+#[cfg(all(test, feature = "alloc"))]
 mod tests {
     use super::*;
+    use crate::{Code, Unit};
 
-    fn word(code: Code, w: usize) -> Codeword<'static> {
-        let information: Vec<u8> = (0..code.information_bytes(w)).map(|i| (i * 31 % 253) as u8).collect();
-        Codeword::encode(code, w, information).unwrap()
+    fn word(record: Record) -> Codeword<Vec<u8>> {
+        let information: Vec<u8> = (0..record.information_bytes()).map(|i| (i * 31 % 253) as u8).collect();
+        Codeword::encode(record, information).unwrap()
     }
 
     #[test]
     fn a_symbol_is_the_one_that_show_copies() {
         for (code, w) in [(Code::C1, 1), (Code::C1, 5), (Code::C2, 3)] {
-            let word = word(code, w);
-            for lwc in (0..=code.n() + 2).chain([usize::MAX / w, usize::MAX - 1, usize::MAX]) {
-                let mut shown = vec![0; w];
-                let count = calls::show(code, w, word.information(), word.parity(), lwc, &mut shown);
-                assert_eq!(word.symbol(lwc), (count == w).then_some(&shown[..]), "LWC {lwc}");
+            let word = word(Record::new(code, w));
+            let all = [word.information(), word.parity()].concat();
+            for (lwc, expected) in (1..=code.n()).zip(all.chunks(w)) {
+                assert_eq!(word.symbol(lwc).as_deref(), Ok(expected), "LWC {lwc}");
+                assert_eq!(Unit::read(&word.unit(lwc).unwrap()).unwrap().symbol, expected, "LWC {lwc}");
+            }
+            for lwc in [0, code.n() + 1, usize::MAX / w, usize::MAX - 1, usize::MAX] {
+                assert_eq!(word.symbol(lwc), Err(Refusal::Position), "LWC {lwc}");
+            }
+            for length in [0, w - 1, w + 1] {
+                let mut out = vec![0xEE; length];
+                assert_eq!([0, 1].map(|lwc| word.copy_symbol(lwc, &mut out)), [Err(Refusal::Length); 2]);
+                assert!(out.iter().all(|&x| x == 0xEE));
             }
         }
     }
 
     #[test]
-    fn information_is_kept_or_borrowed() {
+    fn buffers_are_kept_or_borrowed() {
+        let record = Record::new(Code::C1, 1);
         let owned = vec![9; 512];
         let place = owned.as_ptr();
-        let borrowing = Codeword::encode(Code::C1, 1, &owned[..]).unwrap();
+        let borrowing = Codeword::encode(record, &owned[..]).unwrap();
         assert_eq!(borrowing.information().as_ptr(), place);
         let parity = borrowing.parity().to_vec();
-        let owning = Codeword::encode(Code::C1, 1, owned).unwrap();
+        let mut lent = [0xEE; 256];
+        let lending = Codeword::encode_in(record, &owned, &mut lent).unwrap();
+        assert_eq!((lending.information().as_ptr(), lending.parity()), (place, &parity[..]));
+        assert!(lending.units().unwrap().eq(borrowing.units().unwrap()));
+        assert_eq!(lent[..], parity[..]);
+        let owning = Codeword::encode(record, owned).unwrap();
         assert_eq!((owning.information().as_ptr(), owning.parity()), (place, &parity[..]));
+        assert_eq!(owning.into_buffers(), (vec![9; 512], parity));
     }
 
     #[test]
     fn what_does_not_fit_is_refused() {
-        for code in [0, 3, usize::MAX] {
-            assert_eq!(Codeword::encode(Code(code), 1, vec![]).unwrap_err(), Refusal::Code);
+        for code in [0, 3, usize::MAX].map(Code::from_number) {
+            assert_eq!(Codeword::encode(Record::new(code, 1), []).unwrap_err(), Refusal::Code);
         }
         for w in [0, 1025, usize::MAX / 512, usize::MAX] {
-            assert_eq!(Codeword::encode(Code::C2, w, vec![]).unwrap_err(), Refusal::Width);
+            assert_eq!(Codeword::encode(Record::new(Code::C2, w), []).unwrap_err(), Refusal::Width);
         }
         for length in [0, 511, 513] {
-            assert_eq!(Codeword::encode(Code::C1, 1, vec![0; length]).unwrap_err(), Refusal::Length);
+            assert_eq!(Codeword::encode(Record::new(Code::C1, 1), vec![0; length]).unwrap_err(), Refusal::Length);
         }
-        let word = word(Code::C1, 2);
+        for length in [0, 255, 257] {
+            let mut parity = vec![0xEE; length];
+            assert_eq!(Codeword::encode_in(Record::new(Code::C1, 1), [0; 512], &mut parity).unwrap_err(), Refusal::Length);
+            assert!(parity.iter().all(|&x| x == 0xEE));
+        }
+    }
+
+    #[test]
+    fn a_unit_is_refused_as_write_refuses_it() {
         for (protocol, lsc) in [(8, 1), (0, 0), (0, 65_535)] {
-            assert_eq!(word.units(protocol, lsc).unwrap_err(), Refusal::Label);
-            assert_eq!(word.unit(protocol, lsc, 0), Err(Refusal::Label));
+            let word = word(Record::new(Code::C1, 2).with_protocol(protocol).with_lsc(lsc));
+            assert_eq!(word.units().unwrap_err(), Refusal::Label);
+            assert_eq!(word.unit(0), Err(Refusal::Label));
+            assert_eq!(word.write_unit(1, &mut []), Err(Refusal::Label));
+            assert_eq!(word.symbol(1).unwrap().len(), 2);
         }
-        let length = Code::C1.unit_bytes(2);
+        let word = word(Record::new(Code::C1, 2));
+        let length = word.record().unit_bytes();
         for other in [0, length - 1, length + 1] {
             let mut out = vec![0xEE; other];
-            assert_eq!(word.write_unit(0, 1, 0, &mut out), Err(Refusal::Length));
+            assert_eq!([0, 1].map(|lwc| word.write_unit(lwc, &mut out)), [Err(Refusal::Length); 2]);
             assert!(out.iter().all(|&x| x == 0xEE));
         }
         for lwc in [0, 769, usize::MAX] {
-            assert_eq!(word.unit(0, 1, lwc), Err(Refusal::Position));
+            assert_eq!(word.unit(lwc), Err(Refusal::Position));
         }
     }
 
     #[test]
     fn units_come_from_both_ends() {
-        let word = word(Code::C1, 1);
-        let all: Vec<Vec<u8>> = (1..=768).map(|lwc| word.unit(3, 9, lwc).unwrap()).collect();
-        let mut units = word.units(3, 9).unwrap();
+        let word = word(Record::new(Code::C1, 1).with_protocol(3).with_lsc(9));
+        let all: Vec<Vec<u8>> = (1..=768).map(|lwc| word.unit(lwc).unwrap()).collect();
+        let mut units = word.units().unwrap();
         assert_eq!(units.next().as_ref(), all.first());
         assert_eq!(units.next_back().as_ref(), all.last());
         assert_eq!(units.nth(10).as_ref(), all.get(11));
         assert_eq!(units.len(), 768 - 13);
         assert!(units.eq(all[12..767].iter().cloned()));
-        assert_eq!(word.units(3, 9).unwrap().nth(768), None);
+        assert_eq!(word.units().unwrap().nth(768), None);
+    }
+
+    #[test]
+    fn the_widest_unit_is_written() {
+        let word = word(Record::new(Code::C1, MAX_WIDTH));
+        let unit = word.unit(512).unwrap();
+        assert_eq!((unit.len(), &unit[15..]), (crate::MAX_UNIT_BYTES, &word.information()[511 * 1024..]));
     }
 }

@@ -1,71 +1,74 @@
 //! The erasure layer of a satellite downlink: codes C1 and C2 of CCSDS 131.5-O-1.
 //!
 //! On board, a [`Codeword`] adds parity symbols to the information of a block and writes each symbol as a unit. On the ground, a [`Block`]
-//! takes the units that arrive, in any order, and [`Block::close`] fills every lost symbol that the received ones determine. Its
-//! [`Verdict`] is whole, ambiguous or inconsistent.
+//! takes the units that arrive, in any order, and [`Block::close`] fills every lost symbol that the received ones determine. Its answer,
+//! [`Closed`], is whole, ambiguous or inconsistent, and gives out the bytes that this allows. A [`Receiver`] keeps many blocks by their numbers.
 //!
 //! The work is done by an archive, `liblipvezor.a`, whose source is proved: each call ends, reads and writes nothing out of range, and
 //! answers what its definition says, for all inputs. This crate hands it slices and makes its numbers into types; only one private module
-//! has unsafe code. [`calls`] has the archive's calls one to one; [`Codeword`] and [`Block`] keep the buffers for them.
+//! has unsafe code. [`calls`] has the archive's calls one to one; the types keep the buffers for them.
 //!
 //! Units are without the CRC-32 that ends an erasure coding data unit of the standard: it is added after this layer, and tested and removed
-//! before it.
+//! before it. A unit that was changed on the way and is taken all the same makes a block inconsistent, or whole and wrong.
 //!
 //! # There and back
 //!
 //! ```
-//! use lipvezor::{Block, Code, Codeword, Verdict, Work};
+//! use lipvezor::{Block, Code, Codeword, Record, Work};
 //!
 //! # fn main() -> Result<(), lipvezor::Refusal> {
-//! let (code, w, protocol, lsc) = (Code::C1, 16, 1, 7);
-//! let scene: Vec<u8> = (0..code.information_bytes(w)).map(|i| (i % 251) as u8).collect();
+//! let record = Record::new(Code::C1, 16).with_protocol(1).with_lsc(7);
+//! let scene: Vec<u8> = (0..record.information_bytes()).map(|i| (i % 251) as u8).collect();
 //!
 //! // on board
-//! let sent = Codeword::encode(code, w, &scene)?;
+//! let sent = Codeword::encode(record, &scene)?;
 //!
 //! // on the ground, where every fifth unit is lost
-//! let mut block = Block::open(code, w, protocol, lsc)?;
-//! for (i, unit) in sent.units(protocol, lsc)?.enumerate() {
+//! let mut block = Block::open(record)?;
+//! for (i, unit) in sent.units()?.enumerate() {
 //!     if i % 5 != 0 {
 //!         block.take(&unit)?;
 //!     }
 //! }
-//! let closed = block.close(&mut Work::new(code, w))?;
-//! assert_eq!(closed.verdict, Verdict::Whole);
-//! assert_eq!((closed.heard, closed.filled, closed.left), (614, 154, 0));
-//! assert_eq!(block.information(), Some(&scene[..]));
+//! let closed = block.close(&mut Work::of(record))?;
+//! assert_eq!(closed.to_string(), "whole: heard 614, filled 154, left 0");
+//! assert_eq!(closed.information(), Some(&scene[..]));
 //! # Ok(())
 //! # }
 //! ```
 //!
 //! # Too much is lost
 //!
-//! A symbol is filled only where all codewords that agree with the received symbols have the same one. Nothing is guessed.
+//! A symbol is filled only where all codewords that agree with the received symbols have the same one. Nothing is guessed, and a block that is
+//! not whole has no [`information`](Closed::information). Of an ambiguous one, the heard and the filled symbols come one by one.
 //!
 //! ```
-//! use lipvezor::{Block, Code, Codeword, Mark, Verdict, Work};
+//! use lipvezor::{Block, Closed, Code, Codeword, Mark, Record, Work};
 //!
 //! # fn main() -> Result<(), lipvezor::Refusal> {
-//! let sent = Codeword::encode(Code::C1, 1, vec![0; 512])?;
+//! let record = Record::new(Code::C1, 1).with_protocol(1).with_lsc(7);
+//! let sent = Codeword::encode(record, [0; 512])?;
 //! // the first information symbol is lost, with the 79 parity symbols that change with it, and p_60
 //! let lost = |position: usize| position == 0 || [41..61, 72..98, 222..256].iter().any(|run| run.contains(&position.wrapping_sub(512)));
-//! let mut block = Block::open(Code::C1, 1, 1, 7)?;
-//! for (position, unit) in sent.units(1, 7)?.enumerate() {
+//! let mut block = Block::open(record)?;
+//! for (position, unit) in sent.units()?.enumerate() {
 //!     if !lost(position) {
 //!         block.take(&unit)?;
 //!     }
 //! }
-//! let mut work = Work::new(Code::C1, 1);
+//! let mut work = Work::of(record);
 //! let closed = block.close(&mut work)?;
 //! assert_eq!(closed.to_string(), "ambiguous: heard 687, filled 1, left 80");
-//! assert_eq!(block.mark(512 + 60), Some(Mark::Filled));
-//! assert_eq!(block.mark(0), Some(Mark::Left));
-//! assert_eq!(block.information(), None);
+//! assert_eq!(closed.information(), None);
+//! if let Closed::Ambiguous(closed) = closed {
+//!     let filled: Vec<usize> = closed.symbols().filter(|symbol| symbol.mark == Mark::Filled).map(|symbol| symbol.position).collect();
+//!     assert_eq!(filled, [512 + 60]);
+//!     assert_eq!(closed.missing().next(), Some(0));
+//! }
 //!
 //! // one more unit comes
-//! block.take(&sent.unit(1, 7, 512 + 1 + 41)?)?;
-//! assert_eq!(block.close(&mut work)?.verdict, Verdict::Whole);
-//! assert_eq!(block.information(), Some(&[0; 512][..]));
+//! block.take(&sent.unit(512 + 1 + 41)?)?;
+//! assert_eq!(block.close(&mut work)?.information(), Some(&[0; 512][..]));
 //! # Ok(())
 //! # }
 //! ```
@@ -75,24 +78,98 @@
 //! Every call may be handed any numbers, bytes and lengths. It answers a [`Refusal`] where they do not fit, and has then changed nothing.
 //!
 //! ```
-//! use lipvezor::{Block, Code, Refusal};
+//! use lipvezor::{Block, Code, Record, Refusal};
 //!
-//! let refusal = Block::open(Code::C1, 2000, 1, 7).unwrap_err();
+//! let refusal = Block::open(Record::new(Code::C1, 2000)).unwrap_err();
 //! assert_eq!(refusal, Refusal::Width);
 //! assert_eq!(refusal.to_string(), "refused 2, width: W is 0 or above 1024");
 //! ```
+//!
+//! # Many blocks
+//!
+//! A [`Receiver`] opens each block from its first unit, and keeps it by its LSC.
+//!
+//! ```
+//! use lipvezor::{Code, Codeword, Receiver, Record};
+//!
+//! # fn main() -> Result<(), Box<dyn std::error::Error>> {
+//! let record = Record::new(Code::C1, 4).with_protocol(1);
+//! let scene: Vec<u8> = (0..3 * record.information_bytes()).map(|i| (i % 253) as u8).collect();
+//!
+//! // on board: three blocks; their units come mixed, and every fourth is lost
+//! let mut sent = Vec::new();
+//! for (part, lsc) in scene.chunks(record.information_bytes()).zip(1..) {
+//!     sent.push(Codeword::encode(record.with_lsc(lsc), part)?);
+//! }
+//! let mut receiver = Receiver::new(1)?.with_limit(8);
+//! for lwc in (1..=record.n()).filter(|lwc| lwc % 4 != 0) {
+//!     for word in &sent {
+//!         receiver.take(&word.unit(lwc)?)?;
+//!     }
+//! }
+//!
+//! // on the ground
+//! let mut recovered = Vec::new();
+//! for lsc in 1..=3 {
+//!     let closed = receiver.close(lsc)?;
+//!     recovered.extend_from_slice(closed.information().ok_or("a block is not whole")?);
+//!     receiver.remove(lsc);
+//! }
+//! assert_eq!(recovered, scene);
+//! # Ok(())
+//! # }
+//! ```
+//!
+//! # Without an allocator
+//!
+//! The crate is `no_std`. Without its feature `alloc` (which `std`, on by default, has with it) it allocates nothing: [`calls`], [`Unit`],
+//! [`Codeword::encode_in`], [`Codeword::write_unit`], [`Block::open_in`] and [`Block::close_with`] stay, over buffers that are lent to them.
+#![no_std]
 #![deny(unsafe_code)]
 #![warn(missing_docs)]
 
+#[cfg(feature = "alloc")]
+extern crate alloc;
+#[cfg(feature = "std")]
+extern crate std;
+
+mod answers;
 mod block;
 pub mod calls;
+mod closed;
 mod code;
 mod codeword;
 mod ffi;
+#[cfg(feature = "alloc")]
+mod receiver;
+mod record;
 mod refusal;
+mod unit;
+#[cfg(feature = "alloc")]
+mod work;
 
-pub use block::{Block, Mark, Work};
-pub use calls::{Closed, Parameters, Taken, UnitParts, Verdict};
+pub use answers::{Mark, Report, Taken, Verdict};
+pub use block::Block;
+pub use closed::{Ambiguous, Closed, Inconsistent, Missing, Symbol, Symbols, Whole};
 pub use code::Code;
-pub use codeword::{Codeword, Units};
-pub use refusal::Refusal;
+pub use codeword::Codeword;
+#[cfg(feature = "alloc")]
+pub use codeword::Units;
+#[cfg(feature = "alloc")]
+pub use receiver::{ReceiveError, Received, Receiver};
+pub use record::Record;
+pub use refusal::{Refusal, UnknownRefusal};
+pub use unit::{Parameters, Unit};
+#[cfg(feature = "alloc")]
+pub use work::Work;
+
+/// The largest W: bytes of a symbol.
+pub const MAX_WIDTH: usize = 1024;
+
+/// Bytes of the longest unit, for a buffer that holds any.
+pub const MAX_UNIT_BYTES: usize = 8 + 7 + MAX_WIDTH;
+
+/// The examples of the crate's README.
+#[cfg(all(doctest, feature = "std"))]
+#[doc = include_str!("../README.md")]
+struct Readme;

@@ -1,31 +1,32 @@
 //! Why a call is turned down.
-use std::fmt;
+use core::fmt;
 
 /// Why a call was turned down; it has then changed nothing that it was lent. Where several apply, the first in the order of
 /// [`Refusal::ALL`] is answered. The extensions of a unit are read byte by byte, and the first byte that can't be accepted decides
 /// between extension, number and extension kind.
 ///
 /// ```
-/// use lipvezor::{Block, Code, Refusal};
+/// use lipvezor::{Block, Code, Record, Refusal};
 ///
-/// let refusal = Block::open(Code(3), 16, 1, 7).unwrap_err();
+/// let refusal = Block::open(Record::new(Code::from_number(3), 16)).unwrap_err();
 /// assert_eq!(refusal, Refusal::Code);
 /// assert_eq!(refusal.number(), 1);
 /// assert_eq!(refusal.to_string(), "refused 1, code: the number is neither 1 nor 2");
-/// assert_eq!(Refusal::from_number(13), None);
+/// assert_eq!(Refusal::from_number(1), Some(Refusal::Code));
+/// assert_eq!(Refusal::try_from(13).unwrap_err().to_string(), "13 is no refusal's number");
 /// ```
 ///
 /// A number in a unit is read in its shortest form alone:
 ///
 /// ```
-/// use lipvezor::{calls, Refusal};
+/// use lipvezor::{Refusal, Unit};
 ///
 /// // an extension of type 9 with one value byte, its length in one byte
 /// let unit = [0x10, 1, 0, 1, 0, 7, 9, 0x01, 0xAB, 0x55];
-/// assert_eq!(calls::read(&unit)?.symbol, 9);
+/// assert_eq!(Unit::read(&unit)?.symbol, [0x55]);
 /// // a relay rewrote the length 01 as 80 01
 /// let rewritten = [0x10, 1, 0, 1, 0, 7, 9, 0x80, 0x01, 0xAB, 0x55];
-/// assert_eq!(calls::read(&rewritten), Err(Refusal::Number));
+/// assert_eq!(Unit::read(&rewritten), Err(Refusal::Number));
 /// # Ok::<(), Refusal>(())
 /// ```
 #[derive(Clone, Copy, Debug, PartialEq, Eq, PartialOrd, Ord, Hash)]
@@ -82,36 +83,130 @@ impl Refusal {
     ];
 
     /// Its number in the requirements.
-    pub fn number(self) -> u8 {
+    #[must_use]
+    pub const fn number(self) -> u8 {
         self as u8
     }
 
     /// The refusal of a number: 1 to 12, 19 or 20.
+    #[must_use]
     pub fn from_number(number: u8) -> Option<Refusal> {
         Refusal::ALL.into_iter().find(|r| r.number() == number)
     }
-}
 
-impl fmt::Display for Refusal {
-    fn fmt(&self, f: &mut fmt::Formatter<'_>) -> fmt::Result {
-        let why = match self {
+    /// Why, in a few words: those of `lipvezor_refusal_text` in the C header.
+    #[must_use]
+    pub const fn text(self) -> &'static str {
+        match self {
             Refusal::Code => "code: the number is neither 1 nor 2",
             Refusal::Width => "width: W is 0 or above 1024",
             Refusal::Label => "label: LSC is 0 or above 65534, or the protocol ID is above 7",
             Refusal::Length => "length: a buffer isn't exactly its size",
             Refusal::Header => "header: under 6 bytes, version not 1, reserved bit set, or no extensions",
             Refusal::Extension => "extension: the unit's bytes end early",
+            Refusal::Number => "number: an SDNV too long, too large or not in its shortest form",
+            Refusal::ExtensionKind => "extension kind: type 0 or 255, a second type 1, or type 1 not exactly four numbers",
             Refusal::Parameters => "parameters: not the block's W, k, n and seed 0",
             Refusal::Foreign => "foreign: the unit's LSC or protocol ID isn't the block's",
             Refusal::Position => "position: LWC is 0 or above n",
             Refusal::Symbol => "symbol: not W bytes",
             Refusal::Mark => "mark: above 2",
             Refusal::Conflict => "conflict: heard there before with other bytes",
-            Refusal::Number => "number: an SDNV too long, too large or not in its shortest form",
-            Refusal::ExtensionKind => "extension kind: type 0 or 255, a second type 1, or type 1 not exactly four numbers",
-        };
-        write!(f, "refused {}, {}", self.number(), why)
+        }
     }
 }
 
-impl std::error::Error for Refusal {}
+/// `refused 2, width: W is 0 or above 1024`.
+impl fmt::Display for Refusal {
+    fn fmt(&self, f: &mut fmt::Formatter<'_>) -> fmt::Result {
+        write!(f, "refused {}, {}", self.number(), self.text())
+    }
+}
+
+impl core::error::Error for Refusal {}
+
+impl TryFrom<u8> for Refusal {
+    type Error = UnknownRefusal;
+
+    fn try_from(number: u8) -> Result<Refusal, UnknownRefusal> {
+        Refusal::from_number(number).ok_or(UnknownRefusal(number))
+    }
+}
+
+impl From<Refusal> for u8 {
+    fn from(refusal: Refusal) -> u8 {
+        refusal.number()
+    }
+}
+
+/// A number that is no refusal's, from `Refusal::try_from`.
+///
+/// ```
+/// use lipvezor::Refusal;
+///
+/// assert_eq!(Refusal::try_from(0).unwrap_err().number(), 0);
+/// ```
+#[derive(Clone, Copy, Debug, PartialEq, Eq, Hash)]
+pub struct UnknownRefusal(u8);
+
+impl UnknownRefusal {
+    /// The number.
+    #[must_use]
+    pub const fn number(self) -> u8 {
+        self.0
+    }
+}
+
+impl fmt::Display for UnknownRefusal {
+    fn fmt(&self, f: &mut fmt::Formatter<'_>) -> fmt::Result {
+        write!(f, "{} is no refusal's number", self.0)
+    }
+}
+
+impl core::error::Error for UnknownRefusal {}
+
+#[cfg(all(test, feature = "std"))]
+mod tests {
+    use std::format;
+    use std::string::{String, ToString};
+
+    use super::*;
+
+    fn header() -> String {
+        let path = concat!(env!("CARGO_MANIFEST_DIR"), "/../include/lipvezor.h");
+        std::fs::read_to_string(path).expect("the header stands beside the crate")
+    }
+
+    #[test]
+    fn numbers_and_texts_are_the_headers() {
+        let header = header();
+        let after = |start: &str| header.split_once(start).unwrap_or_else(|| panic!("{start} is in the header")).1;
+        let mut place = 0;
+        for refusal in Refusal::ALL {
+            let name: String = format!("{refusal:?}")
+                .chars()
+                .flat_map(|c| c.is_uppercase().then_some('_').into_iter().chain([c.to_ascii_uppercase()]))
+                .collect();
+            // in the enum: the same number, after the one before
+            let line = format!("    LIPVEZOR_REFUSED{name} = {}", refusal.number());
+            let found = header.find(&line).unwrap_or_else(|| panic!("{line} is in the header"));
+            assert!(!header[found + line.len()..].starts_with(|c: char| c.is_ascii_digit()), "{line}");
+            assert!(found > place, "{line}");
+            place = found;
+            let text = after(&format!("case LIPVEZOR_REFUSED{name}: return \"")).split_once('"').unwrap().0;
+            assert_eq!(refusal.to_string(), format!("refused {}, {text}", refusal.number()));
+        }
+        assert_eq!(header.matches("case LIPVEZOR_REFUSED_").count(), Refusal::ALL.len());
+    }
+
+    #[test]
+    fn a_number_is_a_refusal_or_none() {
+        for number in 0..=u8::MAX {
+            match Refusal::try_from(number) {
+                Ok(refusal) => assert_eq!((refusal.number(), u8::from(refusal)), (number, number)),
+                Err(unknown) => assert_eq!((unknown, Refusal::from_number(number)), (UnknownRefusal(number), None)),
+            }
+        }
+        assert_eq!((0..=u8::MAX).filter(|&number| Refusal::try_from(number).is_ok()).count(), Refusal::ALL.len());
+    }
+}
