@@ -1,13 +1,8 @@
-# make demo     the layer's main job on a sample
-# make test     all that decides whether a change may land: the C example, the Rust tests, then the gate
-# make archive  the library for C and Rust, target/staticlib/liblipvezor.a
-# make soak     the Rust tests for SECONDS (3600) with a new seed; SEED=... runs an earlier one again
-# make bench    speeds, from Rust; LIPVEZOR_EARLIER=FOLDER with an earlier version's archive measures that too
-# make bench-peers  encode and close beside Reed-Solomon codes of ISA-L and cm256cc, where these are installed
-# make curves   how often a block closes whole, by how much is lost
-# make install  library, header and pkg-config file to PREFIX (/usr/local), below DESTDIR if given
-# Where LIPVEZOR_LIB_DIR names a folder with the archive, bench, bench-peers and curves take that and build none.
-.PHONY: demo test archive soak bench bench-peers curves install
+# `make help` prints the targets with what stands after ## here.
+.PHONY: help demo test lint test-c test-rust test-dist archive soak bench bench-peers curves dist install uninstall clean FORCE
+# rt keeps its work in target/: no two at a time. What a failed command wrote does not count as built.
+.NOTPARALLEL:
+.DELETE_ON_ERROR:
 
 CC = cc
 CFLAGS = -std=c11 -O2 -Wall -Wextra -Werror -pedantic
@@ -17,55 +12,107 @@ CXXFLAGS = -std=c++11 -O2 -Wall -Wextra -Werror -pedantic -DUSE_SSSE3 -mssse3
 CARGO = cargo
 SECONDS = 3600
 SEED =
-PREFIX = /usr/local
-prefix = $(abspath $(PREFIX))
-version = $(shell sed -n 's/^version = "\(.*\)"/\1/p' rust/Cargo.toml)
 
-# the archive that speeds are measured of, and what makes it
-given = $(LIPVEZOR_LIB_DIR)
-library = $(if $(given),$(given),target/staticlib)/liblipvezor.a
-built = $(if $(given),,archive)
+archive = target/staticlib/liblipvezor.a
+# bench, bench-peers and curves take the archive in the folder LIPVEZOR_LIB_DIR where that is set, and build none
+measured = $(if $(LIPVEZOR_LIB_DIR),$(LIPVEZOR_LIB_DIR)/liblipvezor.a,$(archive))
+built = $(if $(LIPVEZOR_LIB_DIR),,$(archive))
+# tests take the archive that is built here, whatever is set
+cargo_test = env -u LIPVEZOR_LIB_DIR $(CARGO) test --offline --release --manifest-path rust/Cargo.toml
 
-# $(call quietly,log,command): its output is shown only if it fails
-quietly = @mkdir -p target && { $(2); } >target/$(1).log 2>&1 || { cat target/$(1).log; exit 1; }
+help: ## this list
+	@sed -n 's/^\([a-z-]*\):.*## /\1\t/p' Makefile | expand -t 14
 
-demo:
-	$(call quietly,demo,rt check demo)
+demo: target/bin/demo ## a sample pass: encode, write units, lose some, take the rest, close, compare
 	@target/bin/demo <crates/demo/stdin
 
-archive:
-	$(call quietly,archive,rt staticlib lipvezor)
-
 # rt ci comes last: it removes target/, and its last line is the verdict
-test: archive
-	$(call quietly,gather,rt check gather)
-	$(CC) $(CFLAGS) -Iinclude examples/roundtrip.c target/staticlib/liblipvezor.a -o target/roundtrip
-	target/roundtrip
-	valgrind -q --error-exitcode=1 --leak-check=full --malloc-fill=A5 target/roundtrip
-	$(CC) $(CFLAGS) -Iinclude tests/stack/stack.c target/staticlib/liblipvezor.a -o target/stack
-	target/stack
-	$(CARGO) test --offline --release --manifest-path rust/Cargo.toml
+test: need-test lint test-c test-rust test-dist ## all that decides whether a change may land, half an hour; the last line is the verdict
 	rt ci
 
-soak: archive
-	$(call quietly,gather,rt check gather)
+lint: need-lint ## layout of the Rust crate (cargo fmt) and what clippy says of it
+	$(CARGO) fmt --check --manifest-path rust/Cargo.toml
+	$(CARGO) clippy --quiet --all-targets --offline --manifest-path rust/Cargo.toml -- -D warnings
+
+test-c: need-test-c $(archive) ## C examples and C tests
+	$(CC) $(CFLAGS) -Iinclude examples/roundtrip.c $(archive) -o target/roundtrip
+	target/roundtrip
+	valgrind -q --error-exitcode=1 --leak-check=full --malloc-fill=A5 target/roundtrip
+	$(CC) $(CFLAGS) -Iinclude tests/stack/stack.c $(archive) -o target/stack
+	target/stack
+
+test-rust: need-test-rust $(archive) target/bin/gather ## Rust tests
+	$(cargo_test)
+
+test-dist: need-test-dist $(archive) ## the tar of make dist, unpacked, installed and used from C and Rust elsewhere
+	tests/dist/run
+
+archive: $(archive) ## the proved library for C and Rust, target/staticlib/liblipvezor.a: minutes at first, then only after a change
+
+soak: need-soak $(archive) target/bin/gather ## Rust tests for SECONDS (3600) with a new seed; SEED=... runs an earlier one again
 	@seed=$(SEED); seed=$${seed:-$$(od -An -N8 -tu8 /dev/urandom | tr -d ' ')}; echo "soak: SECONDS=$(SECONDS) SEED=$$seed"; \
-	LIPVEZOR_SECONDS=$(SECONDS) LIPVEZOR_SEED=$$seed $(CARGO) test --offline --release --manifest-path rust/Cargo.toml
+	LIPVEZOR_SECONDS=$(SECONDS) LIPVEZOR_SEED=$$seed $(cargo_test)
 
-bench curves: $(built)
-	$(CARGO) run --offline --release --manifest-path rust/Cargo.toml --example $@
+bench: need-bench $(built) ## speeds, from Rust; LIPVEZOR_EARLIER=FOLDER with an earlier version's archive measures that too
+	$(CARGO) run --offline --release --manifest-path rust/Cargo.toml --example bench
 
-bench-peers: $(built)
+bench-peers: need-bench-peers $(built) ## encode and close beside Reed-Solomon codes of ISA-L and cm256cc, where these are installed
 	@for need in isa-l.h:libisal-dev cm256cc/cm256.h:libcm256cc-dev; do \
 	    echo "#include <$${need%:*}>" | $(CXX) $(CXXFLAGS) -x c++ -E - >/dev/null 2>&1 || missing="$$missing $${need#*:}"; \
-	done; if [ -n "$$missing" ]; then echo "bench-peers needs the Debian packages:$$missing"; exit 1; fi
+	done; if [ -n "$$missing" ]; then echo "make bench-peers needs the Debian packages:$$missing" >&2; exit 1; fi
 	@mkdir -p target
-	$(CXX) $(CXXFLAGS) -Iinclude bench/peers.cc $(library) -lisal -lcm256cc -o target/peers
+	$(CXX) $(CXXFLAGS) -Iinclude bench/peers.cc $(measured) -lisal -lcm256cc -o target/peers
 	target/peers
 
-install: archive
-	install -d $(DESTDIR)$(prefix)/lib/pkgconfig $(DESTDIR)$(prefix)/include
-	install -m 644 target/staticlib/liblipvezor.a $(DESTDIR)$(prefix)/lib
-	install -m 644 include/lipvezor.h $(DESTDIR)$(prefix)/include
-	sed 's|@PREFIX@|$(prefix)|; s|@VERSION@|$(version)|' include/lipvezor.pc.in >target/lipvezor.pc
-	install -m 644 target/lipvezor.pc $(DESTDIR)$(prefix)/lib/pkgconfig
+curves: need-curves $(built) ## how often a block closes whole, by how much is lost: docs/curves.csv and two figures
+	$(CARGO) run --offline --release --manifest-path rust/Cargo.toml --example curves
+
+dist: need-dist $(archive) ## dist/lipvezor-VERSION-x86_64-linux.tar.gz: library, header, Rust crate and examples, for use without the prover
+	@tools/pack $(archive) target/kit
+
+install: $(archive) ## library, header and pkg-config file to PREFIX (/usr/local), below DESTDIR if given
+	@$(MAKE) --no-print-directory -f tools/packed/Makefile install ARCHIVE=$(archive) PC=include/lipvezor.pc.in
+
+uninstall: ## removes what install put there
+	@$(MAKE) --no-print-directory -f tools/packed/Makefile uninstall
+
+clean: ## removes all that was built: target/, rust/target/, dist/
+	rm -rf target rust/target dist
+
+# What the targets need besides make and rt: said in one line before anything is done. Who needs rt is told when there is something to prove.
+need_lint = $(firstword $(CARGO)) rustfmt clippy
+need_test-c = $(firstword $(CC)) valgrind
+need_test-rust = $(firstword $(CARGO))
+need_test-dist = $(need_dist) $(firstword $(CARGO)) $(firstword $(CC))
+need_test = rt $(sort $(need_lint) $(need_test-c) $(need_test-rust) $(need_test-dist))
+need_soak = $(firstword $(CARGO))
+need_bench = $(firstword $(CARGO))
+need_bench-peers = $(firstword $(CXX))
+need_curves = $(firstword $(CARGO))
+need_dist = tar gzip sha256sum
+needs = $(addprefix need-,lint test test-c test-rust test-dist soak bench bench-peers curves dist)
+.PHONY: $(needs)
+$(needs): need-%:
+	@tools/need 'make $*' $(need_$*)
+
+# the kit that proves, by its identity; another kit proves again
+target/kit: FORCE
+	@mkdir -p target; ! command -v rt >/dev/null || rt version | cmp -s - $@ || rt version >$@
+
+# rt is asked only if a source is newer. What it builds gets the time of the start, so that an edit made meanwhile is not passed over.
+crates = $(shell tools/crates $(1))
+# rt check proves side by side what rt staticlib would prove one by one
+$(archive): target/kit $(shell tools/crates --files lipvezor)
+	@tools/need 'make archive' rt
+	@touch target/began
+	@tools/quietly archive proving $(words $(call crates,lipvezor)) \
+	    sh -c 'rt check $(filter-out lipvezor,$(call crates,lipvezor)) && rt staticlib lipvezor'
+	@touch -r target/began $@
+
+target/bin/demo: $(shell tools/crates --files demo)
+target/bin/gather: $(shell tools/crates --files gather)
+target/bin/demo target/bin/gather: target/kit
+	@tools/need 'make $(@F)' rt
+	@touch target/began
+	@tools/quietly $(@F) proving $(words $(call crates,$(@F))) rt check $(@F)
+	@touch -r target/began $@
