@@ -1,5 +1,5 @@
 # `make help` prints the targets with what stands after ## here.
-.PHONY: help demo test lint test-c test-rust test-dist archive soak bench bench-peers curves dist install uninstall clean FORCE
+.PHONY: help demo test format clippy test-c test-rust test-dist archive soak bench bench-peers curves dist install uninstall clean FORCE
 # rt keeps its work in target/: no two at a time. What a failed command wrote does not count as built.
 .NOTPARALLEL:
 .DELETE_ON_ERROR:
@@ -17,6 +17,7 @@ archive = target/staticlib/liblipvezor.a
 # bench, bench-peers and curves take the archive in the folder LIPVEZOR_LIB_DIR where that is set, and build none
 measured = $(if $(LIPVEZOR_LIB_DIR),$(LIPVEZOR_LIB_DIR)/liblipvezor.a,$(archive))
 built = $(if $(LIPVEZOR_LIB_DIR),,$(archive))
+clippy = $(CARGO) clippy --quiet --offline --manifest-path rust/Cargo.toml
 # tests take the archive that is built here, whatever is set
 cargo_test = env -u LIPVEZOR_LIB_DIR $(CARGO) test --offline --release --manifest-path rust/Cargo.toml
 
@@ -27,12 +28,16 @@ demo: target/bin/demo ## a sample pass: encode, write units, lose some, take the
 	@target/bin/demo <crates/demo/stdin
 
 # rt ci comes last: it removes target/, and its last line is the verdict
-test: need-test lint test-c test-rust test-dist ## all that decides whether a change may land, half an hour; the last line is the verdict
+test: need-test format clippy test-c test-rust test-dist ## all that decides whether a change may land, half an hour; the last line is the verdict
 	rt ci
 
-lint: need-lint ## layout of the Rust crate (cargo fmt) and what clippy says of it
+format: need-format ## is the Rust code in cargo fmt's layout?
 	$(CARGO) fmt --check --manifest-path rust/Cargo.toml
-	$(CARGO) clippy --quiet --all-targets --offline --manifest-path rust/Cargo.toml -- -D warnings
+
+clippy: need-clippy $(built) ## what clippy says of the Rust code, with and without its features
+	$(clippy) --all-targets -- -D warnings
+	$(clippy) --lib --no-default-features -- -D warnings
+	$(clippy) --lib --no-default-features --features alloc -- -D warnings
 
 test-c: need-test-c $(archive) ## C examples and C tests
 	$(CC) $(CFLAGS) -Iinclude examples/roundtrip.c $(archive) -o target/roundtrip
@@ -80,17 +85,18 @@ clean: ## removes all that was built: target/, rust/target/, dist/
 	rm -rf target rust/target dist
 
 # What the targets need besides make and rt: said in one line before anything is done. Who needs rt is told when there is something to prove.
-need_lint = $(firstword $(CARGO)) rustfmt clippy
+need_format = $(firstword $(CARGO)) rustfmt
+need_clippy = $(firstword $(CARGO)) clippy
 need_test-c = $(firstword $(CC)) valgrind
 need_test-rust = $(firstword $(CARGO))
 need_test-dist = $(need_dist) $(firstword $(CARGO)) $(firstword $(CC))
-need_test = rt $(sort $(need_lint) $(need_test-c) $(need_test-rust) $(need_test-dist))
+need_test = rt $(sort $(need_format) $(need_clippy) $(need_test-c) $(need_test-rust) $(need_test-dist))
 need_soak = $(firstword $(CARGO))
 need_bench = $(firstword $(CARGO))
 need_bench-peers = $(firstword $(CXX))
 need_curves = $(firstword $(CARGO))
 need_dist = tar gzip sha256sum
-needs = $(addprefix need-,lint test test-c test-rust test-dist soak bench bench-peers curves dist)
+needs = $(addprefix need-,test format clippy test-c test-rust test-dist soak bench bench-peers curves dist)
 .PHONY: $(needs)
 $(needs): need-%:
 	@tools/need 'make $*' $(need_$*)
