@@ -73,7 +73,7 @@ curves: need-curves $(built) ## how often a block closes whole, by how much is l
 	$(CARGO) run --offline --release --manifest-path rust/Cargo.toml --example curves
 
 dist: need-dist $(archive) ## dist/lipvezor-VERSION-x86_64-linux.tar.gz: library, header, Rust crate and examples, for use without the prover
-	@tools/pack $(archive) target/kit
+	@tools/pack $(archive)
 
 install: $(archive) ## library, header and pkg-config file to PREFIX (/usr/local), below DESTDIR if given
 	@$(MAKE) --no-print-directory -f tools/packed/Makefile install ARCHIVE=$(archive) PC=include/lipvezor.pc.in
@@ -101,24 +101,23 @@ needs = $(addprefix need-,test format clippy test-c test-rust test-dist soak ben
 $(needs): need-%:
 	@tools/need 'make $*' $(need_$*)
 
-# the kit that proves, by its identity; another kit proves again
-target/kit: FORCE
-	@mkdir -p target; ! command -v rt >/dev/null || rt version | cmp -s - $@ || rt version >$@
-
-# rt is asked only if a source is newer. What it builds gets the time of the start, so that an edit made meanwhile is not passed over.
+# rt is asked only if a source is newer than what stands there, or if another kit built it; the file beside it with .kit has that kit's identity.
+# What rt builds gets the time of the start, so that an edit made meanwhile is not passed over.
+sources = $(shell tools/crates --files $(1)) $(shell ! command -v rt >/dev/null || rt version 2>&1 | cmp -s - $(2).kit || echo FORCE)
 crates = $(shell tools/crates $(1))
+begin = @tools/need '$(1)' rt && mkdir -p target && touch target/began
+end = @touch -r target/began $@ && rt version >$@.kit
+
 # rt check proves side by side what rt staticlib would prove one by one
-$(archive): target/kit $(shell tools/crates --files lipvezor)
-	@tools/need 'make archive' rt
-	@touch target/began
+$(archive): $(call sources,lipvezor,$(archive))
+	$(call begin,make archive)
 	@tools/quietly archive proving $(words $(call crates,lipvezor)) \
 	    sh -c 'rt check $(filter-out lipvezor,$(call crates,lipvezor)) && rt staticlib lipvezor'
-	@touch -r target/began $@
+	$(end)
 
-target/bin/demo: $(shell tools/crates --files demo)
-target/bin/gather: $(shell tools/crates --files gather)
-target/bin/demo target/bin/gather: target/kit
-	@tools/need 'make $(@F)' rt
-	@touch target/began
+target/bin/demo: $(call sources,demo,target/bin/demo)
+target/bin/gather: $(call sources,gather,target/bin/gather)
+target/bin/demo target/bin/gather:
+	$(call begin,$@)
 	@tools/quietly $(@F) proving $(words $(call crates,$(@F))) rt check $(@F)
-	@touch -r target/began $@
+	$(end)
