@@ -14,27 +14,28 @@ SECONDS = 3600
 SEED =
 
 archive = target/staticlib/liblipvezor.a
-# bench, bench-peers and curves take the archive in the folder LIPVEZOR_LIB_DIR where that is set, and build none
-measured = $(if $(LIPVEZOR_LIB_DIR),$(LIPVEZOR_LIB_DIR)/liblipvezor.a,$(archive))
-built = $(if $(LIPVEZOR_LIB_DIR),,$(archive))
-clippy = $(CARGO) clippy --quiet --offline --manifest-path rust/Cargo.toml
+# LIPVEZOR_LIB_DIR may name a folder with an archive, for what neither tests nor packs
+given = $(if $(LIPVEZOR_LIB_DIR),$(abspath $(LIPVEZOR_LIB_DIR))/liblipvezor.a,$(archive))
+cargo_given = $(if $(LIPVEZOR_LIB_DIR),LIPVEZOR_LIB_DIR=$(abspath $(LIPVEZOR_LIB_DIR)) )$(CARGO)
+clippy = $(cargo_given) clippy --quiet --offline --manifest-path rust/Cargo.toml
 # tests take the archive that is built here, whatever is set
 cargo_test = env -u LIPVEZOR_LIB_DIR $(CARGO) test --offline --release --manifest-path rust/Cargo.toml
 
 help: ## this list
 	@sed -n 's/^\([a-z-]*\):.*## /\1\t/p' Makefile | expand -t 14
+	@echo "LIPVEZOR_LIB_DIR=FOLDER: clippy, bench, bench-peers and curves take the archive in FOLDER and build none"
 
 demo: target/bin/demo ## a sample pass: encode, write units, lose some, take the rest, close, compare
 	@target/bin/demo <crates/demo/stdin
 
 # rt ci comes last: it removes target/, and its last line is the verdict
-test: need-test format clippy test-c test-rust test-dist ## all that decides whether a change may land, half an hour; the last line is the verdict
+test: need-test format clippy test-c test-dist test-rust ## all that decides whether a change may land, half an hour; the last line is the verdict
 	rt ci
 
 format: need-format ## is the Rust code in cargo fmt's layout?
 	$(CARGO) fmt --check --manifest-path rust/Cargo.toml
 
-clippy: need-clippy $(built) ## what clippy says of the Rust code, with and without its features
+clippy: need-clippy $(given) ## what clippy says of the Rust code, with and without its features
 	$(clippy) --all-targets -- -D warnings
 	$(clippy) --lib --no-default-features -- -D warnings
 	$(clippy) --lib --no-default-features --features alloc -- -D warnings
@@ -46,11 +47,11 @@ test-c: need-test-c $(archive) ## C examples and C tests
 	$(CC) $(CFLAGS) -Iinclude tests/stack/stack.c $(archive) -o target/stack
 	target/stack
 
-test-rust: need-test-rust $(archive) target/bin/gather ## Rust tests
-	$(cargo_test)
-
 test-dist: need-test-dist $(archive) ## the tar of make dist, unpacked, installed and used from C and Rust elsewhere
 	tests/dist/run
+
+test-rust: need-test-rust $(archive) target/bin/gather ## Rust tests
+	$(cargo_test)
 
 archive: $(archive) ## the proved library for C and Rust, target/staticlib/liblipvezor.a: minutes at first, then only after a change
 
@@ -58,19 +59,19 @@ soak: need-soak $(archive) target/bin/gather ## Rust tests for SECONDS (3600) wi
 	@seed=$(SEED); seed=$${seed:-$$(od -An -N8 -tu8 /dev/urandom | tr -d ' ')}; echo "soak: SECONDS=$(SECONDS) SEED=$$seed"; \
 	LIPVEZOR_SECONDS=$(SECONDS) LIPVEZOR_SEED=$$seed $(cargo_test)
 
-bench: need-bench $(built) ## speeds, from Rust; LIPVEZOR_EARLIER=FOLDER with an earlier version's archive measures that too
-	$(CARGO) run --offline --release --manifest-path rust/Cargo.toml --example bench
+bench: need-bench $(given) ## speeds, from Rust; LIPVEZOR_EARLIER=FOLDER with an earlier version's archive measures that too
+	$(cargo_given) run --offline --release --manifest-path rust/Cargo.toml --example bench
 
-bench-peers: need-bench-peers $(built) ## encode and close beside Reed-Solomon codes of ISA-L and cm256cc, where these are installed
+bench-peers: need-bench-peers $(given) ## encode and close beside Reed-Solomon codes of ISA-L and cm256cc, where these are installed
 	@for need in isa-l.h:libisal-dev cm256cc/cm256.h:libcm256cc-dev; do \
 	    echo "#include <$${need%:*}>" | $(CXX) $(CXXFLAGS) -x c++ -E - >/dev/null 2>&1 || missing="$$missing $${need#*:}"; \
 	done; if [ -n "$$missing" ]; then echo "make bench-peers needs the Debian packages:$$missing" >&2; exit 1; fi
 	@mkdir -p target
-	$(CXX) $(CXXFLAGS) -Iinclude bench/peers.cc $(measured) -lisal -lcm256cc -o target/peers
+	$(CXX) $(CXXFLAGS) -Iinclude bench/peers.cc $(given) -lisal -lcm256cc -o target/peers
 	target/peers
 
-curves: need-curves $(built) ## how often a block closes whole, by how much is lost: docs/curves.csv and two figures
-	$(CARGO) run --offline --release --manifest-path rust/Cargo.toml --example curves
+curves: need-curves $(given) ## how often a block closes whole, by how much is lost: docs/curves.csv and two figures
+	$(cargo_given) run --offline --release --manifest-path rust/Cargo.toml --example curves
 
 dist: need-dist $(archive) ## dist/lipvezor-VERSION-x86_64-linux.tar.gz: library, header, Rust crate and examples, for use without the prover
 	@tools/pack $(archive)
@@ -88,10 +89,10 @@ clean: ## removes all that was built: target/, rust/target/, dist/
 need_format = $(firstword $(CARGO)) rustfmt
 need_clippy = $(firstword $(CARGO)) clippy
 need_test-c = $(firstword $(CC)) valgrind
-need_test-rust = $(firstword $(CARGO))
+need_test-rust = rt $(firstword $(CARGO))
 need_test-dist = $(need_dist) $(firstword $(CARGO)) $(firstword $(CC))
-need_test = rt $(sort $(need_format) $(need_clippy) $(need_test-c) $(need_test-rust) $(need_test-dist))
-need_soak = $(firstword $(CARGO))
+need_test = $(sort $(need_format) $(need_clippy) $(need_test-c) $(need_test-rust) $(need_test-dist))
+need_soak = $(need_test-rust)
 need_bench = $(firstword $(CARGO))
 need_bench-peers = $(firstword $(CXX))
 need_curves = $(firstword $(CARGO))
