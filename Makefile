@@ -7,8 +7,9 @@
 CC = cc
 CFLAGS = -std=c11 -O2 -Wall -Wextra -Werror -pedantic
 CXX = c++
+CXXFLAGS = -std=c++11 -O2 -Wall -Wextra -Werror -pedantic
 # cm256cc's headers ask for USE_SSSE3; its library is built with it
-CXXFLAGS = -std=c++11 -O2 -Wall -Wextra -Werror -pedantic -DUSE_SSSE3 -mssse3
+PEERFLAGS = $(CXXFLAGS) -DUSE_SSSE3 -mssse3
 CARGO = cargo
 SECONDS = 3600
 SEED =
@@ -17,6 +18,8 @@ archive = target/staticlib/liblipvezor.a
 # LIPVEZOR_LIB_DIR may name a folder with an archive, for what neither tests nor packs
 given = $(if $(LIPVEZOR_LIB_DIR),$(abspath $(LIPVEZOR_LIB_DIR))/liblipvezor.a,$(archive))
 cargo_given = $(if $(LIPVEZOR_LIB_DIR),LIPVEZOR_LIB_DIR=$(abspath $(LIPVEZOR_LIB_DIR)) )$(CARGO)
+compile = $(CC) $(CFLAGS) -Iinclude
+valgrind = valgrind -q --error-exitcode=1 --leak-check=full --malloc-fill=A5
 clippy = $(cargo_given) clippy --quiet --offline --manifest-path rust/Cargo.toml
 # tests take the archive that is built here, whatever is set
 cargo_test = env -u LIPVEZOR_LIB_DIR $(CARGO) test --offline --release --manifest-path rust/Cargo.toml
@@ -40,12 +43,28 @@ clippy: need-clippy $(given) ## what clippy says of the Rust code, with and with
 	$(clippy) --lib --no-default-features -- -D warnings
 	$(clippy) --lib --no-default-features --features alloc -- -D warnings
 
-test-c: need-test-c $(archive) ## C examples and C tests
-	$(CC) $(CFLAGS) -Iinclude examples/roundtrip.c $(archive) -o target/roundtrip
+test-c: need-test-c $(archive) ## C examples, plainly and under valgrind; the header from C and C++; the stack that each call takes
+	$(compile) examples/roundtrip.c $(archive) -o target/roundtrip
 	target/roundtrip
-	valgrind -q --error-exitcode=1 --leak-check=full --malloc-fill=A5 target/roundtrip
-	$(CC) $(CFLAGS) -Iinclude tests/stack/stack.c $(archive) -o target/stack
+	$(valgrind) target/roundtrip
+	$(compile) examples/file.c $(archive) -o target/file
+	target/file
+	$(valgrind) target/file -2 -w 5 -l 20 include/lipvezor.h target/file.recovered
+	cmp include/lipvezor.h target/file.recovered
+# a third is lost: some block can't be whole, and the status is 1
+	target/file -l 34 >target/file.log; [ $$? = 1 ] || { cat target/file.log; exit 1; }
+	$(compile) tests/header/sizes.c $(archive) -o target/sizes
+	target/sizes
+	$(CXX) $(CXXFLAGS) -Iinclude tests/header/calls.cc $(archive) -o target/calls
+	target/calls
+	$(valgrind) target/calls
+	sh tests/header/unused.sh $(CC)
+	sh tests/header/symbols.sh $(archive)
+# bound at the start: binding at the first call takes 2.7 KB of the caller's stack
+	$(compile) -Wl,-z,now tests/stack/stack.c $(archive) -o target/stack
 	target/stack
+	$(compile) tests/stack/bound.c -o target/bound
+	objdump -dr --no-show-raw-insn $(archive) | target/bound
 
 test-dist: need-test-dist $(archive) ## the tar of make dist, unpacked, installed and used from C and Rust elsewhere
 	tests/dist/run
@@ -64,10 +83,10 @@ bench: need-bench $(given) ## speeds, from Rust; LIPVEZOR_EARLIER=FOLDER with an
 
 bench-peers: need-bench-peers $(given) ## encode and close beside Reed-Solomon codes of ISA-L and cm256cc, where these are installed
 	@for need in isa-l.h:libisal-dev cm256cc/cm256.h:libcm256cc-dev; do \
-	    echo "#include <$${need%:*}>" | $(CXX) $(CXXFLAGS) -x c++ -E - >/dev/null 2>&1 || missing="$$missing $${need#*:}"; \
+	    echo "#include <$${need%:*}>" | $(CXX) $(PEERFLAGS) -x c++ -E - >/dev/null 2>&1 || missing="$$missing $${need#*:}"; \
 	done; if [ -n "$$missing" ]; then echo "make bench-peers needs the Debian packages:$$missing" >&2; exit 1; fi
 	@mkdir -p target
-	$(CXX) $(CXXFLAGS) -Iinclude bench/peers.cc $(given) -lisal -lcm256cc -o target/peers
+	$(CXX) $(PEERFLAGS) -Iinclude bench/peers.cc $(given) -lisal -lcm256cc -o target/peers
 	target/peers
 
 curves: need-curves $(given) ## how often a block closes whole, by how much is lost: docs/curves.csv and two figures
@@ -88,7 +107,7 @@ clean: ## removes all that was built: target/, rust/target/, dist/
 # What the targets need besides make and rt: said in one line before anything is done. Who needs rt is told when there is something to prove.
 need_format = $(firstword $(CARGO)) rustfmt
 need_clippy = $(firstword $(CARGO)) clippy
-need_test-c = $(firstword $(CC)) valgrind
+need_test-c = $(firstword $(CC)) $(firstword $(CXX)) valgrind objdump
 need_test-rust = rt $(firstword $(CARGO))
 need_test-dist = $(need_dist) $(firstword $(CARGO)) $(firstword $(CC))
 need_test = $(sort $(need_format) $(need_clippy) $(need_test-c) $(need_test-rust) $(need_test-dist))
