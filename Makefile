@@ -15,14 +15,14 @@ SECONDS = 3600
 SEED =
 
 archive = target/staticlib/liblipvezor.a
-# LIPVEZOR_LIB_DIR may name a folder with an archive, for what neither tests nor packs
+# LIPVEZOR_LIB_DIR may name a folder with an archive, for what neither tests nor packs; cargo gets absolute paths
 given = $(if $(LIPVEZOR_LIB_DIR),$(abspath $(LIPVEZOR_LIB_DIR))/liblipvezor.a,$(archive))
-cargo_given = $(if $(LIPVEZOR_LIB_DIR),LIPVEZOR_LIB_DIR=$(abspath $(LIPVEZOR_LIB_DIR)) )$(CARGO)
+cargo_given = $(foreach name,LIPVEZOR_LIB_DIR LIPVEZOR_EARLIER,$(if $($(name)),$(name)=$(abspath $($(name))) ))$(CARGO)
 compile = $(CC) $(CFLAGS) -Iinclude
 valgrind = valgrind -q --error-exitcode=1 --leak-check=full --malloc-fill=A5
 clippy = $(cargo_given) clippy --quiet --offline --manifest-path rust/Cargo.toml
 # tests take the archive that is built here, whatever is set
-cargo_test = env -u LIPVEZOR_LIB_DIR $(CARGO) test --offline --release --manifest-path rust/Cargo.toml
+cargo_test = env -u LIPVEZOR_LIB_DIR -u LIPVEZOR_EARLIER $(CARGO) test --offline --release --manifest-path rust/Cargo.toml
 
 help: ## this list
 	@sed -n 's/^\([a-z-]*\):.*## /\1\t/p' Makefile | expand -t 14
@@ -32,7 +32,7 @@ demo: target/bin/demo ## a sample pass: encode, write units, lose some, take the
 	@target/bin/demo <crates/demo/stdin
 
 # rt ci comes last: it removes target/, and its last line is the verdict
-test: need-test format clippy test-c test-dist test-rust ## all that decides whether a change may land, half an hour; the last line is the verdict
+test: need-test format clippy test-c test-dist test-rust ## all that decides whether a change may land: half an hour; the last line says it
 	rt ci
 
 format: need-format ## is the Rust code in cargo fmt's layout?
@@ -73,6 +73,7 @@ test-rust: need-test-rust $(archive) target/bin/gather ## Rust tests
 	$(cargo_test)
 
 archive: $(archive) ## the proved library for C and Rust, target/staticlib/liblipvezor.a: minutes at first, then only after a change
+	@echo "$(archive), proved by $$(cat $(archive).kit)"
 
 soak: need-soak $(archive) target/bin/gather ## Rust tests for SECONDS (3600) with a new seed; SEED=... runs an earlier one again
 	@seed=$(SEED); seed=$${seed:-$$(od -An -N8 -tu8 /dev/urandom | tr -d ' ')}; echo "soak: SECONDS=$(SECONDS) SEED=$$seed"; \
@@ -112,7 +113,7 @@ need_test-rust = rt $(firstword $(CARGO))
 need_test-dist = $(need_dist) $(firstword $(CARGO)) $(firstword $(CC))
 need_test = $(sort $(need_format) $(need_clippy) $(need_test-c) $(need_test-rust) $(need_test-dist))
 need_soak = $(need_test-rust)
-need_bench = $(firstword $(CARGO))
+need_bench = $(firstword $(CARGO)) $(if $(LIPVEZOR_EARLIER),objcopy)
 need_bench-peers = $(firstword $(CXX))
 need_curves = $(firstword $(CARGO))
 need_dist = tar gzip sha256sum
