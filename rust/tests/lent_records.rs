@@ -157,11 +157,12 @@ fn take(taking: &Taking, filling: usize, label: &str) -> Result<[usize; 1], u8> 
 
 #[test]
 fn results_of_takes() {
-    type Change = fn(&mut Taking);
-    let cases: [(&str, Result<[usize; 1], u8>, Change); 19] = [
-        ("kept", Ok([1]), |_| {}),
-        ("kept over a filled symbol", Ok([1]), |t| t.mark = 2),
-        ("repeated", Ok([2]), |t| t.mark = 1),
+    // The result of a take that is not refused.
+    type Case = (&'static str, Result<usize, u8>, fn(&mut Taking));
+    let cases: [Case; 19] = [
+        ("kept", Ok(1), |_| {}),
+        ("kept over a filled symbol", Ok(1), |t| t.mark = 2),
+        ("repeated", Ok(2), |t| t.mark = 1),
         ("code 3", Err(1), |t| t.record.code = 3),
         ("W 0", Err(2), |t| t.record.w = 0),
         ("W 1025", Err(2), |t| t.record.w = 1025),
@@ -183,7 +184,7 @@ fn results_of_takes() {
         let mut taking = taking();
         change(&mut taking);
         for filling in FILLINGS {
-            assert_eq!(take(&taking, filling, label), due, "{label}");
+            assert_eq!(take(&taking, filling, label), due.map(|result| [result]), "{label}");
         }
     }
 }
@@ -246,9 +247,9 @@ fn close(closing: &Closing, code: &Code, filling: usize, label: &str) -> Result<
 
 #[test]
 fn reports_of_closes() {
-    type Change = fn(&mut Closing);
     // The verdict of a close that is not refused.
-    let cases: [(&str, Result<usize, u8>, Change); 13] = [
+    type Case = (&'static str, Result<usize, u8>, fn(&mut Closing));
+    let cases: [Case; 13] = [
         ("all heard", Ok(1), |_| {}),
         ("a few lost", Ok(1), |c| c.lost = 20),
         ("too many lost", Ok(2), |c| c.lost = 400),

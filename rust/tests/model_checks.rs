@@ -135,8 +135,8 @@ fn model_without_the_crate() {
 /// The crate's calls one to one are made in one place, and what they answer is translated there.
 #[test]
 fn one_place_makes_the_calls() {
-    let calls = |line: &str| line.starts_with("use lipvezor::") && line.contains("calls") || line.contains(concat!("lipvezor", "::calls::"));
-    let callers: Vec<PathBuf> =
-        files("tests").into_iter().filter(|file| fs::read_to_string(file).unwrap().lines().any(calls)).collect();
+    let calls =
+        |line: &str| line.starts_with("use lipvezor::") && line.contains("calls") || line.contains(concat!("lipvezor", "::calls::"));
+    let callers: Vec<PathBuf> = files("tests").into_iter().filter(|file| fs::read_to_string(file).unwrap().lines().any(calls)).collect();
     assert_eq!(callers, [Path::new(env!("CARGO_MANIFEST_DIR")).join("tests/compare/ours.rs")]);
 }

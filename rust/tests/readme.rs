@@ -17,7 +17,9 @@ fn fenced(document: &str) -> Vec<Fenced> {
     let mut heading = false;
     for line in document.lines() {
         match (&mut open, line.strip_prefix("```")) {
-            (None, Some(language)) => open = Some(Fenced { language: language.trim().to_owned(), text: String::new(), after_heading: heading }),
+            (None, Some(language)) => {
+                open = Some(Fenced { language: language.trim().to_owned(), text: String::new(), after_heading: heading })
+            }
             (None, None) => heading |= line.starts_with('#'),
             (Some(_), Some(_)) => {
                 blocks.extend(open.take());
@@ -44,7 +46,8 @@ struct Program {
 fn programs_in(document: &str, language: &str, main: &str) -> Vec<Program> {
     let blocks = fenced(document);
     let is_program = |block: &Fenced| block.language == language && block.text.contains(main);
-    let said = |index: usize| blocks.get(index + 1).filter(|next| next.language == "text" && !next.after_heading).map(|next| next.text.clone());
+    let said =
+        |index: usize| blocks.get(index + 1).filter(|next| next.language == "text" && !next.after_heading).map(|next| next.text.clone());
     let programs = blocks.iter().enumerate().filter(|(_, block)| is_program(block));
     programs.map(|(index, block)| Program { text: block.text.clone(), prints: said(index) }).collect()
 }
@@ -59,7 +62,10 @@ fn check(language: &str, main: &str, run: fn(&str, &str) -> String) {
         if let Some(due) = &program.prints {
             assert_eq!(printed, *due, "what {language} program {index} of README.md prints");
         }
-        println!("{language} program {index}: prints {printed:?}, {}", if program.prints.is_some() { "as said" } else { "of which nothing is said" });
+        println!(
+            "{language} program {index}: prints {printed:?}, {}",
+            if program.prints.is_some() { "as said" } else { "of which nothing is said" }
+        );
     }
 }
 
@@ -76,7 +82,8 @@ fn rust_programs() {
 /// What is found in a document.
 #[test]
 fn programs_are_found() {
-    let document = "# Head\n```c\nint main(void) { }\n```\nIt prints:\n\n```text\none\ntwo\n```\n```c\nno program\n```\n```rust\nfn main() {}\n```\n\
+    let document =
+        "# Head\n```c\nint main(void) { }\n```\nIt prints:\n\n```text\none\ntwo\n```\n```c\nno program\n```\n```rust\nfn main() {}\n```\n\
                     ## Next\n```text\nnot of it\n```\n```rust\nfn main() { }\n```\n";
     let program = |text: &str, prints: Option<&str>| Program { text: text.to_owned(), prints: prints.map(str::to_owned) };
     assert_eq!(programs_in(document, "c", "int main("), [program("int main(void) { }\n", Some("one\ntwo\n"))]);

@@ -404,7 +404,9 @@ fn links(document: &str) -> Vec<(usize, String)> {
 fn anchors(document: &str) -> BTreeSet<String> {
     let headings = lines(document).into_iter().filter(|line| !line.code).filter_map(|line| line.text.strip_prefix('#'));
     let kept = |c: &char| c.is_alphanumeric() || " -_".contains(*c);
-    headings.map(|text| text.trim_start_matches('#').trim().to_lowercase().chars().filter(kept).collect::<String>().replace(' ', "-")).collect()
+    headings
+        .map(|text| text.trim_start_matches('#').trim().to_lowercase().chars().filter(kept).collect::<String>().replace(' ', "-"))
+        .collect()
 }
 
 /// Why a link of a document in a folder leads nowhere, if it does; links to other hosts are not followed.

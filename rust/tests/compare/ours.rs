@@ -42,7 +42,7 @@ pub fn mark(mark: lipvezor::Mark) -> u8 {
 }
 
 /// The parts of a unit, whose symbol is the unit's own last bytes.
-fn parts(unit: &[u8], read: &lipvezor::Unit<'_>) -> UnitParts {
+pub fn parts(unit: &[u8], read: &lipvezor::Unit<'_>) -> UnitParts {
     let symbol = unit.len() - read.symbol.len();
     assert!(std::ptr::eq(&unit[symbol..], read.symbol), "the symbol isn't where the unit ends");
     let coding = read.coding.map(|coding| Parameters { w: coding.w, k: coding.k, n: coding.n, seed: coding.seed });

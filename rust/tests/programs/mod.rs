@@ -11,10 +11,12 @@ pub fn root() -> PathBuf {
     Path::new(env!("CARGO_MANIFEST_DIR")).parent().unwrap().to_owned()
 }
 
-/// The folder with the archive: LIPVEZOR_LIB_DIR, or where `make archive` puts it.
+/// The folder with the archive: LIPVEZOR_LIB_DIR, or where a release or `make archive` has it.
 fn archive_folder() -> PathBuf {
-    let folder = std::env::var_os("LIPVEZOR_LIB_DIR").map_or_else(|| root().join("target/staticlib"), PathBuf::from);
-    folder.canonicalize().unwrap_or_else(|error| panic!("{}: {error}", folder.display()))
+    let named = std::env::var_os("LIPVEZOR_LIB_DIR").map(PathBuf::from);
+    let mut places = named.map_or_else(|| vec![root().join("lib"), root().join("target/staticlib")], |folder| vec![folder]).into_iter();
+    let place = places.find(|place| place.join("liblipvezor.a").exists()).expect("the archive is there");
+    place.canonicalize().unwrap()
 }
 
 /// A folder of Cargo's own for what is built.
@@ -54,8 +56,7 @@ pub fn rust(name: &str, text: &str) -> String {
     );
     fs::write(folder.join("Cargo.toml"), manifest).unwrap();
     let mut cargo = Command::new(env!("CARGO"));
-    cargo.args(["build", "--offline", "--quiet", "--jobs", "1"]).current_dir(&folder);
-    cargo.env("LIPVEZOR_LIB_DIR", archive_folder()).env("CARGO_TARGET_DIR", folder.join("target")).env("RUSTFLAGS", "-D warnings");
-    run(&mut cargo);
+    cargo.args(["rustc", "--offline", "--quiet", "--jobs", "1", "--", "-D", "warnings"]).current_dir(&folder);
+    run(cargo.env("LIPVEZOR_LIB_DIR", archive_folder()).env("CARGO_TARGET_DIR", folder.join("target")));
     run(Command::new(folder.join("target/debug/user")).current_dir(&folder))
 }
