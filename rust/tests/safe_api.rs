@@ -10,7 +10,7 @@ use compare::scripts::{self, Between};
 use compare::unit_forms::any_unit;
 use compare::units::Reader;
 use compare::{ours, seeded, Stats};
-use lipvezor::{Ambiguous, Block, Closed, Codeword, Inconsistent, ReceiveError, Receiver, Refusal, Unit, Work};
+use lipvezor::{Ambiguous, Block, Closed, Codeword, Inconsistent, ReceiveError, Receiver, Refusal, Symbol, Unit, Work};
 use model::answers::{Report, Taken, UnitParts, Verdict};
 use model::refusals::{refuse_if, Record};
 use model::{blocks, codes, encoder, units, Code, Fault};
@@ -244,15 +244,11 @@ fn gives_out(closed: Closed<'_>, report: Report, model: &blocks::Block, w: usize
             assert_eq!(report.verdict, Verdict::Ambiguous, "{label}");
             assert!(closed.information().is_none(), "{label}");
             let [Absent, Absent, Absent] = [ambiguous.information(), ambiguous.parity(), ambiguous.buffers()];
-            let there: Vec<usize> = (0..n).filter(|&position| marks[position] != 0).collect();
-            let given: Vec<(usize, u8, &[u8])> = ambiguous.symbols().map(|s| (s.position, ours::mark(s.mark), s.bytes)).collect();
-            assert!(given.iter().copied().eq(there.iter().map(|&position| (position, marks[position], symbol(position)))), "{label}");
+            let given = |symbol: Symbol<'_>| (symbol.position, ours::mark(symbol.mark), symbol.bytes.to_vec());
+            let due = |position: usize| (marks[position] != 0).then(|| (position, marks[position], symbol(position).to_vec()));
+            assert!(ambiguous.symbols().map(given).eq((0..n).filter_map(due)), "{label}");
+            assert!((0..n).all(|position| ambiguous.symbol(position).map(given) == due(position)), "{label}");
             assert!(ambiguous.missing().eq((0..n).filter(|&position| marks[position] == 0)), "{label}");
-            for position in 0..n {
-                let given = ambiguous.symbol(position).map(|s| (s.position, ours::mark(s.mark), s.bytes));
-                let due = (marks[position] != 0).then(|| (position, marks[position], symbol(position)));
-                assert!(given == due, "{label}, position {position}");
-            }
             assert!(BEYOND.into_iter().chain([n]).all(|position| ambiguous.symbol(position).is_none()), "{label}");
         }
         Closed::Inconsistent(inconsistent) => {
