@@ -2,10 +2,10 @@
 mod compare;
 mod model;
 
-use compare::{cases, suite, Difference, Stats};
-use lipvezor::{calls, Closed, Code, Taken, Verdict};
+use compare::{cases, ours, suite, Difference, Stats};
+use model::answers::{Report, Taken, Verdict};
 use model::refusals::Record;
-use model::{codes, encoder, Fault};
+use model::{codes, encoder, units, Code, Fault};
 use std::thread;
 use std::time::{Duration, Instant};
 
@@ -36,24 +36,30 @@ fn lists_of_calls_agree_with_the_model() {
     );
 }
 
-fn blocks_of(code: &'static model::Code, until: Instant) -> Result<Stats, Difference> {
+fn blocks_of(code: &'static Code, until: Instant) -> Result<Stats, Difference> {
     let seed = compare::seed().wrapping_mul(2).wrapping_add(code.number as u64);
     let mut stats = suite::chosen_blocks(code, Fault::None, seed)?;
     stats += suite::random_blocks(code, Fault::None, !seed, until)?;
     Ok(stats)
 }
 
+fn record(code: &Code, w: usize) -> Record {
+    Record { code: code.number, w, protocol: 2, lsc: 9 }
+}
+
 /// A sample block of the requirements: takes the heard symbols of a word, closes, and returns the marks.
-fn sample(code: Code, w: usize, word: &[u8], heard: impl Fn(usize) -> bool, expected: Closed) -> Vec<u8> {
-    let (mut symbols, mut marks) = (vec![1; code.symbol_bytes(w)], vec![1; code.n()]);
-    calls::open(code, w, 2, 9, &mut symbols, &mut marks).unwrap();
-    for position in (0..code.n()).filter(|&position| heard(position)) {
-        let mut unit = vec![0; code.unit_bytes(w)];
-        calls::write(code, w, 2, 9, position + 1, &word[position * w..][..w], &mut unit).unwrap();
-        assert_eq!(calls::take(code, w, 2, 9, &mut symbols, &mut marks, &unit), Ok(Taken::Kept));
+fn sample(code: &Code, w: usize, word: &[u8], heard: impl Fn(usize) -> bool, expected: Report) -> Vec<u8> {
+    let record = record(code, w);
+    let (mut symbols, mut marks) = (vec![1; code.n * w], vec![1; code.n]);
+    ours::open(record, &mut symbols, &mut marks).unwrap();
+    let size = units::write(code, w, 1, 1, 1, &word[..w]).len();
+    for position in (0..code.n).filter(|&position| heard(position)) {
+        let mut unit = vec![0; size];
+        ours::write(record, position + 1, &word[position * w..][..w], &mut unit).unwrap();
+        assert_eq!(ours::take(record, &mut symbols, &mut marks, &unit), Ok(Taken::Kept));
     }
-    let (mut words, mut bytes) = (vec![1; code.work_words()], vec![1; code.work_bytes(w)]);
-    assert_eq!(calls::close(code, w, 2, 9, &mut symbols, &mut marks, &mut words, &mut bytes), Ok(expected));
+    let (mut words, mut bytes) = (vec![1; code.work_words()], vec![1; code.m * w]);
+    assert_eq!(ours::close(record, &mut symbols, &mut marks, &mut words, &mut bytes), Ok(expected));
     if expected.verdict == Verdict::Whole {
         assert_eq!(symbols, word);
     }
@@ -65,8 +71,8 @@ fn c1_from_511_information_symbols_and_the_last_parity_symbol() {
     let mut information = vec![0; 512 * 2];
     compare::seeded().fill(&mut information);
     let word = encoder::codeword(&codes::C1, 2, &information);
-    let expected = Closed { verdict: Verdict::Whole, heard: 512, filled: 256, left: 0 };
-    sample(Code::C1, 2, &word, |position| (1..=511).contains(&position) || position == 767, expected);
+    let expected = Report { verdict: Verdict::Whole, heard: 512, filled: 256, left: 0 };
+    sample(&codes::C1, 2, &word, |position| (1..=511).contains(&position) || position == 767, expected);
 }
 
 #[test]
@@ -75,27 +81,27 @@ fn c1_without_the_first_samples_codeword() {
         None => position == 0,
         Some(j) => [41..=59, 72..=97, 222..=255].iter().any(|range| range.contains(&j)),
     };
-    let expected = Closed { verdict: Verdict::Ambiguous, heard: 688, filled: 0, left: 80 };
-    sample(Code::C1, 1, &[0; 768], |position| !lost(position), expected);
-    let expected = Closed { verdict: Verdict::Ambiguous, heard: 687, filled: 1, left: 80 };
-    let marks = sample(Code::C1, 1, &[0; 768], |position| !lost(position) && position != 512 + 60, expected);
+    let expected = Report { verdict: Verdict::Ambiguous, heard: 688, filled: 0, left: 80 };
+    sample(&codes::C1, 1, &[0; 768], |position| !lost(position), expected);
+    let expected = Report { verdict: Verdict::Ambiguous, heard: 687, filled: 1, left: 80 };
+    let marks = sample(&codes::C1, 1, &[0; 768], |position| !lost(position) && position != 512 + 60, expected);
     assert_eq!(marks[512 + 60], 2);
 }
 
 #[test]
 fn c2_with_nothing_heard_and_with_a_wrong_last_symbol() {
-    let expected = Closed { verdict: Verdict::Ambiguous, heard: 0, filled: 1, left: 3071 };
-    let marks = sample(Code::C2, 1, &[0; 3072], |_| false, expected);
+    let expected = Report { verdict: Verdict::Ambiguous, heard: 0, filled: 1, left: 3071 };
+    let marks = sample(&codes::C2, 1, &[0; 3072], |_| false, expected);
     assert_eq!(marks[3071], 2);
-    let expected = Closed { verdict: Verdict::Inconsistent, heard: 1, filled: 0, left: 3071 };
-    sample(Code::C2, 1, &[1; 3072], |position| position == 3071, expected);
+    let expected = Report { verdict: Verdict::Inconsistent, heard: 1, filled: 0, left: 3071 };
+    sample(&codes::C2, 1, &[1; 3072], |position| position == 3071, expected);
 }
 
 /// The codeword of each single information symbol, lost whole: what was sent there can't be told from that plus the codeword.
 #[test]
 fn each_single_information_symbols_codeword_lost() {
     for code in codes::BOTH {
-        let record = Record { code: code.number, w: 1, protocol: 2, lsc: 9 };
+        let record = record(code, 1);
         let word = encoder::codeword(code, 1, &cases::information(code, 1, &mut compare::seeded()));
         for x in 0..code.k {
             let (mut symbols, mut marks) = (word.clone(), vec![1; code.n]);
@@ -107,9 +113,9 @@ fn each_single_information_symbols_codeword_lost() {
             let (mut model_symbols, mut model_marks) = (symbols.clone(), marks.clone());
             let (mut model_words, mut model_bytes) = (words.clone(), bytes.clone());
             let model = model::calls::close(record, &mut model_symbols, &mut model_marks, &mut model_words, &mut model_bytes, Fault::None);
-            let ours = calls::close(Code(code.number), 1, 2, 9, &mut symbols, &mut marks, &mut words, &mut bytes);
-            assert_eq!(ours.map_err(|refusal| refusal.number()), model, "C{}, u_{x}", code.number);
-            assert!(matches!(ours, Ok(Closed { verdict: Verdict::Ambiguous, .. })), "C{}, u_{x}", code.number);
+            let answer = ours::close(record, &mut symbols, &mut marks, &mut words, &mut bytes);
+            assert_eq!(answer, model, "C{}, u_{x}", code.number);
+            assert!(matches!(answer, Ok(Report { verdict: Verdict::Ambiguous, .. })), "C{}, u_{x}", code.number);
             assert!(symbols == model_symbols && marks == model_marks, "C{}, u_{x}", code.number);
             assert!(words == model_words && bytes == model_bytes, "C{}, u_{x}", code.number);
         }

@@ -1,9 +1,11 @@
-//! The model by itself: its tables, its encoder against the check rows, its solver against enumeration.
+//! The model by itself: its tables, its encoder against the check rows, its solver against enumeration; and that it has nothing of the crate.
 mod compare;
 mod model;
 
 use compare::random::Random;
 use model::{codes, encoder, solver, Fault};
+use std::fs;
+use std::path::{Path, PathBuf};
 
 #[test]
 fn tables() {
@@ -107,4 +109,34 @@ fn solver_and_enumeration() {
     }
     println!("compared systems with no solution, one and more: {found:?}");
     assert!(found.iter().all(|&number| number > 100));
+}
+
+/// All files below a folder of the crate.
+fn files(name: &str) -> Vec<PathBuf> {
+    let mut found = vec![Path::new(env!("CARGO_MANIFEST_DIR")).join(name)];
+    while let Some(place) = found.iter().position(|path| path.is_dir()) {
+        let folder = found.swap_remove(place);
+        found.extend(fs::read_dir(folder).unwrap().map(|entry| entry.unwrap().path()));
+    }
+    found
+}
+
+/// What is compared with the crate uses nothing of it, not even a type.
+#[test]
+fn model_without_the_crate() {
+    let files = [files("tests/model"), files("support")].concat();
+    assert!(files.len() >= 14, "{files:?}");
+    for file in files {
+        let text = fs::read_to_string(&file).unwrap();
+        assert!(!text.contains("lipvezor"), "{} names the crate", file.display());
+    }
+}
+
+/// The crate's calls one to one are made in one place, and what they answer is translated there.
+#[test]
+fn one_place_makes_the_calls() {
+    let calls =
+        |line: &str| line.starts_with("use lipvezor::") && line.contains("calls") || line.contains(concat!("lipvezor", "::calls::"));
+    let callers: Vec<PathBuf> = files("tests").into_iter().filter(|file| fs::read_to_string(file).unwrap().lines().any(calls)).collect();
+    assert_eq!(callers, [Path::new(env!("CARGO_MANIFEST_DIR")).join("tests/compare/ours.rs")]);
 }

@@ -1,11 +1,13 @@
-//! Every name that the documents cite stands in the repository, and every must-fail edit is named in one of them. docs/SPEC-MAP.md says how names are
-//! written.
+//! Every name that the documents cite stands in the repository, every must-fail edit is named in one of them, and their links lead somewhere.
+//! docs/SPEC-MAP.md says how names are written.
 use std::collections::{BTreeMap, BTreeSet};
 use std::fs;
 use std::path::{Path, PathBuf};
 
 const MAP: &str = "docs/SPEC-MAP.md";
-const DOCUMENTS: [&str; 4] = [MAP, "README.md", "docs/DECISIONS.md", "docs/PICS.md"];
+const DOCUMENTS: [&str; 6] = [MAP, "README.md", "docs/PROOFS.md", "DEVELOPING.md", "docs/DECISIONS.md", "docs/PICS.md"];
+/// Those that name the edits.
+const EDITS_IN: [&str; 3] = [MAP, "README.md", "docs/PROOFS.md"];
 
 fn root() -> PathBuf {
     Path::new(env!("CARGO_MANIFEST_DIR")).join("..")
@@ -27,6 +29,28 @@ fn stem(path: &Path) -> String {
 
 fn is_word(name: &str) -> bool {
     !name.is_empty() && name.chars().all(|c| c.is_ascii_alphanumeric() || c == '_')
+}
+
+// ---- documents
+
+/// A line of a document, and its number.
+struct Line<'a> {
+    number: usize,
+    text: &'a str,
+    /// In a block of code, indented by four or between fences.
+    code: bool,
+}
+
+fn lines(document: &str) -> Vec<Line<'_>> {
+    let mut fenced = false;
+    let mut lines = Vec::new();
+    for (index, text) in document.lines().enumerate() {
+        let fence = text.trim_start().starts_with("```");
+        lines.push(Line { number: index + 1, text, code: fenced || fence || text.starts_with("    ") });
+        fenced ^= fence;
+    }
+    assert!(!fenced, "a fenced block that doesn't end");
+    lines
 }
 
 // ---- code spans
@@ -79,7 +103,7 @@ fn asked_by_column(heading: &str) -> Option<Asked> {
 fn spans(document: &str) -> Vec<Span<'_>> {
     let mut spans = Vec::new();
     let mut headings: Vec<&str> = Vec::new();
-    for (index, line) in document.lines().enumerate().filter(|(_, line)| !line.starts_with("    ")) {
+    for Line { number, text: line, .. } in lines(document).into_iter().filter(|line| !line.code) {
         let cells: Vec<&str> = if line.starts_with('|') { line.trim_matches('|').split('|').collect() } else { vec![line] };
         if !line.starts_with('|') {
             headings.clear();
@@ -89,11 +113,11 @@ fn spans(document: &str) -> Vec<Span<'_>> {
         for (column, cell) in cells.into_iter().enumerate() {
             let by_column = headings.get(column).and_then(|heading| asked_by_column(heading));
             let parts: Vec<&str> = cell.split('`').collect();
-            assert!(parts.len() % 2 == 1, "line {}: a code span that doesn't end: {cell}", index + 1);
+            assert!(parts.len() % 2 == 1, "line {number}: a code span that doesn't end: {cell}");
             let mut last = Asked::Anything;
             for pair in parts.chunks_exact(2) {
                 last = by_column.filter(|_| pair[1].contains('/')).unwrap_or(asked(pair[0], last));
-                spans.push(Span { line: index + 1, text: pair[1], asked: last });
+                spans.push(Span { line: number, text: pair[1], asked: last });
             }
         }
     }
@@ -162,7 +186,8 @@ fn declares(text: &str, name: &str, inside: bool) -> bool {
     text.lines().map(str::trim_start).any(|line| {
         let line = line.strip_prefix("pub ").unwrap_or(line);
         let line = line.strip_prefix("extern \"C\" ").unwrap_or(line);
-        let item = ["fn ", "struct ", "enum ", "const ", "static ", "type ", "impl "].iter().find_map(|word| line.strip_prefix(word));
+        let words = ["fn ", "const fn ", "struct ", "enum ", "trait ", "const ", "static ", "type ", "impl "];
+        let item = words.iter().find_map(|word| line.strip_prefix(word));
         item.is_some_and(|item| begins(item, name)) || inside && begins(line, name)
     })
 }
@@ -180,16 +205,14 @@ fn is_item(names: &[&str]) -> bool {
     ["lib.rt", "main.rt"].iter().filter_map(|file| text(&source.join(file))).any(|text| declares_all(&text, &names[1..]))
 }
 
-/// The same in the Rust crate.
+/// The same in the Rust crate, whose name may be left out.
 fn is_rust_item(names: &[&str]) -> bool {
     let source = root().join("rust/src");
-    if names[0] != "lipvezor" {
-        return false;
+    let names = names.strip_prefix(&["lipvezor"]).unwrap_or(names);
+    if let Some(text) = text(&source.join(format!("{}.rs", names[0]))) {
+        return declares_all(&text, &names[1..]);
     }
-    if let Some(text) = text(&source.join(format!("{}.rs", names[1]))) {
-        return declares_all(&text, &names[2..]);
-    }
-    folder(&source).iter().filter_map(|file| text(file)).any(|text| declares_all(&text, &names[1..]))
+    folder(&source).iter().filter_map(|file| text(file)).any(|text| declares_all(&text, names))
 }
 
 /// The files of a test: file.rs, or those of the folder.
@@ -245,8 +268,8 @@ fn is_folder(name: &str) -> bool {
 /// What a code span names; an error if it has the form of a name and names nothing.
 fn named(span: &str) -> Result<Kind, &'static str> {
     let found = |kind, is: bool, why| if is { Ok(kind) } else { Err(why) };
-    let built = span.starts_with("target/") || span.starts_with('/');
-    if built || span.contains(|c: char| c.is_whitespace() || "=…(".contains(c)) {
+    let elsewhere = ["target/", "/", "$", "std::", "core::", "alloc::"].iter().any(|start| span.starts_with(start));
+    if elsewhere || span.contains(|c: char| c.is_whitespace() || "=…(".contains(c)) {
         return Ok(Kind::Words);
     }
     if span.contains("::") {
@@ -312,28 +335,30 @@ fn names_stand_in_the_repository() {
 
 #[test]
 fn edits_are_named() {
-    let documents = DOCUMENTS.map(document);
+    let documents = EDITS_IN.map(document);
     let cited: BTreeSet<&str> = documents.iter().flat_map(|document| spans(document)).map(|span| span.text).collect();
     let edits = edits();
     assert!(edits.len() >= 40, "only {} edits were found", edits.len());
     let unnamed: Vec<&String> = edits.iter().filter(|edit| !cited.contains(edit.as_str())).collect();
-    assert!(unnamed.is_empty(), "edits that no document names: {unnamed:?}");
+    assert!(unnamed.is_empty(), "edits that none of {EDITS_IN:?} names: {unnamed:?}");
     println!("{} edits are named", edits.len());
 }
 
-/// README's table of crates has each crate and no other.
+/// One document has the table of crates, with each crate and no other.
 #[test]
 fn crates_are_described() {
-    let readme = document("README.md");
-    let rows =
-        readme.lines().skip_while(|line| *line != "| crate | what it has | builds on |").skip(2).take_while(|line| line.starts_with('|'));
+    const HEADING: &str = "| crate | what it has | builds on |";
+    let documents = DOCUMENTS.map(document);
+    let tables: Vec<&String> = documents.iter().filter(|document| document.lines().any(|line| line == HEADING)).collect();
+    let [table] = tables[..] else { panic!("{} of {DOCUMENTS:?} have the table of crates", tables.len()) };
+    let rows = table.lines().skip_while(|line| *line != HEADING).skip(2).take_while(|line| line.starts_with('|'));
     let described: BTreeSet<String> =
         rows.flat_map(|row| row.split('|').nth(1).unwrap().split('`').skip(1).step_by(2)).map(str::to_owned).collect();
     let crates: BTreeSet<String> = folder(&root().join("crates")).iter().map(|path| stem(path)).collect();
     assert_eq!(described, crates);
 }
 
-/// The lines of README's blocks of code that are definitions stand so in specs.
+/// The lines of the documents' blocks of code that are definitions stand so in specs.
 #[test]
 fn quoted_definitions_stand_in_specs() {
     let specs: Vec<PathBuf> = folder(&root().join("crates")).iter().flat_map(|path| folder(&path.join("specs"))).collect();
@@ -342,11 +367,98 @@ fn quoted_definitions_stand_in_specs() {
         .filter_map(|file| text(file))
         .flat_map(|text| text.lines().map(|line| line.trim().to_owned()).collect::<Vec<_>>())
         .collect();
-    let readme = document("README.md");
-    let quoted: Vec<&str> = readme.lines().filter(|line| line.starts_with("    ") && line.contains(['≡', '→'])).map(str::trim).collect();
+    let documents = DOCUMENTS.map(document);
+    let quoted: Vec<&str> = documents
+        .iter()
+        .flat_map(|document| self::lines(document))
+        .filter(|line| line.code && line.text.contains(['≡', '→']))
+        .map(|line| line.text.trim())
+        .collect();
     assert!(quoted.len() >= 5, "only {} lines were found", quoted.len());
     let wrong: Vec<&&str> = quoted.iter().filter(|line| !lines.contains(**line)).collect();
-    assert!(wrong.is_empty(), "README quotes lines that are not in specs: {wrong:#?}");
+    assert!(wrong.is_empty(), "the documents quote lines that are not in specs: {wrong:#?}");
+}
+
+// ---- links
+
+/// The documents whose links are followed: those at the top, in docs/ and in rust/.
+fn linking() -> Vec<PathBuf> {
+    let files = ["", "docs", "rust"].iter().flat_map(|name| folder(&root().join(name)));
+    files.filter(|file| file.extension().is_some_and(|extension| extension == "md")).collect()
+}
+
+/// The targets of a document's links and pictures, outside blocks of code and code spans.
+fn links(document: &str) -> Vec<(usize, String)> {
+    let mut links = Vec::new();
+    for Line { number, text, .. } in lines(document).into_iter().filter(|line| !line.code) {
+        let prose: String = text.split('`').step_by(2).collect::<Vec<_>>().join("``");
+        for (start, end) in [("](", ')'), ("src=\"", '"'), ("href=\"", '"')] {
+            let targets = prose.split(start).skip(1).map(|rest| rest.split(end).next().unwrap().to_owned());
+            links.extend(targets.map(|target| (number, target)));
+        }
+    }
+    links
+}
+
+/// The anchors of a document's headings.
+fn anchors(document: &str) -> BTreeSet<String> {
+    let headings = lines(document).into_iter().filter(|line| !line.code).filter_map(|line| line.text.strip_prefix('#'));
+    let kept = |c: &char| c.is_alphanumeric() || " -_".contains(*c);
+    headings
+        .map(|text| text.trim_start_matches('#').trim().to_lowercase().chars().filter(kept).collect::<String>().replace(' ', "-"))
+        .collect()
+}
+
+/// Why a link of a document in a folder leads nowhere, if it does; links to other hosts are not followed.
+fn broken(folder: &Path, own: &str, target: &str) -> Option<&'static str> {
+    if target.starts_with("https://") || target.starts_with("http://") {
+        return None;
+    }
+    let (path, anchor) = target.split_once('#').unwrap_or((target, ""));
+    let file = folder.join(path);
+    if !file.exists() {
+        return Some("no such file");
+    }
+    let there = if path.is_empty() { own.to_owned() } else { text(&file).unwrap_or_default() };
+    (!anchor.is_empty() && !anchors(&there).contains(anchor)).then_some("no such heading")
+}
+
+#[test]
+fn links_lead_somewhere() {
+    let mut wrong = Vec::new();
+    let mut followed = 0;
+    for file in linking() {
+        let own = text(&file).unwrap();
+        for (line, target) in links(&own) {
+            followed += 1;
+            wrong.extend(broken(file.parent().unwrap(), &own, &target).map(|why| format!("{}:{line}: {target}: {why}", file.display())));
+        }
+    }
+    println!("{followed} links lead somewhere");
+    assert!(wrong.is_empty(), "links that lead nowhere:\n{}", wrong.join("\n"));
+    // What a reader of the README goes on to.
+    let readme = document("README.md");
+    let targets: BTreeSet<String> = links(&readme).into_iter().map(|(_, target)| target.split('#').next().unwrap().to_owned()).collect();
+    for next in ["docs/PROOFS.md", "DEVELOPING.md"] {
+        assert!(targets.contains(next), "README.md has no link to {next}: {targets:?}");
+    }
+}
+
+#[test]
+fn broken_links_are_found() {
+    let own = "# A heading, `code`\n[a](docs/NOTHING.md) and ![b](docs/nothing.svg)\n```text\n[c](d)\n```\n<img src=\"e.svg\"> `[f](g)`\n";
+    let found: Vec<(usize, String)> = links(own);
+    assert_eq!(found, [(2, "docs/NOTHING.md".to_owned()), (2, "docs/nothing.svg".to_owned()), (6, "e.svg".to_owned())]);
+    for (target, why) in [
+        ("docs/NOTHING.md", Some("no such file")),
+        ("docs/SPEC-MAP.md", None),
+        ("docs/SPEC-MAP.md#nothing", Some("no such heading")),
+        ("#a-heading-code", None),
+        ("#another", Some("no such heading")),
+        ("https://example.org/nothing", None),
+    ] {
+        assert_eq!(broken(&root(), own, target), why, "{target}");
+    }
 }
 
 /// What names nothing is not passed over.
@@ -361,7 +473,10 @@ fn wrong_names_are_found() {
         ("`ccsds::reader::read_nothing`", "no such function, type, constant or test"),
         ("`nothing::reader::read_unit`", "no such function, type, constant or test"),
         ("`refusals::nothing`", "no such function, type, constant or test"),
+        ("`lipvezor::Block::nothing`", "no such function, type, constant or test"),
+        ("`Nothing::open`", "no such function, type, constant or test"),
         ("`docs/NOTHING.md`", "no such file"),
+        ("```c\n`within/a_block`\n```\n`docs/NOTHING.md`", "no such file"),
         ("edit `close_always_ambiguous`", "not an edit"),
         ("edits `block/close_always_ambiguous`, `algebra/first_verdict`", "an edit of a definition, and not said to be one"),
         ("edits `algebra/first_verdict`", "an edit of a definition, and not said to be one"),

@@ -2,8 +2,9 @@
 mod compare;
 mod model;
 
-use compare::{all_strings, unit_forms, units, Difference, Stats};
-use lipvezor::{calls, Code, Parameters, Refusal};
+use compare::{all_strings, ours, unit_forms, units, Difference, Stats};
+use lipvezor::Code;
+use model::answers::Parameters;
 use model::{byte_reader, codes, Fault};
 
 fn report(name: &str, result: Result<Stats, Difference>) -> Stats {
@@ -133,7 +134,7 @@ fn long_values() {
             let mut unit = vec![0; start.len() + length];
             unit[..start.len()].copy_from_slice(&start);
             for (unit, symbol) in [(&unit[..], Ok(unit.len())), (&unit[..unit.len() - 1], Err(6))] {
-                let answers = [calls::read(unit).map_err(Refusal::number), model::units::read(unit, Fault::None), byte_reader::read(unit)];
+                let answers = [ours::read(unit), model::units::read(unit, Fault::None), byte_reader::read(unit)];
                 assert_eq!(answers.map(|answer| answer.map(|parts| parts.symbol)), [symbol; 3], "length {length}");
             }
         }
@@ -284,7 +285,7 @@ fn sample_sdnvs() {
     let read_seed = |sdnv: &[u8]| {
         let mut unit = vec![0x10, 1, 0, 1, 0, 1, 1, 3 + sdnv.len() as u8, 1, 2, 3];
         unit.extend(sdnv);
-        calls::read(&unit).map(|parts| parts.coding)
+        ours::read(&unit).map(|parts| parts.coding)
     };
     let seed = |seed| Ok(Some(Parameters { w: 1, k: 2, n: 3, seed }));
     assert_eq!(read_seed(&[0x7F]), seed(127));
@@ -292,15 +293,15 @@ fn sample_sdnvs() {
     assert_eq!(read_seed(&[0x86, 0x00]), seed(768));
     assert_eq!(read_seed(&[0x8F, 0xFF, 0xFF, 0xFF, 0x7F]), seed(4_294_967_295));
     assert_eq!(read_seed(&[0x81, 0x80, 0x00]), seed(16_384));
-    assert_eq!(read_seed(&[0x90, 0x80, 0x80, 0x80, 0x00]), Err(Refusal::Number));
-    assert_eq!(read_seed(&[0x90, 0x80, 0x80, 0x80]), Err(Refusal::ExtensionKind));
-    assert_eq!(read_seed(&[0x80, 0x01]), Err(Refusal::Number));
+    assert_eq!(read_seed(&[0x90, 0x80, 0x80, 0x80, 0x00]), Err(19));
+    assert_eq!(read_seed(&[0x90, 0x80, 0x80, 0x80]), Err(20));
+    assert_eq!(read_seed(&[0x80, 0x01]), Err(19));
 }
 
 #[test]
 fn sizes() {
     for code in codes::BOTH {
-        let ours = Code(code.number);
+        let ours = Code::from_number(code.number);
         assert_eq!([ours.n(), ours.k(), ours.m(), ours.work_words()], [code.n, code.k, code.m, code.work_words()]);
         for w in 1..=1024 {
             let blocks = [ours.information_bytes(w), ours.parity_bytes(w), ours.symbol_bytes(w), ours.work_bytes(w)];
@@ -308,7 +309,7 @@ fn sizes() {
             assert_eq!(ours.unit_bytes(w), model::units::write(code, w, 1, 1, 1, &vec![0; w]).len());
         }
     }
-    for none in [0, 3, 257, usize::MAX].map(Code) {
+    for none in [0, 3, 257, usize::MAX].map(Code::from_number) {
         assert_eq!([none.n(), none.k(), none.m(), none.work_words()], [0; 4]);
         let bytes = [none.information_bytes(1), none.parity_bytes(1), none.symbol_bytes(1), none.work_bytes(1), none.unit_bytes(1)];
         assert_eq!(bytes, [0; 5]);

@@ -1,10 +1,9 @@
 //! Lists of takes and closes, with everything compared after each call.
 use super::random::Random;
-use super::{same, same_buffer, Difference, Stats};
+use super::{ours, same, same_buffer, Difference, Stats};
 use crate::model::blocks::Block;
 use crate::model::refusals::Record;
-use crate::model::Fault;
-use lipvezor::{calls, Code, Refusal};
+use crate::model::{Code, Fault};
 
 pub enum Call {
     Take(Vec<u8>),
@@ -37,11 +36,10 @@ struct Pair<'a> {
 
 impl Pair<'_> {
     fn open(list: &List, fault: Fault) -> Result<Pair<'_>, Difference> {
-        let Record { code, w, protocol, lsc } = list.record;
-        let code = Code(code);
-        let mut symbols = vec![0xA5; code.symbol_bytes(w)];
-        let mut marks = vec![0x5A; code.n()];
-        let answer = calls::open(code, w, protocol, lsc, &mut symbols, &mut marks);
+        let code = Code::of_number(list.record.code).expect("lists are for records that open takes");
+        let mut symbols = vec![0xA5; code.n * list.record.w];
+        let mut marks = vec![0x5A; code.n];
+        let answer = ours::open(list.record, &mut symbols, &mut marks);
         same(answer, Ok(()), || format!("{}: open", list.label))?;
         let model = Block::open(list.record, fault).expect("lists are for records that open takes");
         let pair = Pair { list, model, symbols, marks, stats: Stats { blocks: 1, calls: 1, ..Stats::default() } };
@@ -61,8 +59,7 @@ impl Pair<'_> {
     }
 
     fn take(&mut self, index: usize, unit: &[u8]) -> Result<(), Difference> {
-        let Record { code, w, protocol, lsc } = self.list.record;
-        let answer = calls::take(Code(code), w, protocol, lsc, &mut self.symbols, &mut self.marks, unit).map_err(Refusal::number);
+        let answer = ours::take(self.list.record, &mut self.symbols, &mut self.marks, unit);
         let name = || format!("call {index}, take of {unit:02X?}");
         same(answer, self.model.take(unit), || format!("{}: {}", self.list.label, name()))?;
         self.same_buffers(name)?;
@@ -71,11 +68,9 @@ impl Pair<'_> {
     }
 
     fn close(&mut self, index: usize, words: usize, bytes: usize, dirt: u64) -> Result<(), Difference> {
-        let Record { code, w, protocol, lsc } = self.list.record;
         let (mut words, mut bytes) = dirty(words, bytes, dirt);
         let (mut words_due, mut bytes_due) = (words.clone(), bytes.clone());
-        let answer =
-            calls::close(Code(code), w, protocol, lsc, &mut self.symbols, &mut self.marks, &mut words, &mut bytes).map_err(Refusal::number);
+        let answer = ours::close(self.list.record, &mut self.symbols, &mut self.marks, &mut words, &mut bytes);
         let name = || format!("call {index}, close with {} words and {} bytes", words.len(), bytes.len());
         same(answer, self.model.close(words.len(), bytes.len()), || format!("{}: {}", self.list.label, name()))?;
         self.same_buffers(name)?;

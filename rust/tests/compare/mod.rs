@@ -6,6 +6,7 @@ pub mod cases;
 pub mod drafts;
 pub mod encode;
 pub mod lists;
+pub mod ours;
 #[path = "../../support/random.rs"]
 pub mod random;
 pub mod scripts;
@@ -13,7 +14,7 @@ pub mod suite;
 pub mod unit_forms;
 pub mod units;
 
-use lipvezor::{Closed, Refusal, Taken, UnitParts, Verdict};
+use crate::model::answers::{Report, Taken, UnitParts, Verdict};
 use random::Random;
 use std::collections::BTreeMap;
 use std::fmt;
@@ -51,7 +52,7 @@ pub fn same_buffer<T: PartialEq + fmt::Debug>(archive: &[T], model: &[T], what: 
 }
 
 /// The largest number of a refusal.
-const LARGEST: usize = Refusal::ExtensionKind as usize;
+const LARGEST: usize = 20;
 
 /// What was compared.
 #[derive(Clone, Debug, Default)]
@@ -95,8 +96,8 @@ impl Stats {
         }
     }
 
-    pub fn count_closed(&mut self, answer: Result<Closed, u8>) {
-        match answer.map(|closed| closed.verdict) {
+    pub fn count_closed(&mut self, answer: Result<Report, u8>) {
+        match answer.map(|report| report.verdict) {
             Ok(Verdict::Whole) => self.whole += 1,
             Ok(Verdict::Ambiguous) => self.ambiguous += 1,
             Ok(Verdict::Inconsistent) => self.inconsistent += 1,

@@ -3,10 +3,10 @@ use super::all_strings::EDGES;
 use super::drafts::{padded_sdnv, Draft, Extension};
 use super::random::Random;
 use super::units::Reader;
-use super::{same, Difference, Stats};
+use super::{ours, same, Difference, Stats};
+use crate::model::answers::UnitParts;
 use crate::model::byte_reader::{decide, Refused};
 use crate::model::{codes, units, Code, Fault};
-use lipvezor::{calls, Refusal, UnitParts};
 
 /// Each byte of a few units with each value; each unit cut off at each length, and longer.
 pub fn altered(fault: Fault, random: &mut Random) -> Result<Stats, Difference> {
@@ -190,17 +190,17 @@ fn decided(unit: &[u8], random: &mut Random) -> Result<Result<UnitParts, u8>, Di
     let mut other = unit.to_vec();
     for _ in 0..4 {
         fill(&mut other[needed..], random);
-        same(calls::read(&other).map_err(Refusal::number), answer, || format!("read of {other:02X?}, {needed} bytes as in {unit:02X?}"))?;
+        same(ours::read(&other), answer, || format!("read of {other:02X?}, {needed} bytes as in {unit:02X?}"))?;
     }
     for cut in 0..needed {
         let early = if cut < 6 { 5 } else { 6 };
-        same(calls::read(&unit[..cut]).map_err(Refusal::number), Err(early), || format!("read of {cut} bytes of {unit:02X?}"))?;
+        same(ours::read(&unit[..cut]), Err(early), || format!("read of {cut} bytes of {unit:02X?}"))?;
     }
     Ok(answer)
 }
 
 /// A list of extensions, or noise.
-fn any_unit(reader: &Reader, code: &Code, w: usize, random: &mut Random) -> Vec<u8> {
+pub fn any_unit(reader: &Reader, code: &Code, w: usize, random: &mut Random) -> Vec<u8> {
     if random.chance(0.2) {
         return noise(random);
     }

@@ -2,14 +2,14 @@
 use super::drafts::{Draft, Extension};
 use super::random::Random;
 use super::suite::WIDTHS;
-use super::{same, same_buffer, Difference, Stats};
+use super::{ours, same, same_buffer, Difference, Stats};
+use crate::model::answers::{Parameters, UnitParts};
 use crate::model::refusals::Record;
 use crate::model::{byte_reader, calls as model, units, Code, Fault};
-use lipvezor::{calls, Parameters, Refusal, UnitParts};
 
 /// Reads a unit by itself, in the archive and with both readers of the model. Coding parameters have one form.
 pub fn read(unit: &[u8], fault: Fault) -> Result<Result<UnitParts, u8>, Difference> {
-    let answer = calls::read(unit).map_err(Refusal::number);
+    let answer = ours::read(unit);
     same(answer, units::read(unit, fault), || format!("read of {unit:02X?}"))?;
     same(answer, byte_reader::read(unit), || format!("read byte by byte of {unit:02X?}"))?;
     if let Ok(UnitParts { count: 1, symbol, coding: Some(Parameters { w, k, n, seed }), .. }) = answer {
@@ -53,8 +53,7 @@ impl Reader {
 
     pub fn compare(&mut self, unit: &[u8]) -> Result<(), Difference> {
         let readable = read(unit, self.fault)?.is_ok();
-        let Record { code, w, protocol, lsc } = self.record;
-        let taken = calls::take(lipvezor::Code(code), w, protocol, lsc, &mut self.symbols, &mut self.marks, unit).map_err(Refusal::number);
+        let taken = ours::take(self.record, &mut self.symbols, &mut self.marks, unit);
         let expected = model::take(self.record, &mut self.expected_symbols, &mut self.expected_marks, unit, self.fault);
         let name = || format!("take of {unit:02X?}");
         same(taken, expected, name)?;
@@ -80,7 +79,7 @@ pub fn written(code: &'static Code, fault: Fault, random: &mut Random) -> Result
             reader.compare(&unit)?;
             reader.compare(&own)?;
             if lwc > 0 && lwc <= code.n {
-                let parts = calls::read(&unit).map_err(|refusal| Difference(format!("a written unit: {refusal}")))?;
+                let parts = ours::read(&unit).map_err(|number| Difference(format!("a written unit: {number}")))?;
                 let said = [parts.protocol, parts.lsc, parts.lwc, parts.count, unit.len() - parts.symbol];
                 same(said, [record.protocol, record.lsc, lwc, 1, w], || format!("read of written {unit:02X?}"))?;
             }
@@ -107,18 +106,17 @@ const GUARD: usize = 64;
 /// Writes a random symbol twice, into the middle of bytes A5 and of bytes 5A; those on either side stay. Over LWCs, and over widths, the
 /// outputs start at all alignments of 16.
 fn write(record: Record, lwc: usize, fault: Fault, random: &mut Random) -> Result<Vec<u8>, Difference> {
-    let Record { code, w, protocol, lsc } = record;
+    let w = record.w;
     let bytes = unlike_neighbours(w + 15, random);
     let symbol = &bytes[random.below(16)..][..w];
-    let size = units::write(Code::of_number(code).unwrap(), w, 1, 1, 1, symbol).len();
+    let size = units::write(Code::of_number(record.code).unwrap(), w, 1, 1, 1, symbol).len();
     let mut unit = Vec::new();
     for (filling, alignment) in [(0xA5, lwc + w), (0x5A, (lwc + w) / 16)] {
         let mut buffer = vec![filling; GUARD + 15 + 15 + size + GUARD];
         let mut expected = buffer.clone();
         let start = GUARD + buffer[GUARD..].as_ptr().align_offset(16) + alignment % 16;
         let output = start..start + size;
-        let answer =
-            calls::write(lipvezor::Code(code), w, protocol, lsc, lwc, symbol, &mut buffer[output.clone()]).map_err(Refusal::number);
+        let answer = ours::write(record, lwc, symbol, &mut buffer[output.clone()]);
         let name = || format!("write of {record:?}, LWC {lwc}, to bytes {output:?} of a buffer");
         same(answer, model::write(record, lwc, symbol, &mut expected[output.clone()], fault), name)?;
         same_buffer(&buffer, &expected, name)?;
@@ -145,15 +143,17 @@ pub fn shown(code: &Code, w: usize, fault: Fault, random: &mut Random) -> Result
     random.fill(&mut parity);
     let mut stats = Stats::default();
     for lwc in (0..=code.n + 2).chain([65535, 65536, 65537, usize::MAX]) {
-        let mut out = vec![0xEE; w];
-        let mut expected = out.clone();
-        let copied = calls::show(lipvezor::Code(code.number), w, &information, &parity, lwc, &mut out);
-        let symbol = model::show(code.number, w, &information, &parity, lwc, fault);
-        expected[..symbol.len()].copy_from_slice(symbol);
-        let name = || format!("show of C{}, W {w}, LWC {lwc}", code.number);
-        same(copied, symbol.len(), name)?;
-        same_buffer(&out, &expected, name)?;
-        stats.shown += 1;
+        // Protocol ID and LSC may be any.
+        let record = Record { code: code.number, w, protocol: random.below(16), lsc: random.below(70_000) };
+        for length in [w, w - 1, w + 1] {
+            let mut out = vec![0xEE; length];
+            let mut expected = out.clone();
+            let answer = ours::show(record, &information, &parity, lwc, &mut out);
+            let name = || format!("show of C{}, W {w}, LWC {lwc}, to {length} bytes", code.number);
+            same(answer, model::show(record, &information, &parity, lwc, &mut expected, fault), name)?;
+            same_buffer(&out, &expected, name)?;
+            stats.shown += 1;
+        }
     }
     Ok(stats)
 }

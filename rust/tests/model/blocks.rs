@@ -1,7 +1,7 @@
 //! A block as a list of calls: all follows from the units admitted so far and the last verdict.
+use super::answers::{Report, Taken};
 use super::refusals::{refuse_if, Record};
 use super::{closing, Code, Fault};
-use lipvezor::{Closed, Taken};
 
 pub struct Block {
     record: Record,
@@ -34,13 +34,13 @@ impl Block {
     }
 
     /// With work buffers of so many words and bytes.
-    pub fn close(&mut self, words: usize, bytes: usize) -> Result<Closed, u8> {
+    pub fn close(&mut self, words: usize, bytes: usize) -> Result<Report, u8> {
         refuse_if(words != self.code.work_words() || bytes != self.code.m * self.record.w, 4)?;
         let heard: Vec<Option<&[u8]>> = self.kept.iter().map(Option::as_deref).collect();
         let outcome = closing::close(self.code, self.record.w, &heard, self.fault);
         self.symbols = outcome.symbols;
         self.marks = outcome.marks;
-        Ok(outcome.closed)
+        Ok(outcome.report)
     }
 
     /// All symbol bytes after the calls so far.

@@ -1,7 +1,7 @@
 //! Units read a second way: handed over byte by byte, none looked at twice or ahead. Only the unit's length is told at the start, since a
 //! length that reaches past the unit is refused at its own last byte.
+use super::answers::{Parameters, UnitParts};
 use super::refusals::refuse_if;
-use lipvezor::{Parameters, UnitParts};
 
 /// What the next byte is.
 #[derive(Clone, Copy)]

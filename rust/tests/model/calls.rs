@@ -1,26 +1,28 @@
 //! Each call by itself, on buffers of any length and content. A refused one changes nothing.
-use super::refusals::{code_and_width, refuse_if, Record};
+use super::answers::{Report, Taken};
+use super::refusals::{refuse_if, Record};
 use super::{closing, encoder, units, Fault};
-use lipvezor::{Closed, Taken};
 
-pub fn encode(code: usize, w: usize, information: &[u8], parity: &mut [u8], fault: Fault) -> Result<(), u8> {
-    let code = code_and_width(code, w)?;
+/// Of the record only code and width count.
+pub fn encode(record: Record, information: &[u8], parity: &mut [u8], fault: Fault) -> Result<(), u8> {
+    let code = record.code_and_width()?;
+    let w = record.w;
     refuse_if(information.len() != code.k * w || parity.len() != code.m * w, 4)?;
     parity.copy_from_slice(&encoder::parity(code, w, information, fault));
     Ok(())
 }
 
-/// The symbol, or nothing.
-pub fn show<'a>(code: usize, w: usize, information: &'a [u8], parity: &'a [u8], lwc: usize, fault: Fault) -> &'a [u8] {
-    let Ok(code) = code_and_width(code, w) else { return &[] };
-    if information.len() != code.k * w || parity.len() != code.m * w {
-        return &[];
-    }
-    let Some(position) = code.position(lwc, fault) else { return &[] };
-    match position.checked_sub(code.k) {
+/// Of the record only code and width count.
+pub fn show(record: Record, information: &[u8], parity: &[u8], lwc: usize, out: &mut [u8], fault: Fault) -> Result<(), u8> {
+    let code = record.code_and_width()?;
+    let w = record.w;
+    refuse_if(information.len() != code.k * w || parity.len() != code.m * w || out.len() != w, 4)?;
+    let position = code.position(lwc, fault).ok_or(9)?;
+    out.copy_from_slice(match position.checked_sub(code.k) {
         None => &information[position * w..][..w],
         Some(j) => &parity[j * w..][..w],
-    }
+    });
+    Ok(())
 }
 
 pub fn write(record: Record, lwc: usize, symbol: &[u8], out: &mut [u8], fault: Fault) -> Result<(), u8> {
@@ -70,7 +72,7 @@ pub fn close(
     words: &mut [u64],
     bytes: &mut [u8],
     fault: Fault,
-) -> Result<Closed, u8> {
+) -> Result<Report, u8> {
     let code = record.with_work(symbols.len(), marks.len(), words.len(), bytes.len())?;
     refuse_if(marks.iter().any(|&mark| mark > 2), 11)?;
     let heard: Vec<Option<&[u8]>> =
@@ -80,5 +82,5 @@ pub fn close(
     marks.copy_from_slice(&outcome.marks);
     words.fill(0);
     bytes.fill(0);
-    Ok(outcome.closed)
+    Ok(outcome.report)
 }

@@ -1,9 +1,9 @@
 //! The verdict: how many codewords agree with the heard symbols, and on which missing symbols they all agree.
+use super::answers::{Report, Verdict};
 use super::{solver, Code, Fault};
-use lipvezor::{Closed, Verdict};
 
 pub struct Outcome {
-    pub closed: Closed,
+    pub report: Report,
     pub symbols: Vec<u8>,
     pub marks: Vec<u8>,
 }
@@ -34,8 +34,8 @@ pub fn close(code: &Code, w: usize, heard: &[Option<&[u8]>], fault: Fault) -> Ou
         }
     }
     let filled = values.iter().flatten().count();
-    let closed = Closed { verdict, heard: code.n - missing.len(), filled, left: missing.len() - filled };
-    Outcome { closed, symbols, marks }
+    let report = Report { verdict, heard: code.n - missing.len(), filled, left: missing.len() - filled };
+    Outcome { report, symbols, marks }
 }
 
 fn agreeing(code: &Code, w: usize, heard: &[Option<&[u8]>], fault: Fault) -> (Verdict, Vec<Option<Vec<u8>>>) {

@@ -1,8 +1,8 @@
 //! What the program `gather` prints.
+use super::answers::{Taken, Verdict};
 use super::blocks::Block;
 use super::refusals::Record;
 use super::{codes, Fault};
-use lipvezor::{Taken, Verdict};
 use std::fmt::Write;
 
 const WIDEST: usize = 16;
@@ -32,13 +32,13 @@ fn run(input: &[u8]) -> Option<String> {
         .unwrap();
         rest = after;
     }
-    let closed = block.close(codes::C1.work_words(), codes::C1.m * record.w).unwrap();
-    let verdict = match closed.verdict {
+    let report = block.close(codes::C1.work_words(), codes::C1.m * record.w).unwrap();
+    let verdict = match report.verdict {
         Verdict::Whole => "whole",
         Verdict::Ambiguous => "ambiguous",
         Verdict::Inconsistent => "inconsistent",
     };
-    writeln!(lines, "{verdict} heard {}", closed.heard).unwrap();
+    writeln!(lines, "{verdict} heard {}", report.heard).unwrap();
     Some(lines)
 }
 

@@ -1,6 +1,7 @@
 //! A second erasure layer, written from the requirements and the standard alone, for the archive to be compared with.
 #![allow(dead_code)]
 
+pub mod answers;
 pub mod blocks;
 pub mod byte_reader;
 pub mod calls;

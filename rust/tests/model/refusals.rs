@@ -1,7 +1,7 @@
 //! Which condition applies first, for any numbers and lengths.
 use super::{units, Code, Fault};
 
-/// The record that open returns and the other calls are handed.
+/// A block's numbers, which every call is handed.
 #[derive(Clone, Copy, Debug)]
 pub struct Record {
     pub code: usize,
@@ -24,17 +24,17 @@ pub fn refuse_if(condition: bool, number: u8) -> Result<(), u8> {
     }
 }
 
-/// 1 and 2.
-pub fn code_and_width(code: usize, w: usize) -> Result<&'static Code, u8> {
-    let code = Code::of_number(code).ok_or(1)?;
-    refuse_if(w == 0 || w > 1024, 2)?;
-    Ok(code)
-}
-
 impl Record {
+    /// 1 and 2.
+    pub fn code_and_width(&self) -> Result<&'static Code, u8> {
+        let code = Code::of_number(self.code).ok_or(1)?;
+        refuse_if(self.w == 0 || self.w > 1024, 2)?;
+        Ok(code)
+    }
+
     /// 1 to 3.
     pub fn checked(&self) -> Result<&'static Code, u8> {
-        let code = code_and_width(self.code, self.w)?;
+        let code = self.code_and_width()?;
         refuse_if(self.lsc == 0 || self.lsc >= 65535 || self.protocol > 7, 3)?;
         Ok(code)
     }

@@ -1,7 +1,7 @@
 //! Units, read with a cursor and written by appending.
+use super::answers::{Parameters, UnitParts};
 use super::refusals::refuse_if;
 use super::{Code, Fault};
-use lipvezor::{Parameters, UnitParts};
 
 struct Cursor<'a> {
     rest: &'a [u8],

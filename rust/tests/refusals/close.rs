@@ -1,9 +1,9 @@
 //! Close: 1 to 4 and 11.
+use crate::compare::ours;
 use crate::compare::random::Random;
 use crate::edits::{check_all, code_edits, edit, label_edits, length_edits, pattern, plain_record, shape, HasRecord, Off};
 use crate::model::refusals::Record;
 use crate::model::{calls as model, codes, encoder, Fault};
-use lipvezor::{calls, Code, Refusal};
 
 #[derive(Clone)]
 struct Input {
@@ -60,8 +60,7 @@ fn compare(record: Record, mut symbols: Vec<u8>, mut marks: Vec<u8>, words: Off,
     let (mut words, mut bytes) = (pattern(code.work_words(), words), pattern(code.m * w, bytes));
     let mut expected = (symbols.clone(), marks.clone(), words.clone(), bytes.clone());
 
-    let Record { code, w, protocol, lsc } = record;
-    let answer = calls::close(Code(code), w, protocol, lsc, &mut symbols, &mut marks, &mut words, &mut bytes).map_err(Refusal::number);
+    let answer = ours::close(record, &mut symbols, &mut marks, &mut words, &mut bytes);
     let due = model::close(record, &mut expected.0, &mut expected.1, &mut expected.2, &mut expected.3, Fault::None);
     assert_eq!(answer, due, "{label}");
     assert!((symbols, marks, words, bytes) == expected, "{label}: buffers");

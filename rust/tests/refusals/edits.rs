@@ -18,9 +18,9 @@ pub struct Edit<T> {
 }
 
 impl<T> Edit<T> {
-    /// For a call that answers no number: refused is 1.
-    pub fn without_number(&mut self) {
-        self.number = self.number.min(1);
+    /// For a call by which it is not refused.
+    pub fn allow(&mut self) {
+        self.number = 0;
     }
 }
 

@@ -1,8 +1,8 @@
 //! Open: 1 to 4.
+use crate::compare::ours;
 use crate::edits::{check_all, code_edits, edit, label_edits, length_edits, pattern, plain_record, shape, HasRecord, Off};
 use crate::model::calls as model;
 use crate::model::refusals::Record;
-use lipvezor::{calls, Code, Refusal};
 
 #[derive(Clone)]
 struct Input {
@@ -22,8 +22,7 @@ fn check(input: &Input, label: &str) -> u8 {
     let (mut symbols, mut marks) = (pattern(code.n * w, input.symbols), pattern(code.n, input.marks));
     let (mut expected_symbols, mut expected_marks): (Vec<u8>, Vec<u8>) = (symbols.clone(), marks.clone());
 
-    let Record { code, w, protocol, lsc } = input.record;
-    let answer = calls::open(Code(code), w, protocol, lsc, &mut symbols, &mut marks).map_err(Refusal::number);
+    let answer = ours::open(input.record, &mut symbols, &mut marks);
     assert_eq!(answer, model::open(input.record, &mut expected_symbols, &mut expected_marks), "{label}");
     assert!(symbols == expected_symbols && marks == expected_marks, "{label}: buffers");
     answer.err().unwrap_or(0)

@@ -1,8 +1,8 @@
-//! Encode: 1, 2 and 4. Write: 1 to 4, 9 and 10. Show: nothing where 1, 2, 4 or 9 would apply.
+//! Encode: 1, 2 and 4. Show: 1, 2, 4 and 9. Write: 1 to 4, 9 and 10.
+use crate::compare::ours;
 use crate::edits::{check_all, code_edits, edit, label_edits, length_edits, pattern, plain_record, shape, Edit, HasRecord, Off};
 use crate::model::refusals::Record;
 use crate::model::{calls as model, units, Fault};
-use lipvezor::{calls, Code, Refusal};
 
 #[derive(Clone)]
 struct Input {
@@ -39,9 +39,17 @@ fn position_edits() -> Vec<Edit<Input>> {
     ]
 }
 
+/// Of these encode and show refuse none.
+fn any_labels() -> Vec<Edit<Input>> {
+    let mut edits = label_edits();
+    edits.iter_mut().for_each(Edit::allow);
+    edits
+}
+
 #[test]
 fn encode() {
     let mut edits = code_edits();
+    edits.extend(any_labels());
     edits.extend(length_edits!(information));
     edits.extend(length_edits!(parity));
     check_all(&plain(), &edits, |input, label| {
@@ -49,9 +57,8 @@ fn encode() {
         let information: Vec<u8> = pattern(code.k * w, input.information);
         let mut parity = pattern(code.m * w, input.parity);
         let mut expected: Vec<u8> = parity.clone();
-        let Record { code, w, .. } = input.record;
-        let answer = calls::encode(Code(code), w, &information, &mut parity).map_err(Refusal::number);
-        assert_eq!(answer, model::encode(code, w, &information, &mut expected, Fault::None), "{label}");
+        let answer = ours::encode(input.record, &information, &mut parity);
+        assert_eq!(answer, model::encode(input.record, &information, &mut expected, Fault::None), "{label}");
         assert!(parity == expected, "{label}: parity");
         answer.err().unwrap_or(0)
     });
@@ -75,36 +82,30 @@ fn write() {
         let size = units::write(code, w, 1, 1, 1, &vec![0; w]).len();
         let mut out = pattern(size, input.out);
         let mut expected: Vec<u8> = out.clone();
-        let Record { code, w, protocol, lsc } = input.record;
-        let answer = calls::write(Code(code), w, protocol, lsc, lwc, &symbol, &mut out).map_err(Refusal::number);
+        let answer = ours::write(input.record, lwc, &symbol, &mut out);
         assert_eq!(answer, model::write(input.record, lwc, &symbol, &mut expected, Fault::None), "{label}");
         assert!(out == expected, "{label}: unit");
         answer.err().unwrap_or(0)
     });
 }
 
-/// Show answers no number: what it shows is a symbol or nothing. Here an output of another length than W is given nothing, too.
 #[test]
 fn show() {
     let mut edits = code_edits();
+    edits.extend(any_labels());
     edits.extend(length_edits!(information));
     edits.extend(length_edits!(parity));
     edits.extend(length_edits!(out));
     edits.extend(position_edits());
-    edits.iter_mut().for_each(Edit::without_number);
     check_all(&plain(), &edits, |input, label| {
         let (code, w) = shape(&input.record);
         let lwc = (input.lwc)(code.n, code.k);
         let (information, parity): (Vec<u8>, Vec<u8>) = (pattern(code.k * w, input.information), pattern(code.m * w, input.parity));
         let mut out = pattern(w, input.out);
         let mut expected: Vec<u8> = out.clone();
-        let Record { code, w, .. } = input.record;
-        let copied = calls::show(Code(code), w, &information, &parity, lwc, &mut out);
-        let symbol = model::show(code, w, &information, &parity, lwc, Fault::None);
-        let shown = if symbol.len() == out.len() { symbol } else { &[] };
-        expected[..shown.len()].copy_from_slice(shown);
-        assert_eq!(copied, shown.len(), "{label}");
+        let answer = ours::show(input.record, &information, &parity, lwc, &mut out);
+        assert_eq!(answer, model::show(input.record, &information, &parity, lwc, &mut expected, Fault::None), "{label}");
         assert!(out == expected, "{label}: output");
-        u8::from(shown.is_empty())
+        answer.err().unwrap_or(0)
     });
 }

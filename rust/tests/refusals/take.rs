@@ -1,11 +1,11 @@
 //! Take: all fourteen; and read: 5, 6, 19 and 20.
 use crate::compare::drafts::{padded_sdnv, Draft, Extension};
+use crate::compare::ours;
 use crate::compare::units::read;
 use crate::edits::{check_all, code_edits, edit, label_edits, length_edits, pattern, plain_record, shape, Edit, HasRecord, Off};
 use crate::model::refusals::Record;
 use crate::model::units::sdnv;
 use crate::model::{calls as model, Fault};
-use lipvezor::{calls, Code, Refusal};
 
 #[derive(Clone)]
 struct Input {
@@ -56,11 +56,10 @@ fn check(input: &Input, label: &str) -> u8 {
     }
     let (mut expected_symbols, mut expected_marks): (Vec<u8>, Vec<u8>) = (symbols.clone(), marks.clone());
 
-    let Record { code, w, protocol, lsc } = input.record;
     if let Err(difference) = read(&unit, Fault::None) {
         panic!("{label}: {difference:?}");
     }
-    let answer = calls::take(Code(code), w, protocol, lsc, &mut symbols, &mut marks, &unit).map_err(Refusal::number);
+    let answer = ours::take(input.record, &mut symbols, &mut marks, &unit);
     assert_eq!(answer, model::take(input.record, &mut expected_symbols, &mut expected_marks, &unit, Fault::None), "{label}");
     assert!(symbols == expected_symbols && marks == expected_marks, "{label}: buffers");
     answer.err().unwrap_or(0)
