@@ -162,16 +162,15 @@ const TOP: f64 = 48.0;
 /// Where the share of blocks is 1: below the top, so that labels have room above it.
 const ONE: f64 = 72.0;
 const BOTTOM: f64 = 552.0;
-/// The y axis goes from 10^-DECADES to 1.
-const DECADES: i32 = 6;
 /// Half of a cap.
 const CAP: f64 = 5.0;
 const BLUE: &str = "#0f5fa8";
 const RED: &str = "#b3400f";
 
-/// A code's picture.
+/// A code's picture. The y axis goes from 10^-decades to 1.
 struct Picture<'a> {
     plan: &'a Plan,
+    decades: i32,
     text: String,
 }
 
@@ -187,9 +186,8 @@ impl Picture<'_> {
         LEFT + (lost - from) / (to - from) * (RIGHT - LEFT)
     }
 
-    /// A rate below the axis stands on it.
     fn y(&self, rate: f64) -> f64 {
-        (ONE - rate.log10() / DECADES as f64 * (BOTTOM - ONE)).min(BOTTOM)
+        ONE - rate.log10() / self.decades as f64 * (BOTTOM - ONE)
     }
 
     fn put(&mut self, element: std::fmt::Arguments) {
@@ -212,7 +210,7 @@ impl Picture<'_> {
 
     /// The grid, with its numbers and the titles.
     fn axes(&mut self) {
-        for decade in 0..=DECADES {
+        for decade in 0..=self.decades {
             let one = 10f64.powi(-decade);
             let y = self.y(one);
             self.line((LEFT, y), (RIGHT, y), "stroke=\"#bbb\"");
@@ -220,7 +218,7 @@ impl Picture<'_> {
             self.write((LEFT - 10.0, y + 5.0), "text-anchor=\"end\"", &number);
             for part in 2..10 {
                 let y = self.y(one * part as f64 / 10.0);
-                if decade < DECADES {
+                if decade < self.decades {
                     self.line((LEFT, y), (RIGHT, y), "stroke=\"#eee\"");
                 }
             }
@@ -247,7 +245,7 @@ impl Picture<'_> {
     fn bound(&mut self) {
         let (from, to) = self.range();
         let shares = (0..=200).map(|i| from + (to - from) * i as f64 / 200.0);
-        let curve = shares.map(|share| (share, singleton(self.plan.code, share))).filter(|&(_, bound)| bound >= 10f64.powi(-DECADES));
+        let curve = shares.map(|share| (share, singleton(self.plan.code, share))).filter(|&(_, bound)| bound >= 10f64.powi(-self.decades));
         let curve: Vec<(f64, f64)> = curve.map(|(share, bound)| (self.x(share), self.y(bound))).collect();
         self.path(&curve, &dashed());
     }
@@ -297,9 +295,9 @@ impl Picture<'_> {
     }
 
     fn legend(&mut self, arrows: bool) {
-        let (left, top) = (RIGHT - 432.0, BOTTOM - if arrows { 130.0 } else { 100.0 });
+        let (left, top) = (RIGHT - 448.0, BOTTOM - if arrows { 130.0 } else { 100.0 });
         self.put(format_args!(
-            "<rect x=\"{left}\" y=\"{top}\" width=\"420\" height=\"{}\" fill=\"#fff\" stroke=\"#888\"/>",
+            "<rect x=\"{left}\" y=\"{top}\" width=\"436\" height=\"{}\" fill=\"#fff\" stroke=\"#888\"/>",
             BOTTOM - 12.0 - top
         ));
         let (from, middle, words) = (left + 12.0, left + 37.0, left + 76.0);
@@ -327,7 +325,8 @@ fn dashed() -> String {
 }
 
 fn svg(plan: &Plan, points: &[Point], most: usize) -> String {
-    let mut picture = Picture { plan, text: String::new() };
+    let lowest = points.iter().map(|point| point.interval().0).filter(|&low| low > 0.0).fold(0.1, f64::min);
+    let mut picture = Picture { plan, decades: -lowest.log10().floor() as i32, text: String::new() };
     picture.put(format_args!(
         "<svg xmlns=\"http://www.w3.org/2000/svg\" viewBox=\"0 0 {WIDTH} {HEIGHT}\" width=\"{WIDTH}\" height=\"{HEIGHT}\" font-family=\"sans-serif\" \
          font-size=\"13\" fill=\"#222\">"
@@ -338,7 +337,7 @@ fn svg(plan: &Plan, points: &[Point], most: usize) -> String {
     picture.rates(points);
     picture.legend(points.iter().any(|point| point.failed == 0));
     let caption = [
-        "Each unit is lost with the same probability, whatever else is lost. A block fails if it is ambiguous after close: not whole.",
+        "Each unit is lost with the same probability, whatever else is lost. A block fails if it is not whole after close.",
         &format!("A point stops at {ENOUGH} failed blocks, in batches of {BATCH} blocks, or at {} blocks.", grouped(most)),
         "Where no bar can be seen, the dot covers it.",
     ];

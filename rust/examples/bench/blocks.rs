@@ -154,7 +154,7 @@ pub fn take<L: Layer>(t: &mut Taking) {
     let b = &mut t.block;
     let record = black_box(b.record);
     for unit in t.units.bytes.chunks_exact(t.units.stride) {
-        let answer = L::take(record, &mut b.symbols, &mut b.marks, unit);
-        assert_eq!(answer, Ok(Taken::Kept));
+        // not assert_eq!, for which the compiler may store each answer
+        assert!(L::take(record, &mut b.symbols, &mut b.marks, unit) == Ok(Taken::Kept));
     }
 }
