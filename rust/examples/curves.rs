@@ -309,7 +309,7 @@ impl Picture<'_> {
         if arrows {
             y += 30.0;
             self.arrow(middle, y - 10.0, 20.0);
-            self.write((words, y + 5.0), "", "no block failed: 95 % upper limit");
+            self.write((words, y + 5.0), "", "no block failed: upper end of the 95 % interval");
         }
         y += 28.0;
         self.write((middle, y + 4.0), "text-anchor=\"middle\" font-size=\"10\"", "20/20,000");
