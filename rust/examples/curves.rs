@@ -1,26 +1,26 @@
-//! Codeword error rates of C1 and C2 on an uncorrelated erasure channel, with our close, beside the Singleton bound: figures E-3 and E-4 of
-//! CCSDS 131.5-O-1 for these two codes. Writes curves.csv, curves-c1.svg and curves-c2.svg.
+//! How often a block does not close whole, by the share of units lost, for C1 and C2 on an uncorrelated erasure channel, beside the Singleton
+//! bound: figures E-3 and E-4 of CCSDS 131.5-O-1 for these two codes. Writes curves.csv, curves-c1.svg and curves-c2.svg.
 //!
 //! `cargo run --release --example curves -- [--scale X] [FOLDER]`, where X multiplies the most blocks of a point, and FOLDER is `docs` of this
 //! repository unless given. The same X gives the same files on every machine.
 #[path = "../support/random.rs"]
 mod random;
 
-use lipvezor::{calls, Code, Taken, Verdict};
+use lipvezor::{calls, Code, Record, Taken, Verdict};
 use random::Random;
 use std::fmt::Write as _;
+use std::io::IsTerminal;
 use std::path::PathBuf;
+use std::time::Instant;
 
-/// A point stops after the batch that brings it to so many block errors, or at its most blocks.
+/// A point stops after the batch that brings it to so many failed blocks, or at its most blocks.
 const ENOUGH: usize = 100;
 /// Blocks of a batch. They carry the same information.
 const BATCH: usize = 250;
-const PROTOCOL: usize = 0;
-const LSC: usize = 1;
 /// Bytes of a symbol: what is lost doesn't depend on it.
 const W: usize = 1;
 
-/// What is measured of a code: erasure probabilities in thousandths, and the most blocks of a point.
+/// What is measured of a code: shares of units lost, in thousandths, and the most blocks of a point.
 struct Plan {
     code: Code,
     from: usize,
@@ -29,19 +29,27 @@ struct Plan {
     most: usize,
 }
 
-const PLANS: [Plan; 2] =
-    [Plan { code: Code::C1, from: 260, to: 370, step: 10, most: 100_000 }, Plan { code: Code::C2, from: 300, to: 350, step: 5, most: 20_000 }];
+const PLANS: [Plan; 2] = [
+    Plan { code: Code::C1, from: 240, to: 370, step: 10, most: 500_000 },
+    Plan { code: Code::C2, from: 285, to: 350, step: 5, most: 20_000 },
+];
+
+impl Plan {
+    /// The shares of its points, in thousandths.
+    fn points(&self) -> impl Iterator<Item = usize> {
+        (self.from..=self.to).step_by(self.step)
+    }
+}
 
 struct Point {
-    erasure: f64,
+    lost: f64,
     blocks: usize,
-    errors: usize,
-    bound: f64,
+    failed: usize,
 }
 
 impl Point {
     fn rate(&self) -> f64 {
-        self.errors as f64 / self.blocks as f64
+        self.failed as f64 / self.blocks as f64
     }
 
     /// The 95 % confidence interval of the rate (Wilson's).
@@ -49,17 +57,19 @@ impl Point {
         let (n, p, z2) = (self.blocks as f64, self.rate(), 1.96 * 1.96);
         let middle = p + z2 / (2.0 * n);
         let half = (z2 * (p * (1.0 - p) / n + z2 / (4.0 * n * n))).sqrt();
-        ((middle - half) / (1.0 + z2 / n), (middle + half) / (1.0 + z2 / n))
+        let low = if self.failed == 0 { 0.0 } else { (middle - half) / (1.0 + z2 / n) };
+        let high = if self.failed == self.blocks { 1.0 } else { (middle + half) / (1.0 + z2 / n) };
+        (low, high)
     }
 }
 
-/// The Singleton bound: the probability that more than n - k of n symbols are erased.
-fn singleton(code: Code, erasure: f64) -> f64 {
+/// The Singleton bound: the probability that more than n - k of n symbols are lost.
+fn singleton(code: Code, lost: f64) -> f64 {
     let (n, k) = (code.n(), code.k());
-    let mut logarithm = n as f64 * (1.0 - erasure).ln(); // of C(n, i) e^i (1 - e)^(n - i), here for i = 0
+    let mut logarithm = n as f64 * (1.0 - lost).ln(); // of C(n, i) e^i (1 - e)^(n - i), here for i = 0
     let mut sum = 0.0;
     for i in 1..=n {
-        logarithm += ((n - i + 1) as f64 / i as f64).ln() + (erasure / (1.0 - erasure)).ln();
+        logarithm += ((n - i + 1) as f64 / i as f64).ln() + (lost / (1.0 - lost)).ln();
         if i > n - k {
             sum += logarithm.exp();
         }
@@ -73,55 +83,56 @@ struct Sent {
     units: Vec<u8>,
 }
 
-fn send(code: Code, random: &mut Random) -> Sent {
-    let mut codeword = vec![0; code.symbol_bytes(W)];
-    let (information, parity) = codeword.split_at_mut(code.information_bytes(W));
+fn send(record: Record, random: &mut Random) -> Sent {
+    let mut codeword = vec![0; record.symbol_bytes()];
+    let (information, parity) = codeword.split_at_mut(record.information_bytes());
     random.fill(information);
-    calls::encode(code, W, information, parity).unwrap();
-    let mut units = vec![0; code.n() * code.unit_bytes(W)];
-    for (i, unit) in units.chunks_exact_mut(code.unit_bytes(W)).enumerate() {
-        calls::write(code, W, PROTOCOL, LSC, i + 1, &codeword[i * W..(i + 1) * W], unit).unwrap();
+    calls::encode(record, information, parity).unwrap();
+    let mut units = vec![0; record.n() * record.unit_bytes()];
+    for (i, unit) in units.chunks_exact_mut(record.unit_bytes()).enumerate() {
+        calls::write(record, i + 1, &codeword[i * W..(i + 1) * W], unit).unwrap();
     }
     Sent { codeword, units }
 }
 
 /// How many of the blocks, each with its own random numbers, aren't whole after close.
-fn block_errors(code: Code, erasure: f64, sent: &Sent, blocks: impl Iterator<Item = Random>) -> usize {
-    let mut symbols = vec![0; code.symbol_bytes(W)];
-    let mut marks = vec![0; code.n()];
-    let mut words = vec![0; code.work_words()];
-    let mut bytes = vec![0; code.work_bytes(W)];
-    let mut errors = 0;
+fn failures(record: Record, lost: f64, sent: &Sent, blocks: impl Iterator<Item = Random>) -> usize {
+    let mut symbols = vec![0; record.symbol_bytes()];
+    let mut marks = vec![0; record.n()];
+    let mut words = vec![0; record.work_words()];
+    let mut bytes = vec![0; record.work_bytes()];
+    let mut failed = 0;
     for mut random in blocks {
-        calls::open(code, W, PROTOCOL, LSC, &mut symbols, &mut marks).unwrap();
-        for unit in sent.units.chunks_exact(code.unit_bytes(W)) {
-            if !random.chance(erasure) {
-                assert_eq!(calls::take(code, W, PROTOCOL, LSC, &mut symbols, &mut marks, unit), Ok(Taken::Kept));
+        calls::open(record, &mut symbols, &mut marks).unwrap();
+        for unit in sent.units.chunks_exact(record.unit_bytes()) {
+            if !random.chance(lost) {
+                assert_eq!(calls::take(record, &mut symbols, &mut marks, unit), Ok(Taken::Kept));
             }
         }
-        match calls::close(code, W, PROTOCOL, LSC, &mut symbols, &mut marks, &mut words, &mut bytes).unwrap().verdict {
+        match calls::close(record, &mut symbols, &mut marks, &mut words, &mut bytes).unwrap().verdict {
             Verdict::Whole => assert!(symbols == sent.codeword),
-            Verdict::Ambiguous => errors += 1,
-            Verdict::Inconsistent => panic!("nothing that was sent is inconsistent"),
+            Verdict::Ambiguous => failed += 1,
+            verdict => panic!("{verdict:?} of what was sent"),
         }
     }
-    errors
+    failed
 }
 
 /// One point of a code's curve. `progress` hears which part of it is done.
 fn measure(code: Code, thousandths: usize, most: usize, progress: impl Fn(f64)) -> Point {
-    let erasure = thousandths as f64 / 1000.0;
+    let record = Record::new(code, W);
+    let lost = thousandths as f64 / 1000.0;
     let threads = std::thread::available_parallelism().map_or(1, |n| n.get()).min(2);
-    let mut point = Point { erasure, blocks: 0, errors: 0, bound: singleton(code, erasure) };
-    let mut seeds = Random::new((code.0 * 1000 + thousandths) as u64);
-    while point.errors < ENOUGH && point.blocks < most {
-        progress((point.errors as f64 / ENOUGH as f64).max(point.blocks as f64 / most as f64));
-        let sent = send(code, &mut seeds);
+    let mut point = Point { lost, blocks: 0, failed: 0 };
+    let mut seeds = Random::new((code.number() * 1000 + thousandths) as u64);
+    while point.failed < ENOUGH && point.blocks < most {
+        progress((point.failed as f64 / ENOUGH as f64).max(point.blocks as f64 / most as f64));
+        let sent = send(record, &mut seeds);
         let batch: Vec<u64> = (0..BATCH.min(most - point.blocks)).map(|_| seeds.next()).collect();
-        point.errors += std::thread::scope(|scope| {
+        point.failed += std::thread::scope(|scope| {
             let sent = &sent;
             let parts = batch.chunks(batch.len().div_ceil(threads));
-            let parts = parts.map(|part| scope.spawn(move || block_errors(code, erasure, sent, part.iter().map(|&seed| Random::new(seed)))));
+            let parts = parts.map(|part| scope.spawn(move || failures(record, lost, sent, part.iter().map(|&seed| Random::new(seed)))));
             let parts: Vec<_> = parts.collect();
             parts.into_iter().map(|part| part.join().unwrap()).sum::<usize>()
         });
@@ -143,103 +154,198 @@ fn grouped(x: usize) -> String {
     text
 }
 
+const WIDTH: f64 = 900.0;
+const HEIGHT: f64 = 684.0;
 const LEFT: f64 = 84.0;
-const RIGHT: f64 = 736.0;
-const TOP: f64 = 56.0;
-const BOTTOM: f64 = 416.0;
-/// The y axis goes from 10^-DECADES to 1.
-const DECADES: i32 = 6;
+const RIGHT: f64 = 876.0;
+const TOP: f64 = 48.0;
+/// Where the share of blocks is 1: below the top, so that labels have room above it.
+const ONE: f64 = 72.0;
+const BOTTOM: f64 = 552.0;
+/// Half of a cap.
+const CAP: f64 = 5.0;
+const BLUE: &str = "#0f5fa8";
+const RED: &str = "#b3400f";
 
-fn svg(plan: &Plan, points: &[Point], most: usize) -> String {
-    let code = plan.code;
-    let (from, to) = (plan.from as f64 / 1000.0, plan.to as f64 / 1000.0);
-    let x = |erasure: f64| LEFT + (erasure - from) / (to - from) * (RIGHT - LEFT);
-    let y = |rate: f64| TOP - rate.log10() / DECADES as f64 * (BOTTOM - TOP);
-    let floor = 10f64.powi(-DECADES);
-    let mut s = String::new();
-    let mut line = |text: String| {
-        s.push_str(&text);
-        s.push('\n');
-    };
-    line("<svg xmlns=\"http://www.w3.org/2000/svg\" viewBox=\"0 0 780 560\" width=\"780\" height=\"560\" font-family=\"sans-serif\" font-size=\"13\" fill=\"#222\">".into());
-    line("<rect width=\"780\" height=\"560\" fill=\"#fff\"/>".into());
-    line(format!(
-        "<text x=\"{}\" y=\"32\" text-anchor=\"middle\" font-size=\"15\">C{}, n = {}, k = {}: codeword error rate on an uncorrelated erasure channel</text>",
-        (LEFT + RIGHT) / 2.0,
-        code.0,
-        code.n(),
-        code.k()
-    ));
-    // The grid, with its numbers.
-    for decade in 0..=DECADES {
-        let at = y(10f64.powi(-decade));
-        line(format!("<line x1=\"{LEFT}\" y1=\"{at:.1}\" x2=\"{RIGHT}\" y2=\"{at:.1}\" stroke=\"#bbb\"/>"));
-        let number = if decade == 0 { "1".into() } else { format!("10<tspan dy=\"-6\" font-size=\"10\">−{decade}</tspan>") };
-        line(format!("<text x=\"{}\" y=\"{:.1}\" text-anchor=\"end\">{number}</text>", LEFT - 10.0, at + 5.0));
-        if decade < DECADES {
+/// A code's picture. The y axis goes from 10^-decades to 1.
+struct Picture<'a> {
+    plan: &'a Plan,
+    decades: i32,
+    text: String,
+}
+
+impl Picture<'_> {
+    /// The x axis has a step more on the left, for the first label, and half a step on the right.
+    fn range(&self) -> (f64, f64) {
+        let Plan { from, to, step, .. } = *self.plan;
+        ((from - step) as f64 / 1000.0, (to as f64 + step as f64 / 2.0) / 1000.0)
+    }
+
+    fn x(&self, lost: f64) -> f64 {
+        let (from, to) = self.range();
+        LEFT + (lost - from) / (to - from) * (RIGHT - LEFT)
+    }
+
+    fn y(&self, rate: f64) -> f64 {
+        ONE - rate.log10() / self.decades as f64 * (BOTTOM - ONE)
+    }
+
+    fn put(&mut self, element: std::fmt::Arguments) {
+        self.text.write_fmt(element).unwrap();
+        self.text.push('\n');
+    }
+
+    fn line(&mut self, from: (f64, f64), to: (f64, f64), style: &str) {
+        self.put(format_args!("<line x1=\"{:.1}\" y1=\"{:.1}\" x2=\"{:.1}\" y2=\"{:.1}\" {style}/>", from.0, from.1, to.0, to.1));
+    }
+
+    fn path(&mut self, points: &[(f64, f64)], style: &str) {
+        let points: Vec<String> = points.iter().map(|(x, y)| format!("{x:.1},{y:.1}")).collect();
+        self.put(format_args!("<polyline points=\"{}\" fill=\"none\" {style}/>", points.join(" ")));
+    }
+
+    fn write(&mut self, (x, y): (f64, f64), style: &str, words: &str) {
+        self.put(format_args!("<text x=\"{x:.1}\" y=\"{y:.1}\" {style}>{words}</text>"));
+    }
+
+    /// The grid, with its numbers and the titles.
+    fn axes(&mut self) {
+        for decade in 0..=self.decades {
+            let one = 10f64.powi(-decade);
+            let y = self.y(one);
+            self.line((LEFT, y), (RIGHT, y), "stroke=\"#bbb\"");
+            let number = if decade == 0 { "1".into() } else { format!("10<tspan dy=\"-6\" font-size=\"10\">−{decade}</tspan>") };
+            self.write((LEFT - 10.0, y + 5.0), "text-anchor=\"end\"", &number);
             for part in 2..10 {
-                let at = y(part as f64 * 10f64.powi(-decade - 1));
-                line(format!("<line x1=\"{LEFT}\" y1=\"{at:.1}\" x2=\"{RIGHT}\" y2=\"{at:.1}\" stroke=\"#eee\"/>"));
+                let y = self.y(one * part as f64 / 10.0);
+                if decade < self.decades {
+                    self.line((LEFT, y), (RIGHT, y), "stroke=\"#eee\"");
+                }
             }
         }
+        for thousandths in self.plan.points() {
+            let share = thousandths as f64 / 1000.0;
+            let x = self.x(share);
+            self.line((x, TOP), (x, BOTTOM), "stroke=\"#ddd\"");
+            self.write((x, BOTTOM + 20.0), "text-anchor=\"middle\"", &format!("{share:.3}"));
+        }
+        let (width, height) = (RIGHT - LEFT, BOTTOM - TOP);
+        self.put(format_args!("<rect x=\"{LEFT}\" y=\"{TOP}\" width=\"{width}\" height=\"{height}\" fill=\"none\" stroke=\"#222\"/>"));
+        let middle = (LEFT + RIGHT) / 2.0;
+        let code = self.plan.code;
+        let title = format!("{code} (n = {}, k = {}): blocks that do not close whole, by how many units are lost", code.n(), code.k());
+        self.write((middle, 30.0), "text-anchor=\"middle\" font-size=\"16\"", &title);
+        self.write((middle, BOTTOM + 44.0), "text-anchor=\"middle\" font-size=\"14\"", "share of units lost");
+        self.put(format_args!(
+            "<text transform=\"translate(28 {}) rotate(-90)\" text-anchor=\"middle\" font-size=\"14\">share of blocks that do not close whole</text>",
+            (TOP + BOTTOM) / 2.0
+        ));
     }
-    for thousandths in (plan.from..=plan.to).step_by(plan.step) {
-        let at = x(thousandths as f64 / 1000.0);
-        line(format!("<line x1=\"{at:.1}\" y1=\"{TOP}\" x2=\"{at:.1}\" y2=\"{BOTTOM}\" stroke=\"#bbb\"/>"));
-        line(format!("<text x=\"{at:.1}\" y=\"{}\" text-anchor=\"middle\">{:.3}</text>", BOTTOM + 20.0, thousandths as f64 / 1000.0));
+
+    fn bound(&mut self) {
+        let (from, to) = self.range();
+        let shares = (0..=200).map(|i| from + (to - from) * i as f64 / 200.0);
+        let curve = shares.map(|share| (share, singleton(self.plan.code, share))).filter(|&(_, bound)| bound >= 10f64.powi(-self.decades));
+        let curve: Vec<(f64, f64)> = curve.map(|(share, bound)| (self.x(share), self.y(bound))).collect();
+        self.path(&curve, &dashed());
     }
-    line(format!("<rect x=\"{LEFT}\" y=\"{TOP}\" width=\"{}\" height=\"{}\" fill=\"none\" stroke=\"#222\"/>", RIGHT - LEFT, BOTTOM - TOP));
-    line(format!("<text x=\"{}\" y=\"{}\" text-anchor=\"middle\" font-size=\"14\">erasure probability</text>", (LEFT + RIGHT) / 2.0, BOTTOM + 44.0));
-    line(format!(
-        "<text transform=\"translate(28 {}) rotate(-90)\" text-anchor=\"middle\" font-size=\"14\">codeword error rate</text>",
-        (TOP + BOTTOM) / 2.0
-    ));
-    // The bound, dashed.
-    let mut path = String::new();
-    for i in 0..=200 {
-        let erasure = from + (to - from) * i as f64 / 200.0;
-        let bound = singleton(code, erasure);
-        if bound >= floor {
-            let _ = write!(path, "{:.1},{:.1} ", x(erasure), y(bound));
+
+    /// A vertical bar with a cap at each end.
+    fn bar(&mut self, x: f64, high: f64, low: f64) {
+        let style = format!("stroke=\"{BLUE}\" stroke-width=\"1.5\"");
+        self.path(&[(x - CAP, high), (x + CAP, high), (x, high), (x, low), (x - CAP, low), (x + CAP, low)], &style);
+    }
+
+    /// A cap at an upper limit, and an arrow down from it. Answers where it ends.
+    fn arrow(&mut self, x: f64, high: f64, length: f64) -> f64 {
+        let style = format!("stroke=\"{BLUE}\" stroke-width=\"1.5\"");
+        let end = high + length;
+        self.path(&[(x - CAP, high), (x + CAP, high), (x, high), (x, end)], &style);
+        self.path(&[(x - CAP, end - 7.0), (x, end), (x + CAP, end - 7.0)], &style);
+        end
+    }
+
+    fn dot(&mut self, x: f64, y: f64) {
+        self.put(format_args!("<circle cx=\"{x:.1}\" cy=\"{y:.1}\" r=\"2.5\" fill=\"{BLUE}\"/>"));
+    }
+
+    /// The rates with their intervals, and the numbers that they come from.
+    fn rates(&mut self, points: &[Point]) {
+        let seen = points.iter().filter(|point| point.failed > 0);
+        let curve: Vec<(f64, f64)> = seen.map(|point| (self.x(point.lost), self.y(point.rate()))).collect();
+        self.path(&curve, &format!("stroke=\"{BLUE}\" stroke-width=\"1.5\" stroke-opacity=\"0.6\""));
+        for point in points {
+            let (low, high) = point.interval();
+            let (x, high) = (self.x(point.lost), self.y(high));
+            let (at, anchor) = if point.failed == 0 {
+                ((x, self.arrow(x, high, 32.0) + 15.0), "middle")
+            } else {
+                self.bar(x, high, self.y(low));
+                self.dot(x, self.y(point.rate()));
+                // where the curve is flat, above it
+                if point.rate() > 0.7 {
+                    ((x, high - 7.0), "middle")
+                } else {
+                    ((x - CAP - 3.0, high + 3.0), "end")
+                }
+            };
+            let style = format!("text-anchor=\"{anchor}\" font-size=\"10\" stroke=\"#fff\" stroke-width=\"3\" paint-order=\"stroke\"");
+            self.write(at, &style, &format!("{}/{}", point.failed, grouped(point.blocks)));
         }
     }
-    line(format!("<polyline points=\"{}\" fill=\"none\" stroke=\"#b3400f\" stroke-width=\"2\" stroke-dasharray=\"7 5\"/>", path.trim_end()));
-    // The rates, with circles and confidence intervals.
-    let drawn: Vec<&Point> = points.iter().filter(|point| point.errors > 0).collect();
-    let path: Vec<String> = drawn.iter().map(|point| format!("{:.1},{:.1}", x(point.erasure), y(point.rate()))).collect();
-    line(format!("<polyline points=\"{}\" fill=\"none\" stroke=\"#0f5fa8\" stroke-width=\"2\"/>", path.join(" ")));
-    for point in drawn {
-        let at = x(point.erasure);
-        let (low, high) = point.interval();
-        line(format!("<line x1=\"{at:.1}\" y1=\"{:.1}\" x2=\"{at:.1}\" y2=\"{:.1}\" stroke=\"#0f5fa8\"/>", y(low.max(floor)), y(high)));
-        line(format!("<circle cx=\"{at:.1}\" cy=\"{:.1}\" r=\"4\" fill=\"#fff\" stroke=\"#0f5fa8\" stroke-width=\"2\"/>", y(point.rate())));
+
+    fn legend(&mut self, arrows: bool) {
+        let (left, top) = (RIGHT - 448.0, BOTTOM - if arrows { 130.0 } else { 100.0 });
+        self.put(format_args!(
+            "<rect x=\"{left}\" y=\"{top}\" width=\"436\" height=\"{}\" fill=\"#fff\" stroke=\"#888\"/>",
+            BOTTOM - 12.0 - top
+        ));
+        let (from, middle, words) = (left + 12.0, left + 37.0, left + 76.0);
+        let mut y = top + 22.0;
+        self.line((from, y), (from + 50.0, y), &format!("stroke=\"{BLUE}\" stroke-width=\"1.5\" stroke-opacity=\"0.6\""));
+        self.bar(middle, y - 9.0, y + 9.0);
+        self.dot(middle, y);
+        self.write((words, y + 5.0), "", "measured, with 95 % interval");
+        if arrows {
+            y += 30.0;
+            self.arrow(middle, y - 10.0, 20.0);
+            self.write((words, y + 5.0), "", "no block failed: upper end of the 95 % interval");
+        }
+        y += 28.0;
+        self.write((middle, y + 4.0), "text-anchor=\"middle\" font-size=\"10\"", "20/20,000");
+        self.write((words, y + 5.0), "", "failed blocks / blocks");
+        y += 26.0;
+        self.line((from, y), (from + 50.0, y), &dashed());
+        self.write((words, y + 5.0), "", "Singleton bound: no code of this n and k does better");
     }
-    // The legend.
-    let (left, top) = (RIGHT - 292.0, BOTTOM - 76.0);
-    line(format!("<rect x=\"{left}\" y=\"{top}\" width=\"280\" height=\"64\" fill=\"#fff\" stroke=\"#888\"/>"));
-    let (a, b, middle) = (left + 12.0, left + 52.0, left + 32.0);
-    let (first, second) = (top + 20.0, top + 44.0);
-    line(format!("<line x1=\"{a}\" y1=\"{first}\" x2=\"{b}\" y2=\"{first}\" stroke=\"#0f5fa8\" stroke-width=\"2\"/>"));
-    line(format!("<circle cx=\"{middle}\" cy=\"{first}\" r=\"4\" fill=\"#fff\" stroke=\"#0f5fa8\" stroke-width=\"2\"/>"));
-    line(format!("<text x=\"{}\" y=\"{}\">close, with 95 % intervals</text>", b + 10.0, first + 5.0));
-    line(format!("<line x1=\"{a}\" y1=\"{second}\" x2=\"{b}\" y2=\"{second}\" stroke=\"#b3400f\" stroke-width=\"2\" stroke-dasharray=\"7 5\"/>"));
-    line(format!("<text x=\"{}\" y=\"{}\">Singleton bound</text>", b + 10.0, second + 5.0));
-    // The caption: the blocks of each point.
-    let blocks: Vec<String> = points.iter().map(|point| grouped(point.blocks)).collect();
-    let (first, rest) = blocks.split_at(blocks.len().div_ceil(2));
-    let mut caption = vec![
-        format!("Blocks run for each point, from the left: {};", first.join("; ")),
-        format!("{}.", rest.join("; ")),
-        format!("A point stops at {ENOUGH} block errors, in batches of {BATCH} blocks, or at {} blocks.", grouped(most)),
+}
+
+fn dashed() -> String {
+    format!("stroke=\"{RED}\" stroke-width=\"1.5\" stroke-dasharray=\"7 5\"")
+}
+
+fn svg(plan: &Plan, points: &[Point], most: usize) -> String {
+    let lowest = points.iter().map(|point| point.interval().0).filter(|&low| low > 0.0).fold(0.1, f64::min);
+    let mut picture = Picture { plan, decades: -lowest.log10().floor() as i32, text: String::new() };
+    picture.put(format_args!(
+        "<svg xmlns=\"http://www.w3.org/2000/svg\" viewBox=\"0 0 {WIDTH} {HEIGHT}\" width=\"{WIDTH}\" height=\"{HEIGHT}\" font-family=\"sans-serif\" \
+         font-size=\"13\" fill=\"#222\">"
+    ));
+    picture.put(format_args!("<rect width=\"{WIDTH}\" height=\"{HEIGHT}\" fill=\"#fff\"/>"));
+    picture.axes();
+    picture.bound();
+    picture.rates(points);
+    picture.legend(points.iter().any(|point| point.failed == 0));
+    let caption = [
+        "Each unit is lost with the same probability, whatever else is lost. A block fails if it is not whole after close.",
+        &format!("A point stops at {ENOUGH} failed blocks, in batches of {BATCH} blocks, or at {} blocks.", grouped(most)),
+        "Where no bar can be seen, the dot covers it.",
     ];
-    if points.iter().any(|point| point.errors == 0) {
-        caption.push("A point without a block error isn't drawn.".into());
+    for (i, words) in caption.iter().enumerate() {
+        picture.write((LEFT, BOTTOM + 76.0 + 19.0 * i as f64), "font-size=\"12\"", words);
     }
-    for (i, text) in caption.iter().enumerate() {
-        line(format!("<text x=\"{LEFT}\" y=\"{}\" font-size=\"12\">{text}</text>", BOTTOM + 74.0 + 19.0 * i as f64));
-    }
-    line("</svg>".into());
-    s
+    picture.put(format_args!("</svg>"));
+    picture.text
 }
 
 fn main() -> std::io::Result<()> {
@@ -252,24 +358,39 @@ fn main() -> std::io::Result<()> {
             path => folder = PathBuf::from(path),
         }
     }
-    let all: usize = PLANS.iter().map(|plan| (plan.to - plan.from) / plan.step + 1).sum();
+    let start = Instant::now();
+    let terminal = std::io::stderr().is_terminal();
+    let all: usize = PLANS.iter().map(|plan| plan.points().count()).sum();
     let mut done = 0;
-    let mut csv = String::from("code,erasure_probability,blocks_run,block_errors,codeword_error_rate,singleton_bound\n");
+    let mut csv = String::from("code,share_of_units_lost,blocks,failed_blocks,share_of_blocks_failed,low_95,high_95,singleton_bound\n");
     for plan in &PLANS {
+        let code = plan.code;
         let most = (plan.most as f64 * scale) as usize;
         let mut points = Vec::new();
-        for thousandths in (plan.from..=plan.to).step_by(plan.step) {
-            let point = measure(plan.code, thousandths, most, |part| {
+        for thousandths in plan.points() {
+            let share = thousandths as f64 / 1000.0;
+            let point = measure(code, thousandths, most, |part| {
                 let percent = (done as f64 + part) / all as f64 * 100.0;
-                eprint!("\rcurves {percent:3.0} %  C{}  erasure probability {:.3} ", plan.code.0, thousandths as f64 / 1000.0);
+                if terminal {
+                    eprint!("\rcurves {percent:3.0} %  {code}  {share:.3} of the units lost ");
+                }
             });
-            let _ = writeln!(csv, "C{},{:.3},{},{},{:.4e},{:.4e}", plan.code.0, point.erasure, point.blocks, point.errors, point.rate(), point.bound);
-            points.push(point);
             done += 1;
+            eprintln!(
+                "{}curves {:3.0} %  {code}  {share:.3} of the units lost: {} of {} blocks failed",
+                if terminal { "\r" } else { "" },
+                done as f64 / all as f64 * 100.0,
+                point.failed,
+                grouped(point.blocks)
+            );
+            let (low, high) = point.interval();
+            let (rate, bound) = (point.rate(), singleton(code, share));
+            let _ = writeln!(csv, "{code},{share:.3},{},{},{rate:.4e},{low:.4e},{high:.4e},{bound:.4e}", point.blocks, point.failed);
+            points.push(point);
         }
-        std::fs::write(folder.join(format!("curves-c{}.svg", plan.code.0)), svg(plan, &points, most))?;
+        std::fs::write(folder.join(format!("curves-c{}.svg", code.number())), svg(plan, &points, most))?;
     }
     std::fs::write(folder.join("curves.csv"), csv)?;
-    eprintln!("\rcurves 100 %  written to {}          ", folder.display());
+    eprintln!("curves written to {} after {:.0} s", folder.display(), start.elapsed().as_secs_f64());
     Ok(())
 }

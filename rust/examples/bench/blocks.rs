@@ -1,33 +1,40 @@
 //! Blocks on board and on the ground, and what is measured on them by any layer.
 use crate::buffer::Buffer;
-use crate::layers::{Closing, Layer, Ours};
+use crate::layers::{Closing, Found, Layer, Ours};
 use crate::random::Random;
-use lipvezor::{calls, Closed, Code, Taken};
+use lipvezor::{calls, Code, Record, Taken};
 use std::hint::black_box;
 
-const PROTOCOL: usize = 5;
-const LSC: usize = 300;
+/// The record of the blocks of a code and width.
+pub fn record(code: Code, w: usize) -> Record {
+    Record::new(code, w).with_protocol(5).with_lsc(300)
+}
+
+/// A seed for what is random of them.
+pub fn seed(record: Record) -> u64 {
+    (record.code.number() * 2048 + record.w) as u64
+}
 
 /// What is sent of one block.
 #[derive(Clone)]
 pub struct Sending {
-    pub code: Code,
-    pub w: usize,
+    pub record: Record,
     pub information: Buffer<u8>,
     pub parity: Buffer<u8>,
 }
 
 impl Sending {
-    pub fn new(code: Code, w: usize) -> Sending {
-        let mut information = Buffer::new(code.information_bytes(w));
-        Random::new(code.0 as u64 * 2048 + w as u64).fill(&mut information);
-        let mut sent = Sending { code, w, information, parity: Buffer::new(code.parity_bytes(w)) };
+    pub fn new(record: Record) -> Sending {
+        let mut information = Buffer::new(record.information_bytes());
+        Random::new(seed(record)).fill(&mut information);
+        let mut sent = Sending { record, information, parity: Buffer::new(record.parity_bytes()) };
         encode::<Ours>(&mut sent);
         sent
     }
 
     fn symbol(&self, i: usize) -> &[u8] {
-        let (k, w) = (self.information.len() / self.w, self.w);
+        let w = self.record.w;
+        let k = self.information.len() / w;
         if i < k {
             &self.information[i * w..(i + 1) * w]
         } else {
@@ -47,7 +54,7 @@ impl Sending {
 }
 
 pub fn encode<L: Layer>(s: &mut Sending) {
-    L::encode(black_box(s.code), black_box(s.w), &s.information, &mut s.parity).unwrap();
+    L::encode(black_box(s.record), &s.information, &mut s.parity).unwrap();
 }
 
 /// The units of a block, one after the other, or each on a border of so many bytes.
@@ -60,42 +67,40 @@ pub struct Units {
 impl Units {
     /// The border is a divisor of 16.
     pub fn new(sent: &Sending, border: usize) -> Units {
-        let stride = sent.code.unit_bytes(sent.w).next_multiple_of(border);
-        let mut units = Units { sent: sent.clone(), bytes: Buffer::new(sent.code.n() * stride), stride };
+        let stride = sent.record.unit_bytes().next_multiple_of(border);
+        let mut units = Units { sent: sent.clone(), bytes: Buffer::new(sent.record.n() * stride), stride };
         write::<Ours>(&mut units);
         units
     }
 }
 
 pub fn write<L: Layer>(u: &mut Units) {
-    let (code, w) = black_box((u.sent.code, u.sent.w));
-    let each = code.unit_bytes(w);
+    let record = black_box(u.sent.record);
+    let each = record.unit_bytes();
     for (i, unit) in u.bytes.chunks_exact_mut(u.stride).enumerate() {
-        L::write(code, w, PROTOCOL, LSC, i + 1, u.sent.symbol(i), &mut unit[..each]).unwrap();
+        L::write(record, i + 1, u.sent.symbol(i), &mut unit[..each]).unwrap();
     }
 }
 
 /// A block that is received, with the work buffers, and what close answered.
 pub struct Receiving {
-    code: Code,
-    w: usize,
+    record: Record,
     pub symbols: Buffer<u8>,
     pub marks: Buffer<u8>,
     pub words: Buffer<u64>,
     pub bytes: Buffer<u8>,
-    pub answer: Option<Closed>,
+    pub found: Option<Found>,
 }
 
 impl Receiving {
-    pub fn new(code: Code, w: usize) -> Receiving {
+    pub fn new(record: Record) -> Receiving {
         Receiving {
-            code,
-            w,
-            symbols: Buffer::new(code.symbol_bytes(w)),
-            marks: Buffer::new(code.n()),
-            words: Buffer::new(code.work_words()),
-            bytes: Buffer::new(code.work_bytes(w)),
-            answer: None,
+            record,
+            symbols: Buffer::new(record.symbol_bytes()),
+            marks: Buffer::new(record.n()),
+            words: Buffer::new(record.work_words()),
+            bytes: Buffer::new(record.work_bytes()),
+            found: None,
         }
     }
 
@@ -110,11 +115,12 @@ impl Receiving {
         self.bytes.fill(0xA5);
         self.symbols.copy_from_slice(word);
         self.marks.fill(1);
+        let w = self.record.w;
         for &i in lost {
-            self.symbols[i * self.w..(i + 1) * self.w].fill(0);
+            self.symbols[i * w..(i + 1) * w].fill(0);
             self.marks[i] = 0;
         }
-        self.answer = None;
+        self.found = None;
     }
 
     pub fn work_is_zero(&self) -> bool {
@@ -123,8 +129,8 @@ impl Receiving {
 }
 
 pub fn close<L: Closing>(b: &mut Receiving) {
-    let (code, w) = black_box((b.code, b.w));
-    b.answer = Some(L::close(code, w, PROTOCOL, LSC, &mut b.symbols, &mut b.marks, &mut b.words, &mut b.bytes).unwrap());
+    let record = black_box(b.record);
+    b.found = Some(L::close(record, &mut b.symbols, &mut b.marks, &mut b.words, &mut b.bytes).unwrap());
 }
 
 /// A block, and all units of it, which stand one after the other.
@@ -135,20 +141,20 @@ pub struct Taking {
 
 impl Taking {
     pub fn new(sent: &Sending) -> Taking {
-        Taking { block: Receiving::new(sent.code, sent.w), units: Units::new(sent, 1) }
+        Taking { block: Receiving::new(sent.record), units: Units::new(sent, 1) }
     }
 }
 
 pub fn open(t: &mut Taking) {
     let b = &mut t.block;
-    calls::open(b.code, b.w, PROTOCOL, LSC, &mut b.symbols, &mut b.marks).unwrap();
+    calls::open(b.record, &mut b.symbols, &mut b.marks).unwrap();
 }
 
 pub fn take<L: Layer>(t: &mut Taking) {
     let b = &mut t.block;
-    let (code, w) = black_box((b.code, b.w));
+    let record = black_box(b.record);
     for unit in t.units.bytes.chunks_exact(t.units.stride) {
-        let answer = L::take(code, w, PROTOCOL, LSC, &mut b.symbols, &mut b.marks, unit);
-        assert_eq!(answer, Ok(Taken::Kept));
+        // not assert_eq!, for which the compiler may store each answer
+        assert!(L::take(record, &mut b.symbols, &mut b.marks, unit) == Ok(Taken::Kept));
     }
 }

@@ -1,27 +1,20 @@
 //! The calls that are measured, by each of those who have them.
 use crate::{plain_close, plain_encode, plain_units, simple_close};
-use lipvezor::{calls, Closed, Code, Refusal, Taken};
+use lipvezor::{calls, Record, Refusal, Taken, Verdict};
+
+/// What close finds: the verdict, and how many symbols were heard, are filled and are left.
+pub type Found = (Verdict, [usize; 3]);
 
 /// Close.
 pub trait Closing {
-    #[allow(clippy::too_many_arguments)]
-    fn close(
-        code: Code,
-        w: usize,
-        protocol: usize,
-        lsc: usize,
-        symbols: &mut [u8],
-        marks: &mut [u8],
-        words: &mut [u64],
-        bytes: &mut [u8],
-    ) -> Result<Closed, Refusal>;
+    fn close(record: Record, symbols: &mut [u8], marks: &mut [u8], words: &mut [u64], bytes: &mut [u8]) -> Result<Found, Refusal>;
 }
 
 /// Encode, write, take and close.
 pub trait Layer: Closing {
-    fn encode(code: Code, w: usize, information: &[u8], parity: &mut [u8]) -> Result<(), Refusal>;
-    fn write(code: Code, w: usize, protocol: usize, lsc: usize, lwc: usize, symbol: &[u8], out: &mut [u8]) -> Result<(), Refusal>;
-    fn take(code: Code, w: usize, protocol: usize, lsc: usize, symbols: &mut [u8], marks: &mut [u8], unit: &[u8]) -> Result<Taken, Refusal>;
+    fn encode(record: Record, information: &[u8], parity: &mut [u8]) -> Result<(), Refusal>;
+    fn write(record: Record, lwc: usize, symbol: &[u8], out: &mut [u8]) -> Result<(), Refusal>;
+    fn take(record: Record, symbols: &mut [u8], marks: &mut [u8], unit: &[u8]) -> Result<Taken, Refusal>;
 }
 
 /// The archive.
@@ -29,34 +22,26 @@ pub struct Ours;
 
 impl Closing for Ours {
     #[inline]
-    fn close(
-        code: Code,
-        w: usize,
-        protocol: usize,
-        lsc: usize,
-        symbols: &mut [u8],
-        marks: &mut [u8],
-        words: &mut [u64],
-        bytes: &mut [u8],
-    ) -> Result<Closed, Refusal> {
-        calls::close(code, w, protocol, lsc, symbols, marks, words, bytes)
+    fn close(record: Record, symbols: &mut [u8], marks: &mut [u8], words: &mut [u64], bytes: &mut [u8]) -> Result<Found, Refusal> {
+        let report = calls::close(record, symbols, marks, words, bytes)?;
+        Ok((report.verdict, [report.heard, report.filled, report.left]))
     }
 }
 
 impl Layer for Ours {
     #[inline]
-    fn encode(code: Code, w: usize, information: &[u8], parity: &mut [u8]) -> Result<(), Refusal> {
-        calls::encode(code, w, information, parity)
+    fn encode(record: Record, information: &[u8], parity: &mut [u8]) -> Result<(), Refusal> {
+        calls::encode(record, information, parity)
     }
 
     #[inline]
-    fn write(code: Code, w: usize, protocol: usize, lsc: usize, lwc: usize, symbol: &[u8], out: &mut [u8]) -> Result<(), Refusal> {
-        calls::write(code, w, protocol, lsc, lwc, symbol, out)
+    fn write(record: Record, lwc: usize, symbol: &[u8], out: &mut [u8]) -> Result<(), Refusal> {
+        calls::write(record, lwc, symbol, out)
     }
 
     #[inline]
-    fn take(code: Code, w: usize, protocol: usize, lsc: usize, symbols: &mut [u8], marks: &mut [u8], unit: &[u8]) -> Result<Taken, Refusal> {
-        calls::take(code, w, protocol, lsc, symbols, marks, unit)
+    fn take(record: Record, symbols: &mut [u8], marks: &mut [u8], unit: &[u8]) -> Result<Taken, Refusal> {
+        calls::take(record, symbols, marks, unit)
     }
 }
 
@@ -65,34 +50,25 @@ pub struct Plain;
 
 impl Closing for Plain {
     #[inline]
-    fn close(
-        code: Code,
-        w: usize,
-        protocol: usize,
-        lsc: usize,
-        symbols: &mut [u8],
-        marks: &mut [u8],
-        words: &mut [u64],
-        bytes: &mut [u8],
-    ) -> Result<Closed, Refusal> {
-        plain_close::close(code.0, w, protocol, lsc, symbols, marks, words, bytes, &mut ())
+    fn close(record: Record, symbols: &mut [u8], marks: &mut [u8], words: &mut [u64], bytes: &mut [u8]) -> Result<Found, Refusal> {
+        plain_close::close(record, symbols, marks, words, bytes, &mut ())
     }
 }
 
 impl Layer for Plain {
     #[inline]
-    fn encode(code: Code, w: usize, information: &[u8], parity: &mut [u8]) -> Result<(), Refusal> {
-        plain_encode::encode(code.0, w, information, parity)
+    fn encode(record: Record, information: &[u8], parity: &mut [u8]) -> Result<(), Refusal> {
+        plain_encode::encode(record, information, parity)
     }
 
     #[inline]
-    fn write(code: Code, w: usize, protocol: usize, lsc: usize, lwc: usize, symbol: &[u8], out: &mut [u8]) -> Result<(), Refusal> {
-        plain_units::write(code.0, w, protocol, lsc, lwc, symbol, out)
+    fn write(record: Record, lwc: usize, symbol: &[u8], out: &mut [u8]) -> Result<(), Refusal> {
+        plain_units::write(record, lwc, symbol, out)
     }
 
     #[inline]
-    fn take(code: Code, w: usize, protocol: usize, lsc: usize, symbols: &mut [u8], marks: &mut [u8], unit: &[u8]) -> Result<Taken, Refusal> {
-        plain_units::take(code.0, w, protocol, lsc, symbols, marks, unit)
+    fn take(record: Record, symbols: &mut [u8], marks: &mut [u8], unit: &[u8]) -> Result<Taken, Refusal> {
+        plain_units::take(record, symbols, marks, unit)
     }
 }
 
@@ -101,16 +77,7 @@ pub struct Simple;
 
 impl Closing for Simple {
     #[inline]
-    fn close(
-        code: Code,
-        w: usize,
-        protocol: usize,
-        lsc: usize,
-        symbols: &mut [u8],
-        marks: &mut [u8],
-        words: &mut [u64],
-        bytes: &mut [u8],
-    ) -> Result<Closed, Refusal> {
-        simple_close::close(code.0, w, protocol, lsc, symbols, marks, words, bytes, &mut ())
+    fn close(record: Record, symbols: &mut [u8], marks: &mut [u8], words: &mut [u64], bytes: &mut [u8]) -> Result<Found, Refusal> {
+        simple_close::close(record, symbols, marks, words, bytes, &mut ())
     }
 }

@@ -23,11 +23,11 @@ mod simple_close;
 #[path = "../../support/tables.rs"]
 mod tables;
 
-use blocks::{close, encode, open, take, write, Receiving, Sending, Taking, Units};
+use blocks::{close, encode, open, record, seed, take, write, Receiving, Sending, Taking, Units};
 #[cfg(earlier)]
 use earlier::Earlier;
 use layers::{Ours, Plain, Simple};
-use lipvezor::Code;
+use lipvezor::{Code, Record};
 use measure::{cold, median, order, rounds, time, Side};
 use random::Random;
 use std::time::{Duration, Instant};
@@ -80,7 +80,8 @@ impl Line {
     }
 
     fn print(&self, more: &str) {
-        let mut line = format!("bench {} ours={:.1} rust={:.1} ratio={:.2} unit={}", self.name, self.ours, self.rust, self.ratio(), self.unit);
+        let mut line =
+            format!("bench {} ours={:.1} rust={:.1} ratio={:.2} unit={}", self.name, self.ours, self.rust, self.ratio(), self.unit);
         if let (Some(earlier), Some(gain)) = (self.earlier, self.gain()) {
             line += &format!(" earlier={earlier:.1} gain={gain:.2}");
         }
@@ -92,14 +93,14 @@ impl Line {
 }
 
 /// The row additions of plain Rust's elimination and of the simple one, on a block that was just heard.
-fn count_additions(block: &mut Receiving, code: Code, w: usize, hear: impl Fn(&mut Receiving)) -> [usize; 2] {
+fn count_additions(block: &mut Receiving, record: Record, hear: impl Fn(&mut Receiving)) -> [usize; 2] {
     let mut additions = [0, 0];
     hear(block);
     let b = &mut *block;
-    plain_close::close(code.0, w, 0, 1, &mut b.symbols, &mut b.marks, &mut b.words, &mut b.bytes, &mut additions[0]).unwrap();
+    plain_close::close(record, &mut b.symbols, &mut b.marks, &mut b.words, &mut b.bytes, &mut additions[0]).unwrap();
     hear(block);
     let b = &mut *block;
-    simple_close::close(code.0, w, 0, 1, &mut b.symbols, &mut b.marks, &mut b.words, &mut b.bytes, &mut additions[1]).unwrap();
+    simple_close::close(record, &mut b.symbols, &mut b.marks, &mut b.words, &mut b.bytes, &mut additions[1]).unwrap();
     additions
 }
 
@@ -134,7 +135,7 @@ impl Bench {
     }
 
     fn encoding(&mut self, sent: &mut Sending) {
-        let name = format!("encode/C{}/W{}", sent.code.0, sent.w);
+        let name = format!("encode/{}/W{}", sent.record.code, sent.record.w);
         if !self.wants(&name) {
             return;
         }
@@ -145,21 +146,21 @@ impl Bench {
     }
 
     /// Units one after the other, or each on a border of so many bytes.
-    fn writing(&mut self, code: Code, w: usize, border: usize) {
+    fn writing(&mut self, record: Record, border: usize) {
         let place = if border > 1 { format!("/on{border}") } else { String::new() };
-        let name = format!("write/C{}/W{w}{place}", code.0);
+        let name = format!("write/{}/W{}{place}", record.code, record.w);
         if !self.wants(&name) {
             return;
         }
-        let units = &mut Units::new(&Sending::new(code, w), border);
+        let units = &mut Units::new(&Sending::new(record), border);
         let sides: &[Side<Units>] = sides!(write);
         Bench::agree(&name, units, |u| u.bytes.fill(0xA5), sides, |u| u.bytes.to_vec());
         let seconds = rounds(units, self.each, self.rounds[0], None, sides);
-        self.line(Line::new(name, "Munits/s", code.n() as f64 / 1e6, &seconds), "");
+        self.line(Line::new(name, "Munits/s", record.n() as f64 / 1e6, &seconds), "");
     }
 
     fn taking(&mut self, sent: &Sending) {
-        let name = format!("take/C{}/W{}", sent.code.0, sent.w);
+        let name = format!("take/{}/W{}", sent.record.code, sent.record.w);
         if !self.wants(&name) {
             return;
         }
@@ -172,18 +173,19 @@ impl Bench {
 
     /// Each round has a loss pattern that none had before, and every side closes it once.
     fn closing(&mut self, sent: &Sending, percent: usize) {
-        let name = format!("close/C{}/W{}/{percent}%", sent.code.0, sent.w);
+        let (record, word) = (sent.record, sent.word());
+        let (code, w) = (record.code, record.w);
+        let name = format!("close/{code}/W{w}/{percent}%");
         if !self.wants(&name) {
             return;
         }
-        let (code, w, word) = (sent.code, sent.w, sent.word());
         let missing = (code.m() * percent + 50) / 100;
-        let block = &mut Receiving::new(code, w);
+        let block = &mut Receiving::new(record);
         let sides: &[Side<Receiving>] = sides!(close, close::<Simple>);
-        let mut random = Random::new((code.0 * 2048 + w) as u64 * 1000 + percent as u64);
+        let mut random = Random::new(seed(record) * 1000 + percent as u64);
         let mut times = vec![Vec::new(); sides.len()];
         let mut additions = [0, 0];
-        let outcome = |b: &Receiving| (b.answer, b.symbols.to_vec(), b.marks.to_vec(), b.work_is_zero());
+        let outcome = |b: &Receiving| (b.found, b.symbols.to_vec(), b.marks.to_vec(), b.work_is_zero());
         let start = Instant::now();
         let [least, most] = self.rounds;
         for round in 0..most {
@@ -201,7 +203,7 @@ impl Bench {
                 assert!(*first.get_or_insert_with(|| outcome.clone()) == outcome, "{name}: the sides differ");
             }
             if round < COUNTED {
-                let counted = count_additions(block, code, w, hear);
+                let counted = count_additions(block, record, hear);
                 additions = [additions[0] + counted[0], additions[1] + counted[1]];
                 let wrong = pattern[missing] * w;
                 let hear_wrong = |b: &mut Receiving| {
@@ -219,7 +221,7 @@ impl Bench {
     }
 
     fn encoding_cold(&mut self, sent: &Sending) {
-        let name = format!("cold/encode/C{}/W{}", sent.code.0, sent.w);
+        let name = format!("cold/encode/{}/W{}", sent.record.code, sent.record.w);
         if !self.wants(&name) {
             return;
         }
@@ -233,19 +235,21 @@ impl Bench {
     }
 
     fn closing_cold(&mut self, sent: &Sending) {
-        let (code, w, word) = (sent.code, sent.w, sent.word());
-        let name = |percent: usize| format!("cold/close/C{}/W{w}/{percent}%", code.0);
+        let (record, word) = (sent.record, sent.word());
+        let code = record.code;
+        let name = |percent: usize| format!("cold/close/{code}/W{}/{percent}%", record.w);
         if !MISSING.iter().any(|&percent| self.wants(&name(percent))) {
             return;
         }
-        let size = Receiving::new(code, w).size();
-        let mut blocks: Vec<Receiving> = (0..COLD / size).map(|_| Receiving::new(code, w)).collect();
+        let size = Receiving::new(record).size();
+        let mut blocks: Vec<Receiving> = (0..COLD / size).map(|_| Receiving::new(record)).collect();
         for percent in MISSING {
             if !self.wants(&name(percent)) {
                 continue;
             }
             let missing = (code.m() * percent + 50) / 100;
-            let prepare = |b: &mut Receiving, i: usize| b.hear(&word, &Random::new((percent << 16 | i) as u64).shuffled(code.n())[..missing]);
+            let prepare =
+                |b: &mut Receiving, i: usize| b.hear(&word, &Random::new((percent << 16 | i) as u64).shuffled(code.n())[..missing]);
             let most = self.rounds[0] * 4;
             let seconds = cold(&mut blocks, most, prepare, sides!(close));
             let more = format!(" patterns={}", most.min(blocks.len()));
@@ -308,17 +312,22 @@ fn main() {
         "close: so much of m is missing. Each round has a loss pattern that none had before; each side closes it once, and all must leave the same."
     );
     println!("  The block and the work buffers were written just before. simple: least-weight Gauss-Jordan; additions: of rows, in the elimination.");
-    println!("cold: nothing that a run is handed is in a cache. It has a block and work buffers of its own, and {} MB of others", COLD >> 20);
+    println!(
+        "cold: nothing that a run is handed is in a cache. It has a block and work buffers of its own, and {} MB of others",
+        COLD >> 20
+    );
     println!("  were written since these were.");
-    if cfg!(earlier) {
+    #[cfg(earlier)]
+    {
+        earlier::check_shape();
         println!("earlier: the archive of an earlier version; gain: ours to it.");
     }
     for code in [Code::C1, Code::C2] {
         for (w, border) in [(1, 1), (16, 1), (1024, 1), (1024, 16)] {
-            bench.writing(code, w, border);
+            bench.writing(record(code, w), border);
         }
         for w in [1, 16, 64, 1024] {
-            let mut sent = Sending::new(code, w);
+            let mut sent = Sending::new(record(code, w));
             bench.encoding(&mut sent);
             bench.taking(&sent);
             for percent in MISSING {
@@ -327,7 +336,7 @@ fn main() {
         }
     }
     for w in [16, 1024] {
-        let sent = Sending::new(Code::C2, w);
+        let sent = Sending::new(record(Code::C2, w));
         bench.encoding_cold(&sent);
         bench.closing_cold(&sent);
     }

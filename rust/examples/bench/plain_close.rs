@@ -1,8 +1,9 @@
 //! Close in plain Rust: the steps of `decoder` and `block::close`, in their order.
+use crate::layers::Found;
 use crate::plain_gather::{cancels, put_sum, restore};
 use crate::plain_rows::{eliminate, only, System, Tally};
 use crate::plain_tables::{check_block, check_length, Layout, Positions, MOST};
-use lipvezor::{Closed, Refusal, Verdict};
+use lipvezor::{Record, Refusal, Verdict};
 
 /// What is known of a position.
 #[derive(Clone, Copy, PartialEq)]
@@ -306,20 +307,10 @@ fn finish(ok: bool, w: usize, symbols: &mut [u8], marks: &mut [u8]) -> bool {
 }
 
 /// Close's refusals.
-#[allow(clippy::too_many_arguments)]
-pub fn check_close(
-    code: usize,
-    w: usize,
-    protocol: usize,
-    lsc: usize,
-    symbols: &[u8],
-    marks: &[u8],
-    words: &[u64],
-    bytes: &[u8],
-) -> Result<&'static Layout, Refusal> {
-    let layout = check_block(code, w, protocol, lsc, symbols, marks)?;
+pub fn check_close(record: Record, symbols: &[u8], marks: &[u8], words: &[u64], bytes: &[u8]) -> Result<&'static Layout, Refusal> {
+    let layout = check_block(record, symbols, marks)?;
     check_length(words.len(), layout.m * (layout.n() / 64 + 1))?;
-    check_length(bytes.len(), layout.m * w)?;
+    check_length(bytes.len(), layout.m * record.w)?;
     if marks.iter().any(|&mark| mark > 2) {
         return Err(Refusal::Mark);
     }
@@ -327,7 +318,7 @@ pub fn check_close(
 }
 
 /// The verdict, from the marks afterwards.
-pub fn tell(ok: bool, marks: &[u8]) -> Closed {
+pub fn tell(ok: bool, marks: &[u8]) -> Found {
     let count = |v| marks.iter().filter(|&&mark| mark == v).count();
     let (heard, filled, left) = (count(1), count(2), count(0));
     let verdict = match (ok, left) {
@@ -335,26 +326,24 @@ pub fn tell(ok: bool, marks: &[u8]) -> Closed {
         (true, 0) => Verdict::Whole,
         (true, _) => Verdict::Ambiguous,
     };
-    Closed { verdict, heard, filled, left }
+    (verdict, [heard, filled, left])
 }
 
 #[inline(never)]
-#[allow(clippy::too_many_arguments)]
 pub fn close<T: Tally>(
-    code: usize,
-    w: usize,
-    protocol: usize,
-    lsc: usize,
+    record: Record,
     symbols: &mut [u8],
     marks: &mut [u8],
     words: &mut [u64],
     bytes: &mut [u8],
     tally: &mut T,
-) -> Result<Closed, Refusal> {
-    let layout = check_close(code, w, protocol, lsc, symbols, marks, words, bytes)?;
+) -> Result<Found, Refusal> {
+    let layout = check_close(record, symbols, marks, words, bytes)?;
+    let w = record.w;
     let mut plan = Plan::new(layout, w, marks);
     plan.peel(symbols, marks);
-    let ok = if plan.put_off == 0 { finish(plan.hold(symbols), w, symbols, marks) } else { plan.by_pivots(symbols, marks, words, bytes, tally) };
+    let ok =
+        if plan.put_off == 0 { finish(plan.hold(symbols), w, symbols, marks) } else { plan.by_pivots(symbols, marks, words, bytes, tally) };
     words.fill(0);
     bytes.fill(0);
     Ok(tell(ok, marks))

@@ -1,11 +1,12 @@
 //! Encode in plain Rust: the steps of `ccsds::encode`.
 use crate::plain_gather::put_sum;
 use crate::plain_tables::{check_code, check_length, Positions, MOST};
-use lipvezor::Refusal;
+use lipvezor::{Record, Refusal};
 
 #[inline(never)]
-pub fn encode(code: usize, w: usize, information: &[u8], parity: &mut [u8]) -> Result<(), Refusal> {
-    let layout = check_code(code, w)?;
+pub fn encode(record: Record, information: &[u8], parity: &mut [u8]) -> Result<(), Refusal> {
+    let layout = check_code(record)?;
+    let w = record.w;
     check_length(information.len(), layout.k * w)?;
     check_length(parity.len(), layout.m * w)?;
     let positions = Positions::lay(layout);

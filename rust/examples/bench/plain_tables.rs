@@ -1,6 +1,6 @@
 //! The two codes as plain Rust has them, and the checks that several calls share.
 use crate::tables;
-use lipvezor::Refusal;
+use lipvezor::{Code, Record, Refusal};
 
 /// A code's numbers, and its table: the addresses of each table row.
 pub struct Layout {
@@ -16,8 +16,8 @@ static C1: Layout = Layout { k: 512, m: 256, q: 32, a: 8, table: &tables::C1 };
 static C2: Layout = Layout { k: 2048, m: 1024, q: 128, a: 8, table: &tables::C2 };
 
 impl Layout {
-    pub fn of(code: usize) -> Option<&'static Layout> {
-        match code {
+    pub fn of(code: Code) -> Option<&'static Layout> {
+        match code.number() {
             1 => Some(&C1),
             2 => Some(&C2),
             _ => None,
@@ -113,17 +113,17 @@ impl Positions {
 }
 
 /// Refusals 1 and 2.
-pub fn check_code(code: usize, w: usize) -> Result<&'static Layout, Refusal> {
-    let layout = Layout::of(code).ok_or(Refusal::Code)?;
-    if w == 0 || w > 1024 {
+pub fn check_code(record: Record) -> Result<&'static Layout, Refusal> {
+    let layout = Layout::of(record.code).ok_or(Refusal::Code)?;
+    if record.w == 0 || record.w > 1024 {
         return Err(Refusal::Width);
     }
     Ok(layout)
 }
 
 /// Refusal 3.
-pub fn check_label(protocol: usize, lsc: usize) -> Result<(), Refusal> {
-    if lsc == 0 || lsc > 65534 || protocol > 7 {
+pub fn check_label(record: Record) -> Result<(), Refusal> {
+    if record.lsc == 0 || record.lsc > 65534 || record.protocol > 7 {
         return Err(Refusal::Label);
     }
     Ok(())
@@ -138,10 +138,10 @@ pub fn check_length(is: usize, asked: usize) -> Result<(), Refusal> {
 }
 
 /// Refusals 1 to 4, of a block.
-pub fn check_block(code: usize, w: usize, protocol: usize, lsc: usize, symbols: &[u8], marks: &[u8]) -> Result<&'static Layout, Refusal> {
-    let layout = check_code(code, w)?;
-    check_label(protocol, lsc)?;
-    check_length(symbols.len(), layout.n() * w)?;
+pub fn check_block(record: Record, symbols: &[u8], marks: &[u8]) -> Result<&'static Layout, Refusal> {
+    let layout = check_code(record)?;
+    check_label(record)?;
+    check_length(symbols.len(), layout.n() * record.w)?;
     check_length(marks.len(), layout.n())?;
     Ok(layout)
 }

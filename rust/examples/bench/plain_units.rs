@@ -1,6 +1,6 @@
 //! Write and take in plain Rust: the steps of `ccsds::writer`, `ccsds::reader` and `block::take`.
 use crate::plain_tables::{check_block, check_code, check_label, check_length, Layout};
-use lipvezor::{Parameters, Refusal, Taken, UnitParts};
+use lipvezor::{Record, Refusal, Taken};
 
 /// An output that is written from the front.
 struct Output<'a> {
@@ -36,10 +36,10 @@ impl Output<'_> {
 }
 
 #[inline(never)]
-pub fn write(code: usize, w: usize, protocol: usize, lsc: usize, lwc: usize, symbol: &[u8], out: &mut [u8]) -> Result<(), Refusal> {
-    let layout = check_code(code, w)?;
-    check_label(protocol, lsc)?;
-    let (k, n) = (layout.k, layout.n());
+pub fn write(record: Record, lwc: usize, symbol: &[u8], out: &mut [u8]) -> Result<(), Refusal> {
+    let layout = check_code(record)?;
+    check_label(record)?;
+    let (k, n, w) = (layout.k, layout.n(), record.w);
     let value = if w >= 128 { 7 } else { 6 };
     check_length(out.len(), 8 + value + w)?;
     if lwc == 0 || lwc > n {
@@ -49,10 +49,10 @@ pub fn write(code: usize, w: usize, protocol: usize, lsc: usize, lwc: usize, sym
         return Err(Refusal::Symbol);
     }
     let mut out = Output { bytes: out, at: 0 };
-    out.byte(16 + protocol * 2);
+    out.byte(16 + record.protocol * 2);
     out.byte(1);
     out.pair(lwc);
-    out.pair(lsc);
+    out.pair(record.lsc);
     out.byte(1);
     out.byte(value);
     out.sdnv(w);
@@ -61,6 +61,24 @@ pub fn write(code: usize, w: usize, protocol: usize, lsc: usize, lwc: usize, sym
     out.byte(0);
     out.bytes[out.at..].copy_from_slice(symbol);
     Ok(())
+}
+
+/// What a unit's coding parameters say.
+#[derive(PartialEq)]
+struct Parameters {
+    w: usize,
+    k: usize,
+    n: usize,
+    seed: usize,
+}
+
+/// What a unit says, and where its symbol starts.
+struct Parts {
+    protocol: usize,
+    lwc: usize,
+    lsc: usize,
+    symbol: usize,
+    coding: Option<Parameters>,
 }
 
 /// How the reading of a number ends: with the number and the position after it, with the bytes, or at a byte that can't be accepted.
@@ -121,7 +139,7 @@ fn read_extension(s: &[u8], came: bool, at: usize) -> Result<(Option<Parameters>
     Ok((Some(read_parameters(value)?), start + len))
 }
 
-fn read(s: &[u8]) -> Result<UnitParts, Refusal> {
+fn read(s: &[u8]) -> Result<Parts, Refusal> {
     let [first, count, w1, w0, c1, c0, ..] = *s else {
         return Err(Refusal::Header);
     };
@@ -135,9 +153,8 @@ fn read(s: &[u8]) -> Result<UnitParts, Refusal> {
         coding = coding.or(found);
         at = end;
     }
-    Ok(UnitParts {
+    Ok(Parts {
         protocol: (first / 2 % 8) as usize,
-        count: count as usize,
         lwc: u16::from_be_bytes([w1, w0]) as usize,
         lsc: u16::from_be_bytes([c1, c0]) as usize,
         symbol: at,
@@ -151,7 +168,8 @@ fn sdnv_2(v: usize) -> [u8; 2] {
 }
 
 /// What a unit says whose bytes before its symbol are those that `write` makes for these numbers, whatever its LWC.
-fn read_expected(layout: &Layout, w: usize, protocol: usize, lsc: usize, s: &[u8]) -> Option<UnitParts> {
+fn read_expected(layout: &Layout, record: Record, s: &[u8]) -> Option<Parts> {
+    let Record { w, protocol, lsc, .. } = record;
     let (k, n) = (layout.k, layout.n());
     let [first, count, w1, w0, c1, c0, a, b, c, d, e, f, g, h, i, ..] = *s else {
         return None;
@@ -173,33 +191,34 @@ fn read_expected(layout: &Layout, w: usize, protocol: usize, lsc: usize, s: &[u8
         15
     };
     let coding = Some(Parameters { w, k, n, seed: 0 });
-    Some(UnitParts { protocol, count: 1, lwc: u16::from_be_bytes([w1, w0]) as usize, lsc, symbol, coding })
+    Some(Parts { protocol, lwc: u16::from_be_bytes([w1, w0]) as usize, lsc, symbol, coding })
 }
 
 /// The position of a unit of `len` bytes that says these parts.
-fn admit(layout: &Layout, w: usize, protocol: usize, lsc: usize, parts: UnitParts, len: usize) -> Result<usize, Refusal> {
-    if parts.coding != Some(Parameters { w, k: layout.k, n: layout.n(), seed: 0 }) {
+fn admit(layout: &Layout, record: Record, parts: Parts, len: usize) -> Result<usize, Refusal> {
+    if parts.coding != Some(Parameters { w: record.w, k: layout.k, n: layout.n(), seed: 0 }) {
         return Err(Refusal::Parameters);
     }
-    if parts.lsc != lsc || parts.protocol != protocol {
+    if parts.lsc != record.lsc || parts.protocol != record.protocol {
         return Err(Refusal::Foreign);
     }
     if parts.lwc == 0 || parts.lwc > layout.n() {
         return Err(Refusal::Position);
     }
-    if len - parts.symbol != w {
+    if len - parts.symbol != record.w {
         return Err(Refusal::Symbol);
     }
     Ok(parts.lwc - 1)
 }
 
 #[inline(never)]
-pub fn take(code: usize, w: usize, protocol: usize, lsc: usize, symbols: &mut [u8], marks: &mut [u8], unit: &[u8]) -> Result<Taken, Refusal> {
-    let layout = check_block(code, w, protocol, lsc, symbols, marks)?;
-    let position = match read_expected(layout, w, protocol, lsc, unit) {
-        Some(parts) => admit(layout, w, protocol, lsc, parts, unit.len())?,
-        None => admit(layout, w, protocol, lsc, read(unit)?, unit.len())?,
+pub fn take(record: Record, symbols: &mut [u8], marks: &mut [u8], unit: &[u8]) -> Result<Taken, Refusal> {
+    let layout = check_block(record, symbols, marks)?;
+    let position = match read_expected(layout, record, unit) {
+        Some(parts) => admit(layout, record, parts, unit.len())?,
+        None => admit(layout, record, read(unit)?, unit.len())?,
     };
+    let w = record.w;
     let symbol = &unit[unit.len() - w..];
     let place = &mut symbols[position * w..(position + 1) * w];
     match marks[position] {

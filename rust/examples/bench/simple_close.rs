@@ -1,9 +1,10 @@
 //! Close by plain least-weight Gauss-Jordan elimination on packed rows with a digit for each position: in each turn the row of least weight among
 //! those without a pivot gets its lowest position as pivot, and is added to all other rows that have it.
+use crate::layers::Found;
 use crate::plain_close::{check_close, tell};
 use crate::plain_rows::{add, lowest, only, weight, System, Tally};
 use crate::plain_tables::Layout;
-use lipvezor::{Closed, Refusal};
+use lipvezor::{Record, Refusal};
 
 /// The weight that stands for a row that has its pivot.
 const DONE: usize = usize::MAX;
@@ -117,19 +118,16 @@ fn settle(system: &System, symbols: &mut [u8], marks: &mut [u8]) -> bool {
 }
 
 #[inline(never)]
-#[allow(clippy::too_many_arguments)]
 pub fn close<T: Tally>(
-    code: usize,
-    w: usize,
-    protocol: usize,
-    lsc: usize,
+    record: Record,
     symbols: &mut [u8],
     marks: &mut [u8],
     words: &mut [u64],
     bytes: &mut [u8],
     tally: &mut T,
-) -> Result<Closed, Refusal> {
-    let layout = check_close(code, w, protocol, lsc, symbols, marks, words, bytes)?;
+) -> Result<Found, Refusal> {
+    let layout = check_close(record, symbols, marks, words, bytes)?;
+    let w = record.w;
     let packed = layout.n() / 64;
     let mut system = System { rows: &mut words[..layout.m * (packed + 1)], rhs: &mut bytes[..], words: packed, w };
     build(&mut system, layout, symbols, marks);
