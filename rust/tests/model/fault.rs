@@ -1,4 +1,4 @@
-//! The errors seen elsewhere, wrong readings of extensions, wrong writings of units and wrong showings, each of which the model can be given on purpose.
+//! The errors seen elsewhere, wrong readings of extensions, wrong writings of units and wrong showings. The model can be given each on purpose.
 
 #[derive(Clone, Copy, Debug, Default, PartialEq, Eq)]
 pub enum Fault {
