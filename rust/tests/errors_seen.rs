@@ -1,5 +1,5 @@
-//! Each error seen elsewhere, each wrong reading of extensions and each wrong writing of units, put into the model, is found by the comparisons;
-//! without one they find nothing.
+//! Each error seen elsewhere, each wrong reading of extensions, each wrong writing of units and each wrong showing, put into the model, is found by
+//! the comparisons; without one they find nothing.
 mod compare;
 mod model;
 
@@ -95,6 +95,12 @@ static READINGS: [Comparison; 6] = [
 static WRITINGS: [Comparison; 2] = [
     Comparison { name: "written units of C1", run: |fault| units::written(&codes::C1, fault, &mut random()), finds: &Fault::MISWRITTEN },
     Comparison { name: "written units of C2", run: |fault| units::written(&codes::C2, fault, &mut random()), finds: &Fault::MISWRITTEN },
+];
+
+/// For the wrong showings.
+static SHOWINGS: [Comparison; 2] = [
+    Comparison { name: "shown symbols of C1", run: |fault| units::shown(&codes::C1, 3, fault, &mut random()), finds: &Fault::MISSHOWN },
+    Comparison { name: "shown symbols of C2", run: |fault| units::shown(&codes::C2, 1, fault, &mut random()), finds: &Fault::MISSHOWN },
 ];
 
 fn random() -> Random {
@@ -198,4 +204,14 @@ fn last_byte_of_an_odd_width_left_out() {
 #[test]
 fn length_of_the_value_one_too_large() {
     check(&WRITINGS, Fault::ValueLengthOneMore);
+}
+
+#[test]
+fn position_tried_before_lengths() {
+    check(&SHOWINGS, Fault::PositionBeforeLength);
+}
+
+#[test]
+fn shown_to_an_output_of_any_length() {
+    check(&SHOWINGS, Fault::ShownToAnyOutput);
 }

@@ -1,4 +1,5 @@
 //! The crate's own types against the model: Codeword, Block, the bytes that Closed gives out, Receiver.
+#![cfg(feature = "alloc")]
 mod compare;
 mod model;
 

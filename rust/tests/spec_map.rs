@@ -5,7 +5,7 @@ use std::fs;
 use std::path::{Path, PathBuf};
 
 const MAP: &str = "docs/SPEC-MAP.md";
-const DOCUMENTS: [&str; 6] = [MAP, "README.md", "docs/PROOFS.md", "DEVELOPING.md", "docs/DECISIONS.md", "docs/PICS.md"];
+const DOCUMENTS: [&str; 7] = [MAP, "README.md", "docs/PROOFS.md", "DEVELOPING.md", "docs/DECISIONS.md", "docs/PICS.md", "docs/gather.md"];
 /// Those that name the edits.
 const EDITS_IN: [&str; 3] = [MAP, "README.md", "docs/PROOFS.md"];
 

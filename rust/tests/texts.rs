@@ -50,7 +50,7 @@ const VERSIONS: &str = r#"
 
 int main(void)
 {
-    printf("%s %zu %zu\n", LIPVEZOR_VERSION_TEXT, LIPVEZOR_VERSION, lipvezor_version());
+    printf("%s %zu %zu\n", LIPVEZOR_VERSION_TEXT, (size_t)LIPVEZOR_VERSION, lipvezor_version());
     return 0;
 }
 "#;

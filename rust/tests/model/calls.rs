@@ -16,12 +16,17 @@ pub fn encode(record: Record, information: &[u8], parity: &mut [u8], fault: Faul
 pub fn show(record: Record, information: &[u8], parity: &[u8], lwc: usize, out: &mut [u8], fault: Fault) -> Result<(), u8> {
     let code = record.code_and_width()?;
     let w = record.w;
-    refuse_if(information.len() != code.k * w || parity.len() != code.m * w || out.len() != w, 4)?;
-    let position = code.position(lwc, fault).ok_or(9)?;
-    out.copy_from_slice(match position.checked_sub(code.k) {
+    let position = code.position(lwc, fault);
+    refuse_if(fault == Fault::PositionBeforeLength && position.is_none(), 9)?;
+    refuse_if(information.len() != code.k * w || parity.len() != code.m * w, 4)?;
+    refuse_if(out.len() != w && fault != Fault::ShownToAnyOutput, 4)?;
+    let position = position.ok_or(9)?;
+    let symbol = match position.checked_sub(code.k) {
         None => &information[position * w..][..w],
         Some(j) => &parity[j * w..][..w],
-    });
+    };
+    let shown = out.len().min(w);
+    out[..shown].copy_from_slice(&symbol[..shown]);
     Ok(())
 }
 

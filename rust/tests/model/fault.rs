@@ -1,4 +1,4 @@
-//! The errors seen elsewhere, wrong readings of extensions and wrong writings of units, each of which the model can be given on purpose.
+//! The errors seen elsewhere, wrong readings of extensions, wrong writings of units and wrong showings. The model can be given each on purpose.
 
 #[derive(Clone, Copy, Debug, Default, PartialEq, Eq)]
 pub enum Fault {
@@ -34,6 +34,10 @@ pub enum Fault {
     OddWidthCut,
     /// The length of type 1's value is written one too large.
     ValueLengthOneMore,
+    /// Show looks at the LWC before the lengths.
+    PositionBeforeLength,
+    /// Show copies as much of the symbol as the output holds.
+    ShownToAnyOutput,
 }
 
 impl Fault {
@@ -54,4 +58,7 @@ impl Fault {
 
     /// The wrong writings.
     pub const MISWRITTEN: [Fault; 3] = [Fault::SymbolFromSecondByte, Fault::OddWidthCut, Fault::ValueLengthOneMore];
+
+    /// The wrong showings.
+    pub const MISSHOWN: [Fault; 2] = [Fault::PositionBeforeLength, Fault::ShownToAnyOutput];
 }

@@ -57,6 +57,7 @@ pub fn rust(name: &str, text: &str) -> String {
     fs::write(folder.join("Cargo.toml"), manifest).unwrap();
     let mut cargo = Command::new(env!("CARGO"));
     cargo.args(["rustc", "--offline", "--quiet", "--jobs", "1", "--", "-D", "warnings"]).current_dir(&folder);
-    run(cargo.env("LIPVEZOR_LIB_DIR", archive_folder()).env("CARGO_TARGET_DIR", folder.join("target")));
+    cargo.env("LIPVEZOR_LIB_DIR", archive_folder()).env("CARGO_TARGET_DIR", folder.join("target")).env_remove("LIPVEZOR_EARLIER");
+    run(&mut cargo);
     run(Command::new(folder.join("target/debug/user")).current_dir(&folder))
 }
