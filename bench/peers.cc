@@ -314,7 +314,7 @@ struct Loss {
     }
 };
 
-lipvezor_block record(size_t w)
+lipvezor_block record_of(size_t w)
 {
     return lipvezor_block{LIPVEZOR_C2, w, 1, 7};
 }
@@ -347,7 +347,8 @@ struct Block {
 
     void close()
     {
-        uint8_t refused = lipvezor_close(record(w), symbols.data(), symbols.size(), marks.data(), marks.size(), words.data(), words.size(),
+        const lipvezor_block record = record_of(w);
+        uint8_t refused = lipvezor_close(&record, symbols.data(), symbols.size(), marks.data(), marks.size(), words.data(), words.size(),
                                          bytes.data(), bytes.size(), &report);
         check(refused == LIPVEZOR_DONE, "lipvezor_close refused");
     }
@@ -367,7 +368,8 @@ void encode_all(CM256 &cm256, Sent &sent)
     std::vector<Side> sides = {
         {"lipvezor", 1, [&] { touch(sent.ours); },
          [&] {
-             uint8_t refused = lipvezor_encode(record(w), sent.information.data(), K * w, sent.ours.data(), M * w);
+             const lipvezor_block record = record_of(w);
+             uint8_t refused = lipvezor_encode(&record, sent.information.data(), K * w, sent.ours.data(), M * w);
              check(refused == LIPVEZOR_DONE, "lipvezor_encode refused");
          },
          nothing, {}},

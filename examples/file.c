@@ -141,11 +141,11 @@ static void send_block(struct link *link, lipvezor_block block, struct bytes inf
     static uint8_t parity[LIPVEZOR_PARITY_BYTES(C2, LIPVEZOR_MAX_WIDTH)];
     static uint8_t symbol[LIPVEZOR_MAX_WIDTH];
     const size_t parity_length = lipvezor_parity_bytes(block.code, block.w);
-    expect_done("encode", lipvezor_encode(block, information.at, information.length, parity, parity_length));
+    expect_done("encode", lipvezor_encode(&block, information.at, information.length, parity, parity_length));
     for (size_t lwc = 1; lwc <= lipvezor_n(block.code); lwc++) {
         struct unit *unit = new_unit(lipvezor_unit_bytes(block.code, block.w));
-        expect_done("show", lipvezor_show(block, information.at, information.length, parity, parity_length, lwc, symbol, block.w));
-        expect_done("write", lipvezor_write(block, lwc, symbol, block.w, unit->bytes, unit->length));
+        expect_done("show", lipvezor_show(&block, information.at, information.length, parity, parity_length, lwc, symbol, block.w));
+        expect_done("write", lipvezor_write(&block, lwc, symbol, block.w, unit->bytes, unit->length));
         link->units[link->count++] = unit;
     }
 }
@@ -212,7 +212,7 @@ static uint8_t open_received(const lipvezor_parts *parts, struct received **open
     block->symbols.at = allocate(block->symbols.length);
     block->marks.length = lipvezor_n(block->record.code);
     block->marks.at = allocate(block->marks.length);
-    uint8_t refused = lipvezor_open(block->record, block->symbols.at, block->symbols.length, block->marks.at, block->marks.length);
+    uint8_t refused = lipvezor_open(&block->record, block->symbols.at, block->symbols.length, block->marks.at, block->marks.length);
     if (refused)
         free_received(block);
     else
@@ -233,7 +233,7 @@ static uint8_t take_unit(struct receiver *receiver, const struct unit *unit, lip
     if (refused)
         return refused;
     struct received *block = *place;
-    return lipvezor_take(block->record, block->symbols.at, block->symbols.length, block->marks.at, block->marks.length, unit->bytes,
+    return lipvezor_take(&block->record, block->symbols.at, block->symbols.length, block->marks.at, block->marks.length, unit->bytes,
                          unit->length, taken);
 }
 
@@ -258,7 +258,7 @@ static void close_received(struct received *block)
     static uint64_t work_words[LIPVEZOR_WORK_WORDS(C2)];
     static uint8_t work_bytes[LIPVEZOR_WORK_BYTES(C2, LIPVEZOR_MAX_WIDTH)];
     const size_t words = lipvezor_work_words(block->record.code), bytes = lipvezor_work_bytes(block->record.code, block->record.w);
-    expect_done("close", lipvezor_close(block->record, block->symbols.at, block->symbols.length, block->marks.at, block->marks.length,
+    expect_done("close", lipvezor_close(&block->record, block->symbols.at, block->symbols.length, block->marks.at, block->marks.length,
                                         work_words, words, work_bytes, bytes, &block->report));
 }
 

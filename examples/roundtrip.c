@@ -34,15 +34,15 @@ static int fail(const char *call, uint8_t refused)
 /* on board: 0, or 1 if a call refused */
 static int send_block(void)
 {
-    uint8_t refused = lipvezor_encode(block, information, sizeof information, parity, sizeof parity);
+    uint8_t refused = lipvezor_encode(&block, information, sizeof information, parity, sizeof parity);
     if (refused)
         return fail("encode", refused);
     for (size_t lwc = 1; lwc <= N; lwc++) {
         uint8_t symbol[W];
-        refused = lipvezor_show(block, information, sizeof information, parity, sizeof parity, lwc, symbol, sizeof symbol);
+        refused = lipvezor_show(&block, information, sizeof information, parity, sizeof parity, lwc, symbol, sizeof symbol);
         if (refused)
             return fail("show", refused);
-        refused = lipvezor_write(block, lwc, symbol, sizeof symbol, units[lwc - 1], sizeof units[lwc - 1]);
+        refused = lipvezor_write(&block, lwc, symbol, sizeof symbol, units[lwc - 1], sizeof units[lwc - 1]);
         if (refused)
             return fail("write", refused);
     }
@@ -58,18 +58,18 @@ static int lost(size_t lwc)
 /* on the ground: 0 and what close found, or 1 if a call refused */
 static int receive_block(lipvezor_report *report)
 {
-    uint8_t refused = lipvezor_open(block, symbols, sizeof symbols, marks, sizeof marks);
+    uint8_t refused = lipvezor_open(&block, symbols, sizeof symbols, marks, sizeof marks);
     if (refused)
         return fail("open", refused);
     for (size_t lwc = N; lwc >= 1; lwc--) {
         lipvezor_taken taken;
         if (lost(lwc))
             continue;
-        refused = lipvezor_take(block, symbols, sizeof symbols, marks, sizeof marks, units[lwc - 1], sizeof units[lwc - 1], &taken);
+        refused = lipvezor_take(&block, symbols, sizeof symbols, marks, sizeof marks, units[lwc - 1], sizeof units[lwc - 1], &taken);
         if (refused)
             return fail("take", refused);
     }
-    refused = lipvezor_close(block, symbols, sizeof symbols, marks, sizeof marks, work_words, LIPVEZOR_WORK_WORDS(C1), work_bytes,
+    refused = lipvezor_close(&block, symbols, sizeof symbols, marks, sizeof marks, work_words, LIPVEZOR_WORK_WORDS(C1), work_bytes,
                              sizeof work_bytes, report);
     return refused ? fail("close", refused) : 0;
 }

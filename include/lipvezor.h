@@ -30,9 +30,8 @@
  *
  * What the caller must see to, as always in C:
  *  - a buffer is a pointer and, after it, its length in elements; the pointer is valid for that many, aligned for its type, and not NULL,
- *    even where the length is 0;
- *  - a buffer or record that a call may write overlaps no other that the same call gets. Buffers that a call only reads may overlap each
- *    other.
+ *    even where the length is 0; a pointer to a record is not NULL either;
+ *  - a buffer or record that a call may write overlaps no other that the same call gets. What a call only reads may overlap.
  *
  * Needs. x86-64 Linux; no library but C's own, and of that memcpy and memset alone. Nothing is allocated, no call keeps a pointer or reads
  * or writes anything but what it was lent, so two threads may call at the same time on different buffers. LIPVEZOR_STACK and
@@ -178,7 +177,7 @@ size_t lipvezor_work_bytes(size_t code, size_t w);
 
 /* ---- a block */
 
-/* A block's numbers, handed by value to each call on it. */
+/* A block's numbers. Each call on the block is lent this record, and only reads it. */
 typedef struct lipvezor_block {
     size_t code;                      /* LIPVEZOR_C1 or LIPVEZOR_C2 */
     size_t w;                         /* bytes of a symbol, 1 to LIPVEZOR_MAX_WIDTH */
@@ -201,7 +200,7 @@ enum lipvezor_mark {
  * Refuses: code, width, length.
  */
 LIPVEZOR_CHECKED
-uint8_t lipvezor_encode(lipvezor_block block,
+uint8_t lipvezor_encode(const lipvezor_block *block,
                         const uint8_t *information, size_t information_length,
                         uint8_t *parity, size_t parity_length);
 
@@ -211,7 +210,7 @@ uint8_t lipvezor_encode(lipvezor_block block,
  * Refuses: code, width, length (of any of the three buffers), position.
  */
 LIPVEZOR_CHECKED
-uint8_t lipvezor_show(lipvezor_block block,
+uint8_t lipvezor_show(const lipvezor_block *block,
                       const uint8_t *information, size_t information_length,
                       const uint8_t *parity, size_t parity_length,
                       size_t lwc,
@@ -223,7 +222,7 @@ uint8_t lipvezor_show(lipvezor_block block,
  * Refuses: code, width, label, length (of the output), position, symbol.
  */
 LIPVEZOR_CHECKED
-uint8_t lipvezor_write(lipvezor_block block, size_t lwc,
+uint8_t lipvezor_write(const lipvezor_block *block, size_t lwc,
                        const uint8_t *symbol, size_t symbol_length,
                        uint8_t *output, size_t output_length);
 
@@ -257,7 +256,7 @@ uint8_t lipvezor_read(const uint8_t *unit, size_t unit_length, lipvezor_parts *p
  * Refuses: code, width, label, length.
  */
 LIPVEZOR_CHECKED
-uint8_t lipvezor_open(lipvezor_block block,
+uint8_t lipvezor_open(const lipvezor_block *block,
                       uint8_t *symbols, size_t symbols_length,
                       uint8_t *marks, size_t marks_length);
 
@@ -277,7 +276,7 @@ typedef struct lipvezor_taken {
  * Refuses: any.
  */
 LIPVEZOR_CHECKED
-uint8_t lipvezor_take(lipvezor_block block,
+uint8_t lipvezor_take(const lipvezor_block *block,
                       uint8_t *symbols, size_t symbols_length,
                       uint8_t *marks, size_t marks_length,
                       const uint8_t *unit, size_t unit_length,
@@ -305,7 +304,7 @@ typedef struct lipvezor_report {
  * Refuses: code, width, label, length, mark.
  */
 LIPVEZOR_CHECKED
-uint8_t lipvezor_close(lipvezor_block block,
+uint8_t lipvezor_close(const lipvezor_block *block,
                        uint8_t *symbols, size_t symbols_length,
                        uint8_t *marks, size_t marks_length,
                        uint64_t *work_words, size_t work_words_length,

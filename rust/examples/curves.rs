@@ -87,10 +87,10 @@ fn send(record: Record, random: &mut Random) -> Sent {
     let mut codeword = vec![0; record.symbol_bytes()];
     let (information, parity) = codeword.split_at_mut(record.information_bytes());
     random.fill(information);
-    calls::encode(record, information, parity).unwrap();
+    calls::encode(&record, information, parity).unwrap();
     let mut units = vec![0; record.n() * record.unit_bytes()];
     for (i, unit) in units.chunks_exact_mut(record.unit_bytes()).enumerate() {
-        calls::write(record, i + 1, &codeword[i * W..(i + 1) * W], unit).unwrap();
+        calls::write(&record, i + 1, &codeword[i * W..(i + 1) * W], unit).unwrap();
     }
     Sent { codeword, units }
 }
@@ -103,13 +103,13 @@ fn failures(record: Record, lost: f64, sent: &Sent, blocks: impl Iterator<Item =
     let mut bytes = vec![0; record.work_bytes()];
     let mut failed = 0;
     for mut random in blocks {
-        calls::open(record, &mut symbols, &mut marks).unwrap();
+        calls::open(&record, &mut symbols, &mut marks).unwrap();
         for unit in sent.units.chunks_exact(record.unit_bytes()) {
             if !random.chance(lost) {
-                assert_eq!(calls::take(record, &mut symbols, &mut marks, unit), Ok(Taken::Kept));
+                assert_eq!(calls::take(&record, &mut symbols, &mut marks, unit), Ok(Taken::Kept));
             }
         }
-        match calls::close(record, &mut symbols, &mut marks, &mut words, &mut bytes).unwrap().verdict {
+        match calls::close(&record, &mut symbols, &mut marks, &mut words, &mut bytes).unwrap().verdict {
             Verdict::Whole => assert!(symbols == sent.codeword),
             Verdict::Ambiguous => failed += 1,
             verdict => panic!("{verdict:?} of what was sent"),

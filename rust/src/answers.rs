@@ -44,7 +44,7 @@ impl fmt::Display for Taken {
 /// // C2's last parity symbol is zero in every codeword; a unit brings another there
 /// let record = Record::new(Code::C2, 1);
 /// let mut unit = vec![0; record.unit_bytes()];
-/// calls::write(record, 3072, &[1], &mut unit)?;
+/// calls::write(&record, 3072, &[1], &mut unit)?;
 /// let mut block = Block::open(record)?;
 /// block.take(&unit)?;
 /// let closed = block.close(&mut Work::of(record))?;

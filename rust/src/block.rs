@@ -76,7 +76,7 @@ impl<B: AsRef<[u8]> + AsMut<[u8]>> Block<B> {
     ///
     /// Refusals: code, width, label, length.
     pub fn open_in(record: Record, mut symbols: B, mut marks: B) -> Result<Block<B>, Refusal> {
-        calls::open(record, symbols.as_mut(), marks.as_mut())?;
+        calls::open(&record, symbols.as_mut(), marks.as_mut())?;
         Ok(Block { record, symbols, marks })
     }
 
@@ -85,7 +85,7 @@ impl<B: AsRef<[u8]> + AsMut<[u8]>> Block<B> {
     /// Refusals: header, extension, number, extension kind, parameters, foreign, position, symbol, conflict.
     #[inline]
     pub fn take(&mut self, unit: &[u8]) -> Result<Taken, Refusal> {
-        calls::take(self.record, self.symbols.as_mut(), self.marks.as_mut(), unit)
+        calls::take(&self.record, self.symbols.as_mut(), self.marks.as_mut(), unit)
     }
 
     /// Closes the block: each missing symbol that the heard ones determine is filled. The answer has the verdict, and the bytes that it allows.
@@ -103,7 +103,7 @@ impl<B: AsRef<[u8]> + AsMut<[u8]>> Block<B> {
     /// Refusals: length.
     pub fn close_with(&mut self, words: &mut [u64], bytes: &mut [u8]) -> Result<Closed<'_>, Refusal> {
         let (symbols, marks) = (self.symbols.as_mut(), self.marks.as_mut());
-        let report = calls::close(self.record, symbols, marks, words, bytes)?;
+        let report = calls::close(&self.record, symbols, marks, words, bytes)?;
         Ok(Closed::new(self.record, report, symbols, marks))
     }
 

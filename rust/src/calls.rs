@@ -11,18 +11,18 @@
 //!
 //! // encode, and write the unit of LWC 5
 //! let (information, mut parity) = ([3; 512], [0; 256]);
-//! calls::encode(record, &information, &mut parity)?;
+//! calls::encode(&record, &information, &mut parity)?;
 //! let mut symbol = [0; 1];
-//! calls::show(record, &information, &parity, 5, &mut symbol)?;
+//! calls::show(&record, &information, &parity, 5, &mut symbol)?;
 //! let mut unit = vec![0; record.unit_bytes()];
-//! calls::write(record, 5, &symbol, &mut unit)?;
+//! calls::write(&record, 5, &symbol, &mut unit)?;
 //!
 //! // open, take, close
 //! let (mut symbols, mut marks) = ([0; 768], [0; 768]);
-//! calls::open(record, &mut symbols, &mut marks)?;
-//! assert_eq!(calls::take(record, &mut symbols, &mut marks, &unit)?, Taken::Kept);
+//! calls::open(&record, &mut symbols, &mut marks)?;
+//! assert_eq!(calls::take(&record, &mut symbols, &mut marks, &unit)?, Taken::Kept);
 //! let (mut words, mut bytes) = (vec![0; record.work_words()], vec![0; record.work_bytes()]);
-//! let report = calls::close(record, &mut symbols, &mut marks, &mut words, &mut bytes)?;
+//! let report = calls::close(&record, &mut symbols, &mut marks, &mut words, &mut bytes)?;
 //! assert_eq!((report.verdict, symbols[4], marks[4]), (Verdict::Ambiguous, 3, 1));
 //! # Ok(())
 //! # }
@@ -59,7 +59,7 @@ pub fn version() -> usize {
 ///
 /// Refusals: code, width, length.
 #[inline]
-pub fn encode(record: Record, information: &[u8], parity: &mut [u8]) -> Result<(), Refusal> {
+pub fn encode(record: &Record, information: &[u8], parity: &mut [u8]) -> Result<(), Refusal> {
     done(ffi::encode(record, information, parity))
 }
 
@@ -67,7 +67,7 @@ pub fn encode(record: Record, information: &[u8], parity: &mut [u8]) -> Result<(
 ///
 /// Refusals: code, width, length (of any of the three), position.
 #[inline]
-pub fn show(record: Record, information: &[u8], parity: &[u8], lwc: usize, out: &mut [u8]) -> Result<(), Refusal> {
+pub fn show(record: &Record, information: &[u8], parity: &[u8], lwc: usize, out: &mut [u8]) -> Result<(), Refusal> {
     done(ffi::show(record, information, parity, lwc, out))
 }
 
@@ -76,7 +76,7 @@ pub fn show(record: Record, information: &[u8], parity: &[u8], lwc: usize, out: 
 ///
 /// Refusals: code, width, label, length (of the output), position, symbol.
 #[inline]
-pub fn write(record: Record, lwc: usize, symbol: &[u8], out: &mut [u8]) -> Result<(), Refusal> {
+pub fn write(record: &Record, lwc: usize, symbol: &[u8], out: &mut [u8]) -> Result<(), Refusal> {
     done(ffi::write(record, lwc, symbol, out))
 }
 
@@ -96,7 +96,7 @@ pub fn read(unit: &[u8]) -> Result<Unit<'_>, Refusal> {
 ///
 /// Refusals: code, width, label, length.
 #[inline]
-pub fn open(record: Record, symbols: &mut [u8], marks: &mut [u8]) -> Result<(), Refusal> {
+pub fn open(record: &Record, symbols: &mut [u8], marks: &mut [u8]) -> Result<(), Refusal> {
     done(ffi::open(record, symbols, marks))
 }
 
@@ -104,7 +104,7 @@ pub fn open(record: Record, symbols: &mut [u8], marks: &mut [u8]) -> Result<(), 
 ///
 /// Refusals: any.
 #[inline]
-pub fn take(record: Record, symbols: &mut [u8], marks: &mut [u8], unit: &[u8]) -> Result<Taken, Refusal> {
+pub fn take(record: &Record, symbols: &mut [u8], marks: &mut [u8], unit: &[u8]) -> Result<Taken, Refusal> {
     let mut taken = ffi::Taken::default();
     done(ffi::take(record, symbols, marks, unit, &mut taken))?;
     match taken.result {
@@ -119,7 +119,7 @@ pub fn take(record: Record, symbols: &mut [u8], marks: &mut [u8], unit: &[u8]) -
 ///
 /// Refusals: code, width, label, length, mark.
 #[inline]
-pub fn close(record: Record, symbols: &mut [u8], marks: &mut [u8], words: &mut [u64], bytes: &mut [u8]) -> Result<Report, Refusal> {
+pub fn close(record: &Record, symbols: &mut [u8], marks: &mut [u8], words: &mut [u64], bytes: &mut [u8]) -> Result<Report, Refusal> {
     let mut report = ffi::Report::default();
     done(ffi::close(record, symbols, marks, words, bytes, &mut report))?;
     let verdict = match report.verdict {

@@ -73,7 +73,7 @@ impl<I: AsRef<[u8]>, P: AsRef<[u8]> + AsMut<[u8]>> Codeword<I, P> {
     ///
     /// Refusals: code, width, length.
     pub fn encode_in(record: Record, information: I, mut parity: P) -> Result<Codeword<I, P>, Refusal> {
-        calls::encode(record, information.as_ref(), parity.as_mut())?;
+        calls::encode(&record, information.as_ref(), parity.as_mut())?;
         Ok(Codeword { record, information, parity })
     }
 }
@@ -101,7 +101,7 @@ impl<I: AsRef<[u8]>, P: AsRef<[u8]>> Codeword<I, P> {
     ///
     /// Refusals: length, position.
     pub fn copy_symbol(&self, lwc: usize, out: &mut [u8]) -> Result<(), Refusal> {
-        calls::show(self.record, self.information(), self.parity(), lwc, out)
+        calls::show(&self.record, self.information(), self.parity(), lwc, out)
     }
 
     /// The symbol of an LWC.
@@ -121,9 +121,9 @@ impl<I: AsRef<[u8]>, P: AsRef<[u8]>> Codeword<I, P> {
         let mut symbol = [0; MAX_WIDTH];
         let symbol = &mut symbol[..self.record.w];
         match self.copy_symbol(lwc, symbol) {
-            Ok(()) => calls::write(self.record, lwc, symbol, out),
+            Ok(()) => calls::write(&self.record, lwc, symbol, out),
             // the position is refused; write answers so too, or what it tries before that
-            Err(_) => calls::write(self.record, lwc, &[], out),
+            Err(_) => calls::write(&self.record, lwc, &[], out),
         }
     }
 

@@ -51,9 +51,9 @@ mod c {
         pub fn lipvezor_unit_bytes(code: usize, w: usize) -> usize;
         pub fn lipvezor_work_words(code: usize) -> usize;
         pub fn lipvezor_work_bytes(code: usize, w: usize) -> usize;
-        pub fn lipvezor_encode(block: Record, info: *const u8, info_len: usize, parity: *mut u8, parity_len: usize) -> u8;
+        pub fn lipvezor_encode(block: *const Record, info: *const u8, info_len: usize, parity: *mut u8, parity_len: usize) -> u8;
         pub fn lipvezor_show(
-            block: Record,
+            block: *const Record,
             info: *const u8,
             info_len: usize,
             parity: *const u8,
@@ -62,11 +62,11 @@ mod c {
             out: *mut u8,
             out_len: usize,
         ) -> u8;
-        pub fn lipvezor_write(block: Record, lwc: usize, symbol: *const u8, symbol_len: usize, out: *mut u8, out_len: usize) -> u8;
+        pub fn lipvezor_write(block: *const Record, lwc: usize, symbol: *const u8, symbol_len: usize, out: *mut u8, out_len: usize) -> u8;
         pub fn lipvezor_read(unit: *const u8, unit_len: usize, parts: *mut Parts) -> u8;
-        pub fn lipvezor_open(block: Record, symbols: *mut u8, symbols_len: usize, marks: *mut u8, marks_len: usize) -> u8;
+        pub fn lipvezor_open(block: *const Record, symbols: *mut u8, symbols_len: usize, marks: *mut u8, marks_len: usize) -> u8;
         pub fn lipvezor_take(
-            block: Record,
+            block: *const Record,
             symbols: *mut u8,
             symbols_len: usize,
             marks: *mut u8,
@@ -76,7 +76,7 @@ mod c {
             taken: *mut Taken,
         ) -> u8;
         pub fn lipvezor_close(
-            block: Record,
+            block: *const Record,
             symbols: *mut u8,
             symbols_len: usize,
             marks: *mut u8,
@@ -148,19 +148,19 @@ pub fn work_bytes(code: usize, w: usize) -> usize {
 }
 
 #[inline]
-pub fn encode(block: Record, information: &[u8], parity: &mut [u8]) -> u8 {
+pub fn encode(block: &Record, information: &[u8], parity: &mut [u8]) -> u8 {
     unsafe { c::lipvezor_encode(block, information.as_ptr(), information.len(), parity.as_mut_ptr(), parity.len()) }
 }
 
 #[inline]
-pub fn show(block: Record, information: &[u8], parity: &[u8], lwc: usize, out: &mut [u8]) -> u8 {
+pub fn show(block: &Record, information: &[u8], parity: &[u8], lwc: usize, out: &mut [u8]) -> u8 {
     unsafe {
         c::lipvezor_show(block, information.as_ptr(), information.len(), parity.as_ptr(), parity.len(), lwc, out.as_mut_ptr(), out.len())
     }
 }
 
 #[inline]
-pub fn write(block: Record, lwc: usize, symbol: &[u8], out: &mut [u8]) -> u8 {
+pub fn write(block: &Record, lwc: usize, symbol: &[u8], out: &mut [u8]) -> u8 {
     unsafe { c::lipvezor_write(block, lwc, symbol.as_ptr(), symbol.len(), out.as_mut_ptr(), out.len()) }
 }
 
@@ -170,19 +170,19 @@ pub fn read(unit: &[u8], parts: &mut Parts) -> u8 {
 }
 
 #[inline]
-pub fn open(block: Record, symbols: &mut [u8], marks: &mut [u8]) -> u8 {
+pub fn open(block: &Record, symbols: &mut [u8], marks: &mut [u8]) -> u8 {
     unsafe { c::lipvezor_open(block, symbols.as_mut_ptr(), symbols.len(), marks.as_mut_ptr(), marks.len()) }
 }
 
 #[inline]
-pub fn take(block: Record, symbols: &mut [u8], marks: &mut [u8], unit: &[u8], taken: &mut Taken) -> u8 {
+pub fn take(block: &Record, symbols: &mut [u8], marks: &mut [u8], unit: &[u8], taken: &mut Taken) -> u8 {
     unsafe {
         c::lipvezor_take(block, symbols.as_mut_ptr(), symbols.len(), marks.as_mut_ptr(), marks.len(), unit.as_ptr(), unit.len(), taken)
     }
 }
 
 #[inline]
-pub fn close(block: Record, symbols: &mut [u8], marks: &mut [u8], words: &mut [u64], bytes: &mut [u8], report: &mut Report) -> u8 {
+pub fn close(block: &Record, symbols: &mut [u8], marks: &mut [u8], words: &mut [u64], bytes: &mut [u8], report: &mut Report) -> u8 {
     unsafe {
         c::lipvezor_close(
             block,

@@ -126,7 +126,7 @@ impl core::error::Error for ReceiveError {}
 /// Whether the archive takes a protocol ID and an LSC.
 fn label(protocol: usize, lsc: usize) -> Result<(), Refusal> {
     // write refuses the label before it refuses an output of no bytes
-    match calls::write(Record::new(Code::C1, 1).with_protocol(protocol).with_lsc(lsc), 1, &[], &mut []) {
+    match calls::write(&Record::new(Code::C1, 1).with_protocol(protocol).with_lsc(lsc), 1, &[], &mut []) {
         Err(Refusal::Length) => Ok(()),
         answer => answer,
     }
@@ -197,7 +197,7 @@ impl Receiver {
             return Err(Refusal::Foreign);
         }
         // write refuses the position and the symbol as take does
-        calls::write(record, unit.lwc, unit.symbol, &mut [0; MAX_UNIT_BYTES][..record.unit_bytes()])?;
+        calls::write(&record, unit.lwc, unit.symbol, &mut [0; MAX_UNIT_BYTES][..record.unit_bytes()])?;
         Ok(record)
     }
 

@@ -16,7 +16,7 @@ use crate::Code;
 /// // protocol ID 0 and LSC 1 where none is named
 /// assert_eq!(Record::new(Code::C1, 16), record.with_protocol(0).with_lsc(1));
 /// ```
-// Laid out as lipvezor_block of the header, and handed over as it is: a struct of the same numbers beside it costs one more copy for each call.
+// Laid out as lipvezor_block of the header, and lent as it is.
 #[repr(C)]
 #[non_exhaustive]
 #[derive(Clone, Copy, Debug, PartialEq, Eq, Hash)]

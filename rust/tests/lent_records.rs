@@ -24,7 +24,7 @@ mod c {
     extern "C" {
         pub fn lipvezor_read(unit: *const u8, unit_length: usize, parts: *mut [usize; 10]) -> u8;
         pub fn lipvezor_take(
-            block: Block,
+            block: *const Block,
             symbols: *mut u8,
             symbols_length: usize,
             marks: *mut u8,
@@ -34,7 +34,7 @@ mod c {
             taken: *mut [usize; 1],
         ) -> u8;
         pub fn lipvezor_close(
-            block: Block,
+            block: *const Block,
             symbols: *mut u8,
             symbols_length: usize,
             marks: *mut u8,
@@ -140,7 +140,7 @@ fn take(taking: &Taking, filling: usize, label: &str) -> Result<[usize; 1], u8> 
     let (symbols_length, marks_length) = (symbols.len(), marks.len());
     let answer = lend(filling, label, |taken| unsafe {
         c::lipvezor_take(
-            block(taking.record),
+            &block(taking.record),
             symbols.as_mut_ptr(),
             symbols_length,
             marks.as_mut_ptr(),
@@ -228,7 +228,7 @@ fn close(closing: &Closing, code: &Code, filling: usize, label: &str) -> Result<
     let lengths = [symbols.len(), marks.len(), words.len(), bytes.len()];
     let answer = lend(filling, label, |report| unsafe {
         c::lipvezor_close(
-            block(closing.record),
+            &block(closing.record),
             symbols.as_mut_ptr(),
             lengths[0],
             marks.as_mut_ptr(),

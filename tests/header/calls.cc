@@ -39,18 +39,18 @@ std::vector<Bytes> send(const Sizes &size, const Bytes &information, Bytes &pari
 {
     std::vector<Bytes> units(size.n, Bytes(size.unit));
     Bytes symbol(W);
-    expect(lipvezor_encode(block, information.data(), information.size(), parity.data(), parity.size()) == LIPVEZOR_DONE, "encode is done");
+    expect(lipvezor_encode(&block, information.data(), information.size(), parity.data(), parity.size()) == LIPVEZOR_DONE, "encode is done");
     for (size_t lwc = 1; lwc <= size.n; lwc++) {
         Bytes &unit = units[lwc - 1];
-        expect(lipvezor_show(block, information.data(), information.size(), parity.data(), parity.size(), lwc, symbol.data(), symbol.size())
+        expect(lipvezor_show(&block, information.data(), information.size(), parity.data(), parity.size(), lwc, symbol.data(), symbol.size())
                    == LIPVEZOR_DONE, "show is done");
         const uint8_t *sent = lwc <= size.k ? &information[(lwc - 1) * W] : &parity[(lwc - 1 - size.k) * W];
         expect(std::memcmp(symbol.data(), sent, W) == 0, "the symbol of an LWC");
-        expect(lipvezor_write(block, lwc, symbol.data(), symbol.size(), unit.data(), unit.size()) == LIPVEZOR_DONE, "write is done");
+        expect(lipvezor_write(&block, lwc, symbol.data(), symbol.size(), unit.data(), unit.size()) == LIPVEZOR_DONE, "write is done");
     }
-    expect(lipvezor_show(block, information.data(), information.size(), parity.data(), parity.size(), size.n + 1, symbol.data(), symbol.size())
+    expect(lipvezor_show(&block, information.data(), information.size(), parity.data(), parity.size(), size.n + 1, symbol.data(), symbol.size())
                == LIPVEZOR_REFUSED_POSITION, "show refuses a position");
-    expect(lipvezor_encode(block, information.data(), information.size(), parity.data(), parity.size() - 1) == LIPVEZOR_REFUSED_LENGTH,
+    expect(lipvezor_encode(&block, information.data(), information.size(), parity.data(), parity.size() - 1) == LIPVEZOR_REFUSED_LENGTH,
            "encode refuses a length");
     return units;
 }
@@ -73,16 +73,16 @@ struct Received {
     {
     }
 
-    uint8_t open() { return lipvezor_open(block, symbols.data(), symbols.size(), marks.data(), marks.size()); }
+    uint8_t open() { return lipvezor_open(&block, symbols.data(), symbols.size(), marks.data(), marks.size()); }
 
     uint8_t take(const lipvezor_block &of, const Bytes &unit, lipvezor_taken *taken)
     {
-        return lipvezor_take(of, symbols.data(), symbols.size(), marks.data(), marks.size(), unit.data(), unit.size(), taken);
+        return lipvezor_take(&of, symbols.data(), symbols.size(), marks.data(), marks.size(), unit.data(), unit.size(), taken);
     }
 
     uint8_t close(size_t words_length, lipvezor_report *report)
     {
-        return lipvezor_close(block, symbols.data(), symbols.size(), marks.data(), marks.size(), words.data(), words_length, bytes.data(),
+        return lipvezor_close(&block, symbols.data(), symbols.size(), marks.data(), marks.size(), words.data(), words_length, bytes.data(),
                               bytes.size(), report);
     }
 };

@@ -1,7 +1,7 @@
 /* Every call whose answer must be looked at, with none looked at: unused.sh expects a warning at each. */
 #include "lipvezor.h"
 
-void unused(lipvezor_block block, uint8_t *p, uint64_t *words, size_t length, lipvezor_parts *parts, lipvezor_taken *taken,
+void unused(const lipvezor_block *block, uint8_t *p, uint64_t *words, size_t length, lipvezor_parts *parts, lipvezor_taken *taken,
             lipvezor_report *report)
 {
     lipvezor_encode(block, p, length, p, length);

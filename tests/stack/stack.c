@@ -122,17 +122,17 @@ static void make_sizes(void)
 
 static void make_encode(void)
 {
-    answer = lipvezor_encode(block, information, information_length, parity, parity_length);
+    answer = lipvezor_encode(&block, information, information_length, parity, parity_length);
 }
 
 static void make_show(void)
 {
-    answer = lipvezor_show(block, information, information_length, parity, parity_length, lwc, symbol, out_length);
+    answer = lipvezor_show(&block, information, information_length, parity, parity_length, lwc, symbol, out_length);
 }
 
 static void make_write(void)
 {
-    answer = lipvezor_write(block, lwc, symbol, out_length, unit, unit_length);
+    answer = lipvezor_write(&block, lwc, symbol, out_length, unit, unit_length);
 }
 
 static void make_read(void)
@@ -142,17 +142,17 @@ static void make_read(void)
 
 static void make_open(void)
 {
-    answer = lipvezor_open(block, symbols, symbols_length, marks, n);
+    answer = lipvezor_open(&block, symbols, symbols_length, marks, n);
 }
 
 static void make_take(void)
 {
-    answer = lipvezor_take(block, symbols, symbols_length, marks, n, unit, unit_length, &taken);
+    answer = lipvezor_take(&block, symbols, symbols_length, marks, n, unit, unit_length, &taken);
 }
 
 static void make_close(void)
 {
-    answer = lipvezor_close(block, symbols, symbols_length, marks, n, work_words, work_words_length, work_bytes, work_bytes_length, &report);
+    answer = lipvezor_close(&block, symbols, symbols_length, marks, n, work_words, work_words_length, work_bytes, work_bytes_length, &report);
 }
 
 struct call {

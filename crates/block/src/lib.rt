@@ -6,7 +6,6 @@ pub mod status;
 pub mod take;
 
 // A block's record: its code's number, the bytes of a symbol, its protocol ID and its block number.
-#[repr(C)]
 pub struct Block {
     pub code: usize,
     pub w: usize,

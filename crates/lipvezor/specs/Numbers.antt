@@ -4,6 +4,7 @@
 use mathlib.Core.List.{List, [], _∷_, _++_}
 use mathlib.Core.Option.{Option, none, some}
 use Prim.Native.Nat.{ℕ}
+use lib.ListN.{getD}
 use Rattle.algebra.specs.Agreeing.{Verdict, whole, ambiguous, inconsistent}
 use Rattle.ccsds.specs.Codes.{nOf}
 use Rattle.ccsds.specs.Tables.{codeOf}
@@ -12,10 +13,15 @@ use Rattle.ccsds.specs.Refusals.{Outcome, refused, answered, firstOf, encoderCo
 use Rattle.ccsds.specs.Reader.{Coding, Parts}
 use Rattle.block.specs.Take.{TakeResult, kept, repeated}
 use Rattle.block.specs.Close.{Report}
+use Rattle.block.specs.declared.Block.{Block}
 
 -- the library's version: first number × 10000 + second × 100 + third
 abbrev pub version : ℕ
 version = 300
+
+-- a block's record from its four numbers
+unfoldable pub blockOf : List ℕ → Block
+blockOf r = record { code = getD r 0 0; w = getD r 1 0; protocol = getD r 2 0; lsc = getD r 3 0 }
 
 -- 0, or the number of the refusal
 abbrev pub numberOf : {A : Type 0} → Outcome A → ℕ

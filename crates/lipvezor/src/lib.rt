@@ -1,6 +1,6 @@
-// The calls for C and Rust (include/lipvezor.h). Numbers pass as themselves, a block's record as a struct by value, a slice as a pointer and
-// then a length in elements, a lent record as a pointer to an array of its values. Each call answers 0, or the number of its refusal; what
-// else it has to say it writes to the lent record, by specs/Numbers.antt.
+// The calls for C and Rust (include/lipvezor.h). Numbers pass as themselves, a slice as a pointer and then a length in elements, a record
+// (a block's numbers; what a call has to say beside done or refused) as a pointer to an array of its values. Each call answers 0, or the
+// number of its refusal; the values of records are those of specs/Numbers.antt.
 use block::Block;
 use block::close::Closed;
 use block::close::Verdict;
@@ -25,7 +25,7 @@ ghost use Rattle.ccsds.specs.Show.{showOf};
 ghost use Rattle.block.specs.Open.{openOf};
 ghost use Rattle.block.specs.Take.{takeOf};
 ghost use Rattle.block.specs.Close.{closeOf, verdictAs};
-ghost use Rattle.lipvezor.specs.Numbers.{version, numberOf, recordAfter, partsValues, copyRefusal, resultValues, verdictNumber, reportValues};
+ghost use Rattle.lipvezor.specs.Numbers.{version, blockOf, numberOf, recordAfter, partsValues, copyRefusal, resultValues, verdictNumber, reportValues};
 
 // The version of this library, as the header's LIPVEZOR_VERSION.
 #[no_mangle]
@@ -116,12 +116,25 @@ pub extern "C" fn lipvezor_work_bytes(code: usize, w: usize) -> usize
     c.parity_bytes(w)
 }
 
+// The block of a record.
+fn block_of(numbers: &[usize; 4]) -> Block
+    ensures { λ b. ⌜ b ≡ blockOf (now (numbers .entry)) ⌝ }
+{
+    Block {
+        code: numbers[0],
+        w: numbers[1],
+        protocol: numbers[2],
+        lsc: numbers[3],
+    }
+}
+
 // Encode.
 #[no_mangle]
-pub extern "C" fn lipvezor_encode(b: Block, info: &[u8], parity: &mut [u8]) -> u8
-    ensures answer { λ r. ⌜ r ≡ encodeRefusal (b .code) (b .w) (length (now (info .entry))) (length (now (parity .entry))) ⌝ }
-    ensures parity { λ _. ⌜ now (parity .exit) ≡ afterwards (encodeRefusal (b .code) (b .w) (length (now (info .entry))) (length (now (parity .entry)))) (encodeOf (codeOf (b .code)) (b .w) (now (info .entry))) (now (parity .entry)) ⌝ }
+pub extern "C" fn lipvezor_encode(numbers: &[usize; 4], info: &[u8], parity: &mut [u8]) -> u8
+    ensures answer { λ r. ⌜ r ≡ encodeRefusal (blockOf (now (numbers .entry)) .code) (blockOf (now (numbers .entry)) .w) (length (now (info .entry))) (length (now (parity .entry))) ⌝ }
+    ensures parity { λ _. ⌜ now (parity .exit) ≡ afterwards (encodeRefusal (blockOf (now (numbers .entry)) .code) (blockOf (now (numbers .entry)) .w) (length (now (info .entry))) (length (now (parity .entry)))) (encodeOf (codeOf (blockOf (now (numbers .entry)) .code)) (blockOf (now (numbers .entry)) .w) (now (info .entry))) (now (parity .entry)) ⌝ }
 {
+    let b = block_of(numbers);
     match encoder::encode::encode(b.code, b.w, info, parity) {
         Encoded::Done => 0,
         Encoded::Refused(number) => number,
@@ -155,16 +168,17 @@ fn check_copy(
 
 // Show, copied to an output of W bytes.
 #[no_mangle]
-pub extern "C" fn lipvezor_show<'a, 'b>(
-    b: Block,
+pub extern "C" fn lipvezor_show<'a, 'b, 'c>(
+    numbers: &'c [usize; 4],
     info: &'a [u8],
     parity: &'a [u8],
     lwc: usize,
     out: &'b mut [u8],
 ) -> u8
-    ensures answer { λ r. ⌜ r ≡ copyRefusal (b .code) (b .w) (length (now (info .entry))) (length (now (parity .entry))) lwc (length (now (out .entry))) ⌝ }
-    ensures output { λ _. ⌜ now (out .exit) ≡ afterwards (copyRefusal (b .code) (b .w) (length (now (info .entry))) (length (now (parity .entry))) lwc (length (now (out .entry)))) (showOf (b .code) (b .w) (info .entry) (parity .entry) lwc .bytes) (now (out .entry)) ⌝ }
+    ensures answer { λ r. ⌜ r ≡ copyRefusal (blockOf (now (numbers .entry)) .code) (blockOf (now (numbers .entry)) .w) (length (now (info .entry))) (length (now (parity .entry))) lwc (length (now (out .entry))) ⌝ }
+    ensures output { λ _. ⌜ now (out .exit) ≡ afterwards (copyRefusal (blockOf (now (numbers .entry)) .code) (blockOf (now (numbers .entry)) .w) (length (now (info .entry))) (length (now (parity .entry))) lwc (length (now (out .entry)))) (showOf (blockOf (now (numbers .entry)) .code) (blockOf (now (numbers .entry)) .w) (info .entry) (parity .entry) lwc .bytes) (now (out .entry)) ⌝ }
 {
+    let b = block_of(numbers);
     let number = check_copy(b.code, b.w, info.len(), parity.len(), lwc, out.len());
     if number != 0 {
         return number;
@@ -176,10 +190,11 @@ pub extern "C" fn lipvezor_show<'a, 'b>(
 
 // Write.
 #[no_mangle]
-pub extern "C" fn lipvezor_write(b: Block, lwc: usize, symbol: &[u8], out: &mut [u8]) -> u8
-    ensures answer { λ r. ⌜ r ≡ writeRefusal (b .code) (b .w) (b .protocol) (b .lsc) lwc (length (now (symbol .entry))) (length (now (out .entry))) ⌝ }
-    ensures output { λ _. ⌜ now (out .exit) ≡ afterwards (writeRefusal (b .code) (b .w) (b .protocol) (b .lsc) lwc (length (now (symbol .entry))) (length (now (out .entry)))) (unitOf (codeOf (b .code)) (b .w) (b .protocol) (b .lsc) lwc (now (symbol .entry))) (now (out .entry)) ⌝ }
+pub extern "C" fn lipvezor_write(numbers: &[usize; 4], lwc: usize, symbol: &[u8], out: &mut [u8]) -> u8
+    ensures answer { λ r. ⌜ r ≡ writeRefusal (blockOf (now (numbers .entry)) .code) (blockOf (now (numbers .entry)) .w) (blockOf (now (numbers .entry)) .protocol) (blockOf (now (numbers .entry)) .lsc) lwc (length (now (symbol .entry))) (length (now (out .entry))) ⌝ }
+    ensures output { λ _. ⌜ now (out .exit) ≡ afterwards (writeRefusal (blockOf (now (numbers .entry)) .code) (blockOf (now (numbers .entry)) .w) (blockOf (now (numbers .entry)) .protocol) (blockOf (now (numbers .entry)) .lsc) lwc (length (now (symbol .entry))) (length (now (out .entry)))) (unitOf (codeOf (blockOf (now (numbers .entry)) .code)) (blockOf (now (numbers .entry)) .w) (blockOf (now (numbers .entry)) .protocol) (blockOf (now (numbers .entry)) .lsc) lwc (now (symbol .entry))) (now (out .entry)) ⌝ }
 {
+    let b = block_of(numbers);
     match ccsds::writer::write(b.code, b.w, b.protocol, b.lsc, lwc, symbol, out) {
         Written::Done => 0,
         Written::Refused(number) => number,
@@ -223,11 +238,12 @@ pub extern "C" fn lipvezor_read(unit: &[u8], parts: &mut [usize; 10]) -> u8
 
 // Open. The record that open returns is the one it was given.
 #[no_mangle]
-pub extern "C" fn lipvezor_open(b: Block, symbols: &mut [u8], marks: &mut [u8]) -> u8
-    ensures answer { λ r. ⌜ r ≡ numberOf (openOf b (now (symbols .entry)) (now (marks .entry)) .answer) ⌝ }
-    ensures symbols { λ _. ⌜ now (symbols .exit) ≡ openOf b (now (symbols .entry)) (now (marks .entry)) .symbols ⌝ }
-    ensures marks { λ _. ⌜ now (marks .exit) ≡ openOf b (now (symbols .entry)) (now (marks .entry)) .marks ⌝ }
+pub extern "C" fn lipvezor_open(numbers: &[usize; 4], symbols: &mut [u8], marks: &mut [u8]) -> u8
+    ensures answer { λ r. ⌜ r ≡ numberOf (openOf (blockOf (now (numbers .entry))) (now (symbols .entry)) (now (marks .entry)) .answer) ⌝ }
+    ensures symbols { λ _. ⌜ now (symbols .exit) ≡ openOf (blockOf (now (numbers .entry))) (now (symbols .entry)) (now (marks .entry)) .symbols ⌝ }
+    ensures marks { λ _. ⌜ now (marks .exit) ≡ openOf (blockOf (now (numbers .entry))) (now (symbols .entry)) (now (marks .entry)) .marks ⌝ }
 {
+    let b = block_of(numbers);
     match block::open::open(b, symbols, marks) {
         Opened::Record(_) => 0,
         Opened::Refused(number) => number,
@@ -237,17 +253,18 @@ pub extern "C" fn lipvezor_open(b: Block, symbols: &mut [u8], marks: &mut [u8]) 
 // Take, with what it did in the lent record (lipvezor_taken).
 #[no_mangle]
 pub extern "C" fn lipvezor_take(
-    b: Block,
+    numbers: &[usize; 4],
     symbols: &mut [u8],
     marks: &mut [u8],
     unit: &[u8],
     taken: &mut [usize; 1],
 ) -> u8
-    ensures answer { λ r. ⌜ r ≡ numberOf (takeOf b (now (symbols .entry)) (now (marks .entry)) (now (unit .entry)) .answer) ⌝ }
-    ensures symbols { λ _. ⌜ now (symbols .exit) ≡ takeOf b (now (symbols .entry)) (now (marks .entry)) (now (unit .entry)) .symbols ⌝ }
-    ensures marks { λ _. ⌜ now (marks .exit) ≡ takeOf b (now (symbols .entry)) (now (marks .entry)) (now (unit .entry)) .marks ⌝ }
-    ensures taken { λ _. ⌜ now (taken .exit) ≡ recordAfter resultValues (now (taken .entry)) (takeOf b (now (symbols .entry)) (now (marks .entry)) (now (unit .entry)) .answer) ⌝ }
+    ensures answer { λ r. ⌜ r ≡ numberOf (takeOf (blockOf (now (numbers .entry))) (now (symbols .entry)) (now (marks .entry)) (now (unit .entry)) .answer) ⌝ }
+    ensures symbols { λ _. ⌜ now (symbols .exit) ≡ takeOf (blockOf (now (numbers .entry))) (now (symbols .entry)) (now (marks .entry)) (now (unit .entry)) .symbols ⌝ }
+    ensures marks { λ _. ⌜ now (marks .exit) ≡ takeOf (blockOf (now (numbers .entry))) (now (symbols .entry)) (now (marks .entry)) (now (unit .entry)) .marks ⌝ }
+    ensures taken { λ _. ⌜ now (taken .exit) ≡ recordAfter resultValues (now (taken .entry)) (takeOf (blockOf (now (numbers .entry))) (now (symbols .entry)) (now (marks .entry)) (now (unit .entry)) .answer) ⌝ }
 {
+    let b = block_of(numbers);
     match block::take::take(b, symbols, marks, unit) {
         Taken::Kept => {
             *taken = [1];
@@ -275,20 +292,21 @@ fn verdict_number(v: Verdict) -> usize
 // Close, with the verdict and the counts of heard, filled and left positions in the lent record (lipvezor_report).
 #[no_mangle]
 pub extern "C" fn lipvezor_close(
-    b: Block,
+    numbers: &[usize; 4],
     symbols: &mut [u8],
     marks: &mut [u8],
     work_words: &mut [u64],
     work_bytes: &mut [u8],
     report: &mut [usize; 4],
 ) -> u8
-    ensures answer { λ r. ⌜ r ≡ numberOf (closeOf b (now (symbols .entry)) (now (marks .entry)) (now («work_words» .entry)) (now («work_bytes» .entry)) .answer) ⌝ }
-    ensures symbols { λ _. ⌜ now (symbols .exit) ≡ closeOf b (now (symbols .entry)) (now (marks .entry)) (now («work_words» .entry)) (now («work_bytes» .entry)) .symbols ⌝ }
-    ensures marks { λ _. ⌜ now (marks .exit) ≡ closeOf b (now (symbols .entry)) (now (marks .entry)) (now («work_words» .entry)) (now («work_bytes» .entry)) .marks ⌝ }
-    ensures work_words { λ _. ⌜ now («work_words» .exit) ≡ closeOf b (now (symbols .entry)) (now (marks .entry)) (now («work_words» .entry)) (now («work_bytes» .entry)) .workWords ⌝ }
-    ensures work_bytes { λ _. ⌜ now («work_bytes» .exit) ≡ closeOf b (now (symbols .entry)) (now (marks .entry)) (now («work_words» .entry)) (now («work_bytes» .entry)) .workBytes ⌝ }
-    ensures report { λ _. ⌜ now (report .exit) ≡ recordAfter reportValues (now (report .entry)) (closeOf b (now (symbols .entry)) (now (marks .entry)) (now («work_words» .entry)) (now («work_bytes» .entry)) .answer) ⌝ }
+    ensures answer { λ r. ⌜ r ≡ numberOf (closeOf (blockOf (now (numbers .entry))) (now (symbols .entry)) (now (marks .entry)) (now («work_words» .entry)) (now («work_bytes» .entry)) .answer) ⌝ }
+    ensures symbols { λ _. ⌜ now (symbols .exit) ≡ closeOf (blockOf (now (numbers .entry))) (now (symbols .entry)) (now (marks .entry)) (now («work_words» .entry)) (now («work_bytes» .entry)) .symbols ⌝ }
+    ensures marks { λ _. ⌜ now (marks .exit) ≡ closeOf (blockOf (now (numbers .entry))) (now (symbols .entry)) (now (marks .entry)) (now («work_words» .entry)) (now («work_bytes» .entry)) .marks ⌝ }
+    ensures work_words { λ _. ⌜ now («work_words» .exit) ≡ closeOf (blockOf (now (numbers .entry))) (now (symbols .entry)) (now (marks .entry)) (now («work_words» .entry)) (now («work_bytes» .entry)) .workWords ⌝ }
+    ensures work_bytes { λ _. ⌜ now («work_bytes» .exit) ≡ closeOf (blockOf (now (numbers .entry))) (now (symbols .entry)) (now (marks .entry)) (now («work_words» .entry)) (now («work_bytes» .entry)) .workBytes ⌝ }
+    ensures report { λ _. ⌜ now (report .exit) ≡ recordAfter reportValues (now (report .entry)) (closeOf (blockOf (now (numbers .entry))) (now (symbols .entry)) (now (marks .entry)) (now («work_words» .entry)) (now («work_bytes» .entry)) .answer) ⌝ }
 {
+    let b = block_of(numbers);
     match block::close::close(b, symbols, marks, work_words, work_bytes) {
         Closed::Refused(number) => number,
         Closed::Reported(told) => {

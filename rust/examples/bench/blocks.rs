@@ -54,7 +54,7 @@ impl Sending {
 }
 
 pub fn encode<L: Layer>(s: &mut Sending) {
-    L::encode(black_box(s.record), &s.information, &mut s.parity).unwrap();
+    L::encode(black_box(&s.record), &s.information, &mut s.parity).unwrap();
 }
 
 /// The units of a block, one after the other, or each on a border of so many bytes.
@@ -75,7 +75,7 @@ impl Units {
 }
 
 pub fn write<L: Layer>(u: &mut Units) {
-    let record = black_box(u.sent.record);
+    let record = black_box(&u.sent.record);
     let each = record.unit_bytes();
     for (i, unit) in u.bytes.chunks_exact_mut(u.stride).enumerate() {
         L::write(record, i + 1, u.sent.symbol(i), &mut unit[..each]).unwrap();
@@ -129,7 +129,7 @@ impl Receiving {
 }
 
 pub fn close<L: Closing>(b: &mut Receiving) {
-    let record = black_box(b.record);
+    let record = black_box(&b.record);
     b.found = Some(L::close(record, &mut b.symbols, &mut b.marks, &mut b.words, &mut b.bytes).unwrap());
 }
 
@@ -147,12 +147,12 @@ impl Taking {
 
 pub fn open(t: &mut Taking) {
     let b = &mut t.block;
-    calls::open(b.record, &mut b.symbols, &mut b.marks).unwrap();
+    calls::open(&b.record, &mut b.symbols, &mut b.marks).unwrap();
 }
 
 pub fn take<L: Layer>(t: &mut Taking) {
     let b = &mut t.block;
-    let record = black_box(b.record);
+    let record = black_box(&b.record);
     for unit in t.units.bytes.chunks_exact(t.units.stride) {
         // not assert_eq!, for which the compiler may store each answer
         assert!(L::take(record, &mut b.symbols, &mut b.marks, unit) == Ok(Taken::Kept));

@@ -68,7 +68,7 @@ fn refusal(number: u8) -> Refusal {
 
 impl Closing for Earlier {
     #[inline]
-    fn close(record: Record, symbols: &mut [u8], marks: &mut [u8], words: &mut [u64], bytes: &mut [u8]) -> Result<Found, Refusal> {
+    fn close(record: &Record, symbols: &mut [u8], marks: &mut [u8], words: &mut [u64], bytes: &mut [u8]) -> Result<Found, Refusal> {
         let mut counts = [0; 3];
         let answer = unsafe {
             earlier_close(
@@ -99,7 +99,7 @@ impl Closing for Earlier {
 
 impl Layer for Earlier {
     #[inline]
-    fn encode(record: Record, information: &[u8], parity: &mut [u8]) -> Result<(), Refusal> {
+    fn encode(record: &Record, information: &[u8], parity: &mut [u8]) -> Result<(), Refusal> {
         let (code, w) = (record.code.number(), record.w);
         match unsafe { earlier_encode(code, w, information.as_ptr(), information.len(), parity.as_mut_ptr(), parity.len()) } {
             0 => Ok(()),
@@ -108,7 +108,7 @@ impl Layer for Earlier {
     }
 
     #[inline]
-    fn write(record: Record, lwc: usize, symbol: &[u8], out: &mut [u8]) -> Result<(), Refusal> {
+    fn write(record: &Record, lwc: usize, symbol: &[u8], out: &mut [u8]) -> Result<(), Refusal> {
         let answer = unsafe {
             earlier_write(
                 record.code.number(),
@@ -129,7 +129,7 @@ impl Layer for Earlier {
     }
 
     #[inline]
-    fn take(record: Record, symbols: &mut [u8], marks: &mut [u8], unit: &[u8]) -> Result<Taken, Refusal> {
+    fn take(record: &Record, symbols: &mut [u8], marks: &mut [u8], unit: &[u8]) -> Result<Taken, Refusal> {
         let answer = unsafe {
             earlier_take(
                 record.code.number(),

@@ -7,14 +7,14 @@ pub type Found = (Verdict, [usize; 3]);
 
 /// Close.
 pub trait Closing {
-    fn close(record: Record, symbols: &mut [u8], marks: &mut [u8], words: &mut [u64], bytes: &mut [u8]) -> Result<Found, Refusal>;
+    fn close(record: &Record, symbols: &mut [u8], marks: &mut [u8], words: &mut [u64], bytes: &mut [u8]) -> Result<Found, Refusal>;
 }
 
 /// Encode, write, take and close.
 pub trait Layer: Closing {
-    fn encode(record: Record, information: &[u8], parity: &mut [u8]) -> Result<(), Refusal>;
-    fn write(record: Record, lwc: usize, symbol: &[u8], out: &mut [u8]) -> Result<(), Refusal>;
-    fn take(record: Record, symbols: &mut [u8], marks: &mut [u8], unit: &[u8]) -> Result<Taken, Refusal>;
+    fn encode(record: &Record, information: &[u8], parity: &mut [u8]) -> Result<(), Refusal>;
+    fn write(record: &Record, lwc: usize, symbol: &[u8], out: &mut [u8]) -> Result<(), Refusal>;
+    fn take(record: &Record, symbols: &mut [u8], marks: &mut [u8], unit: &[u8]) -> Result<Taken, Refusal>;
 }
 
 /// The archive.
@@ -22,7 +22,7 @@ pub struct Ours;
 
 impl Closing for Ours {
     #[inline]
-    fn close(record: Record, symbols: &mut [u8], marks: &mut [u8], words: &mut [u64], bytes: &mut [u8]) -> Result<Found, Refusal> {
+    fn close(record: &Record, symbols: &mut [u8], marks: &mut [u8], words: &mut [u64], bytes: &mut [u8]) -> Result<Found, Refusal> {
         let report = calls::close(record, symbols, marks, words, bytes)?;
         Ok((report.verdict, [report.heard, report.filled, report.left]))
     }
@@ -30,17 +30,17 @@ impl Closing for Ours {
 
 impl Layer for Ours {
     #[inline]
-    fn encode(record: Record, information: &[u8], parity: &mut [u8]) -> Result<(), Refusal> {
+    fn encode(record: &Record, information: &[u8], parity: &mut [u8]) -> Result<(), Refusal> {
         calls::encode(record, information, parity)
     }
 
     #[inline]
-    fn write(record: Record, lwc: usize, symbol: &[u8], out: &mut [u8]) -> Result<(), Refusal> {
+    fn write(record: &Record, lwc: usize, symbol: &[u8], out: &mut [u8]) -> Result<(), Refusal> {
         calls::write(record, lwc, symbol, out)
     }
 
     #[inline]
-    fn take(record: Record, symbols: &mut [u8], marks: &mut [u8], unit: &[u8]) -> Result<Taken, Refusal> {
+    fn take(record: &Record, symbols: &mut [u8], marks: &mut [u8], unit: &[u8]) -> Result<Taken, Refusal> {
         calls::take(record, symbols, marks, unit)
     }
 }
@@ -50,25 +50,25 @@ pub struct Plain;
 
 impl Closing for Plain {
     #[inline]
-    fn close(record: Record, symbols: &mut [u8], marks: &mut [u8], words: &mut [u64], bytes: &mut [u8]) -> Result<Found, Refusal> {
-        plain_close::close(record, symbols, marks, words, bytes, &mut ())
+    fn close(record: &Record, symbols: &mut [u8], marks: &mut [u8], words: &mut [u64], bytes: &mut [u8]) -> Result<Found, Refusal> {
+        plain_close::close(*record, symbols, marks, words, bytes, &mut ())
     }
 }
 
 impl Layer for Plain {
     #[inline]
-    fn encode(record: Record, information: &[u8], parity: &mut [u8]) -> Result<(), Refusal> {
-        plain_encode::encode(record, information, parity)
+    fn encode(record: &Record, information: &[u8], parity: &mut [u8]) -> Result<(), Refusal> {
+        plain_encode::encode(*record, information, parity)
     }
 
     #[inline]
-    fn write(record: Record, lwc: usize, symbol: &[u8], out: &mut [u8]) -> Result<(), Refusal> {
-        plain_units::write(record, lwc, symbol, out)
+    fn write(record: &Record, lwc: usize, symbol: &[u8], out: &mut [u8]) -> Result<(), Refusal> {
+        plain_units::write(*record, lwc, symbol, out)
     }
 
     #[inline]
-    fn take(record: Record, symbols: &mut [u8], marks: &mut [u8], unit: &[u8]) -> Result<Taken, Refusal> {
-        plain_units::take(record, symbols, marks, unit)
+    fn take(record: &Record, symbols: &mut [u8], marks: &mut [u8], unit: &[u8]) -> Result<Taken, Refusal> {
+        plain_units::take(*record, symbols, marks, unit)
     }
 }
 
@@ -77,7 +77,7 @@ pub struct Simple;
 
 impl Closing for Simple {
     #[inline]
-    fn close(record: Record, symbols: &mut [u8], marks: &mut [u8], words: &mut [u64], bytes: &mut [u8]) -> Result<Found, Refusal> {
-        simple_close::close(record, symbols, marks, words, bytes, &mut ())
+    fn close(record: &Record, symbols: &mut [u8], marks: &mut [u8], words: &mut [u64], bytes: &mut [u8]) -> Result<Found, Refusal> {
+        simple_close::close(*record, symbols, marks, words, bytes, &mut ())
     }
 }

@@ -54,15 +54,15 @@ pub fn version() -> usize {
 }
 
 pub fn encode(of: Record, information: &[u8], parity: &mut [u8]) -> Result<(), u8> {
-    calls::encode(record(of), information, parity).map_err(Refusal::number)
+    calls::encode(&record(of), information, parity).map_err(Refusal::number)
 }
 
 pub fn show(of: Record, information: &[u8], parity: &[u8], lwc: usize, out: &mut [u8]) -> Result<(), u8> {
-    calls::show(record(of), information, parity, lwc, out).map_err(Refusal::number)
+    calls::show(&record(of), information, parity, lwc, out).map_err(Refusal::number)
 }
 
 pub fn write(of: Record, lwc: usize, symbol: &[u8], out: &mut [u8]) -> Result<(), u8> {
-    calls::write(record(of), lwc, symbol, out).map_err(Refusal::number)
+    calls::write(&record(of), lwc, symbol, out).map_err(Refusal::number)
 }
 
 pub fn read(unit: &[u8]) -> Result<UnitParts, u8> {
@@ -70,13 +70,13 @@ pub fn read(unit: &[u8]) -> Result<UnitParts, u8> {
 }
 
 pub fn open(of: Record, symbols: &mut [u8], marks: &mut [u8]) -> Result<(), u8> {
-    calls::open(record(of), symbols, marks).map_err(Refusal::number)
+    calls::open(&record(of), symbols, marks).map_err(Refusal::number)
 }
 
 pub fn take(of: Record, symbols: &mut [u8], marks: &mut [u8], unit: &[u8]) -> Result<Taken, u8> {
-    calls::take(record(of), symbols, marks, unit).map(taken).map_err(Refusal::number)
+    calls::take(&record(of), symbols, marks, unit).map(taken).map_err(Refusal::number)
 }
 
 pub fn close(of: Record, symbols: &mut [u8], marks: &mut [u8], words: &mut [u64], bytes: &mut [u8]) -> Result<Report, u8> {
-    calls::close(record(of), symbols, marks, words, bytes).map(report).map_err(Refusal::number)
+    calls::close(&record(of), symbols, marks, words, bytes).map(report).map_err(Refusal::number)
 }

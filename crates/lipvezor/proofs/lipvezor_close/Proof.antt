@@ -7,6 +7,9 @@ use borrow.Author.Needs.{needs}
 use Rattle.lipvezor.proofs.lipvezor_close.Statement.{statement}
 use Rattle.lipvezor.proofs.lipvezor_close.Tie as tie
 
+block-of-requires : tie.Need-block-of-requires
+block-of-requires c κs = search needs
+
 close-requires : tie.Need-close-requires
 close-requires c κs = search needs
 
@@ -34,8 +37,8 @@ same-length-4 c = search needs
 returns : tie.Need-returns
 returns c =
     let e = c .before .before .before .before .before .before .before .before .before .before .before .close .ensures in
-    let t = told closedAs reportValues (c .before .before .before .before .before .before .before .before .before .before .before .before .before .before .before .before .before .before .before .before .args .report .now) (e .0) (c .before .number .given .1) in
-    (t .0, (e .1 .0, (e .1 .1 .0, (e .1 .1 .1 .0, (e .1 .1 .1 .1, t .1)))))
+    let t = told closedAs reportValues (c .before .before .before .before .before .before .before .before .before .before .before .before .before .before .before .before .before .before .before .before .before .args .report .now) (e .0) (c .before .number .given .1) in
+    rw (← c .before .before .before .before .before .before .before .before .before .before .before .before .before .before .before .before .block-of .ensures) (t .0, (e .1 .0, (e .1 .1 .0, (e .1 .1 .1 .0, (e .1 .1 .1 .1, t .1)))))
 
 same-length-5 : tie.Need-same-length-5
 same-length-5 c = search needs
@@ -52,13 +55,14 @@ same-length-8 c = search needs
 returns-2 : tie.Need-returns-2
 returns-2 c =
     let e = c .before .before .before .before .before .before .before .before .before .before .before .before .before .close .ensures in
-    let t = reported (c .before .before .before .before .before .before .before .before .before .before .before .before .before .before .before .before .before .before .before .before .before .before .args .report .now) (c .before .verdict-number .ensures) (e .0) (c .before .before .before .told .given .1) in
-    (t .0, (e .1 .0, (e .1 .1 .0, (e .1 .1 .1 .0, (e .1 .1 .1 .1, t .1)))))
+    let t = reported (c .before .before .before .before .before .before .before .before .before .before .before .before .before .before .before .before .before .before .before .before .before .before .before .args .report .now) (c .before .verdict-number .ensures) (e .0) (c .before .before .before .told .given .1) in
+    rw (← c .before .before .before .before .before .before .before .before .before .before .before .before .before .before .before .before .before .before .block-of .ensures) (t .0, (e .1 .0, (e .1 .1 .0, (e .1 .1 .1 .0, (e .1 .1 .1 .1, t .1)))))
 
 pub lipvezor-close-spec : {M : Type 1} → statement M
 lipvezor-close-spec =
     tie.close
     (tie.spec
+    block-of-requires
     close-requires
     enum-known-number
     enum-known-told

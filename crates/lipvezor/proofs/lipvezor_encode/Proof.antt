@@ -6,6 +6,9 @@ use borrow.Author.Needs.{needs}
 use Rattle.lipvezor.proofs.lipvezor_encode.Statement.{statement}
 use Rattle.lipvezor.proofs.lipvezor_encode.Tie as tie
 
+block-of-requires : tie.Need-block-of-requires
+block-of-requires c κs = search needs
+
 encode-requires : tie.Need-encode-requires
 encode-requires c κs = search needs
 
@@ -21,7 +24,7 @@ same-length c = search needs
 returns : tie.Need-returns
 returns c =
     let e = c .before .before .before .before .encode .ensures in
-    (number-told encodedAs (e .0) (c .enum-told .given .1), e .1)
+    rw (← c .before .before .before .before .before .before .block-of .ensures) (number-told encodedAs (e .0) (c .enum-told .given .1), e .1)
 
 same-length-2 : tie.Need-same-length-2
 same-length-2 c = search needs
@@ -29,7 +32,7 @@ same-length-2 c = search needs
 returns-2 : tie.Need-returns-2
 returns-2 c =
     let e = c .before .before .before .before .before .encode .ensures in
-    (number-told encodedAs (e .0) (c .before .number .given .1), e .1)
+    rw (← c .before .before .before .before .before .before .before .block-of .ensures) (number-told encodedAs (e .0) (c .before .number .given .1), e .1)
 
 pub lipvezor-encode-spec : {M : Type 1} → statement M
-lipvezor-encode-spec = tie.close (tie.spec encode-requires enum-told enum-known-number same-length returns same-length-2 returns-2)
+lipvezor-encode-spec = tie.close (tie.spec block-of-requires encode-requires enum-told enum-known-number same-length returns same-length-2 returns-2)

@@ -7,6 +7,9 @@ use borrow.Author.Needs.{needs}
 use Rattle.lipvezor.proofs.lipvezor_open.Statement.{statement}
 use Rattle.lipvezor.proofs.lipvezor_open.Tie as tie
 
+block-of-requires : tie.Need-block-of-requires
+block-of-requires c κs = search needs
+
 open-requires : tie.Need-open-requires
 open-requires c κs = search needs
 
@@ -25,7 +28,7 @@ same-length-2 c = search needs
 returns : tie.Need-returns
 returns c =
     let e = c .before .before .before .before .before .before .«open» .ensures in
-    (by-case openedAs numberOf (e .0) (c .enum-told .given .1), e .1)
+    rw (← c .before .before .before .before .before .before .before .before .before .block-of .ensures) (by-case openedAs numberOf (e .0) (c .enum-told .given .1), e .1)
 
 same-length-3 : tie.Need-same-length-3
 same-length-3 c = search needs
@@ -36,12 +39,13 @@ same-length-4 c = search needs
 returns-2 : tie.Need-returns-2
 returns-2 c =
     let e = c .before .before .before .before .before .before .before .«open» .ensures in
-    (by-case openedAs numberOf (e .0) (c .before .number .given .1), e .1)
+    rw (← c .before .before .before .before .before .before .before .before .before .before .block-of .ensures) (by-case openedAs numberOf (e .0) (c .before .number .given .1), e .1)
 
 pub lipvezor-open-spec : {M : Type 1} → statement M
 lipvezor-open-spec =
     tie.close
     (tie.spec
+    block-of-requires
     open-requires
     enum-told
     enum-known-number

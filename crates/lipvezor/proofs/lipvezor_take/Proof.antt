@@ -7,6 +7,9 @@ use borrow.Author.Needs.{needs}
 use Rattle.lipvezor.proofs.lipvezor_take.Statement.{statement}
 use Rattle.lipvezor.proofs.lipvezor_take.Tie as tie
 
+block-of-requires : tie.Need-block-of-requires
+block-of-requires c κs = search needs
+
 take-requires : tie.Need-take-requires
 take-requires c κs = search needs
 
@@ -28,8 +31,8 @@ same-length-2 c = search needs
 returns : tie.Need-returns
 returns c =
     let e = c .before .before .before .before .before .before .before .take .ensures in
-    let t = told takenAs resultValues (c .before .before .before .before .before .before .before .before .before .before .before .before .before .args .taken .now) (e .0) (c .before .enum-told .given .1) in
-    (t .0, (e .1 .0, (e .1 .1, t .1)))
+    let t = told takenAs resultValues (c .before .before .before .before .before .before .before .before .before .before .before .before .before .before .args .taken .now) (e .0) (c .before .enum-told .given .1) in
+    rw (← c .before .before .before .before .before .before .before .before .before .before .block-of .ensures) (t .0, (e .1 .0, (e .1 .1, t .1)))
 
 same-length-3 : tie.Need-same-length-3
 same-length-3 c = search needs
@@ -40,8 +43,8 @@ same-length-4 c = search needs
 returns-2 : tie.Need-returns-2
 returns-2 c =
     let e = c .before .before .before .before .before .before .before .take .ensures in
-    let t = told takenAs resultValues (c .before .before .before .before .before .before .before .before .before .before .before .before .before .args .taken .now) (e .0) (c .before .enum-told2 .given .1) in
-    (t .0, (e .1 .0, (e .1 .1, t .1)))
+    let t = told takenAs resultValues (c .before .before .before .before .before .before .before .before .before .before .before .before .before .before .args .taken .now) (e .0) (c .before .enum-told2 .given .1) in
+    rw (← c .before .before .before .before .before .before .before .before .before .before .block-of .ensures) (t .0, (e .1 .0, (e .1 .1, t .1)))
 
 same-length-5 : tie.Need-same-length-5
 same-length-5 c = search needs
@@ -52,13 +55,14 @@ same-length-6 c = search needs
 returns-3 : tie.Need-returns-3
 returns-3 c =
     let e = c .before .before .before .before .before .before .before .take .ensures in
-    let t = told takenAs resultValues (c .before .before .before .before .before .before .before .before .before .before .before .before .before .args .taken .now) (e .0) (c .before .number .given .1) in
-    (t .0, (e .1 .0, (e .1 .1, t .1)))
+    let t = told takenAs resultValues (c .before .before .before .before .before .before .before .before .before .before .before .before .before .before .args .taken .now) (e .0) (c .before .number .given .1) in
+    rw (← c .before .before .before .before .before .before .before .before .before .before .block-of .ensures) (t .0, (e .1 .0, (e .1 .1, t .1)))
 
 pub lipvezor-take-spec : {M : Type 1} → statement M
 lipvezor-take-spec =
     tie.close
     (tie.spec
+    block-of-requires
     take-requires
     enum-told
     enum-told-2
