@@ -1,4 +1,5 @@
-//! Neither write nor anything that it calls has an array. What is walked is the MIR, the program that is proved and compiled.
+//! Neither the writer nor anything that it calls has an array, and the call for C has none but the record that it is lent. What is walked is the
+//! MIR, the program that is proved and compiled.
 use std::collections::{BTreeMap, BTreeSet};
 use std::path::Path;
 use std::process::Command;
@@ -60,6 +61,20 @@ struct Function<'a> {
     calls: Vec<&'a str>,
     /// Whether an array's type or literal stands in it, also as the field of a type that it names.
     array: bool,
+    /// Whether one stands there otherwise than as what is read through a reference.
+    own_array: bool,
+}
+
+/// Whether an array's type or literal stands in a list, but for what a reference `&` leads to.
+fn has_own_array(list: &[Node]) -> bool {
+    let lent = matches!(list, [Word("tyRef"), _, Word("imm"), List(_)] | [Word("deref"), List(_)]);
+    list.iter().any(|node| match node {
+        Word("tyArray" | "repeat") => true,
+        // of what is lent, the array itself is passed over and its elements are not
+        List(inner) if lent && matches!(inner[..], [Word("tyArray"), ..]) => has_own_array(&inner[1..]),
+        List(inner) => has_own_array(inner),
+        _ => false,
+    })
 }
 
 /// Whether a call is by a function's path.
@@ -70,7 +85,7 @@ fn is_direct(callee: &Node) -> bool {
 
 /// A function of its parts: its locals and body, and the fields of the types that it names.
 fn function<'a>(path: &str, parts: &[Node<'a>]) -> Function<'a> {
-    let mut function = Function::default();
+    let mut function = Function { own_array: has_own_array(parts), ..Function::default() };
     let (mut named, mut declared) = (BTreeSet::new(), BTreeSet::new());
     for list in lists(parts) {
         function.array |= list.iter().any(|node| matches!(node, Word("tyArray" | "repeat")));
@@ -143,12 +158,23 @@ fn printed() -> &'static str {
 
 #[test]
 fn write_reaches_no_array() {
+    let (program, start) = (program(printed()), "ccsds::writer::write");
+    let found = with_array(&program, start);
+    assert!(found.is_empty(), "functions with an array, reached by write:\n{}", found.join("\n"));
+    println!("walked {} functions of {}", reached(&program, start).len(), program.len());
+}
+
+/// The call for C reads the block's numbers through a reference to an array of four, and that is all.
+#[test]
+fn write_for_c_is_lent_its_record_alone() {
     let (program, start) = (program(printed()), "lipvezor::lipvezor_write");
     let reached = reached(&program, start);
     assert!(reached.contains_key("ccsds::writer::write"), "{reached:?}");
     let found = with_array(&program, start);
-    assert!(found.is_empty(), "functions with an array, reached by write:\n{}", found.join("\n"));
-    println!("walked {} functions of {}", reached.len(), program.len());
+    assert_eq!(found, ["lipvezor::block_of, called by lipvezor::lipvezor_write", "lipvezor::lipvezor_write, called by the user"]);
+    for path in reached.keys() {
+        assert!(!program[path].own_array, "{path} has an array of its own");
+    }
 }
 
 #[test]
@@ -186,6 +212,14 @@ fn array_two_calls_down() {
     assert_eq!(found(&functions(ARRAY)), ["c, called by b"]);
     assert_eq!(found(&functions(&format!("(tyRef erased imm {ARRAY})"))), ["c, called by b"]);
     assert!(found(&functions(BYTE)).is_empty());
+}
+
+#[test]
+fn array_behind_a_reference() {
+    let own = |ty: &str| program(&made("start", ty, &[], ""))["start"].own_array;
+    assert!(!own(BYTE) && !own(&format!("(tyRef erased imm {ARRAY})")));
+    assert!(own(ARRAY) && own(&format!("(tyRef erased mut {ARRAY})")));
+    assert!(own(&format!("(tyRef erased imm (tyArray {ARRAY} (lenLit 2)))")));
 }
 
 #[test]
