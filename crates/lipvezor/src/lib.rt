@@ -190,7 +190,12 @@ pub extern "C" fn lipvezor_show<'a, 'b, 'c>(
 
 // Write.
 #[no_mangle]
-pub extern "C" fn lipvezor_write(numbers: &[usize; 4], lwc: usize, symbol: &[u8], out: &mut [u8]) -> u8
+pub extern "C" fn lipvezor_write(
+    numbers: &[usize; 4],
+    lwc: usize,
+    symbol: &[u8],
+    out: &mut [u8],
+) -> u8
     ensures answer { λ r. ⌜ r ≡ writeRefusal (blockOf (now (numbers .entry)) .code) (blockOf (now (numbers .entry)) .w) (blockOf (now (numbers .entry)) .protocol) (blockOf (now (numbers .entry)) .lsc) lwc (length (now (symbol .entry))) (length (now (out .entry))) ⌝ }
     ensures output { λ _. ⌜ now (out .exit) ≡ afterwards (writeRefusal (blockOf (now (numbers .entry)) .code) (blockOf (now (numbers .entry)) .w) (blockOf (now (numbers .entry)) .protocol) (blockOf (now (numbers .entry)) .lsc) lwc (length (now (symbol .entry))) (length (now (out .entry)))) (unitOf (codeOf (blockOf (now (numbers .entry)) .code)) (blockOf (now (numbers .entry)) .w) (blockOf (now (numbers .entry)) .protocol) (blockOf (now (numbers .entry)) .lsc) lwc (now (symbol .entry))) (now (out .entry)) ⌝ }
 {
