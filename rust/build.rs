@@ -19,7 +19,7 @@ fn fail(why: String) -> ! {
 
 /// A folder that cargo or the caller names.
 fn folder(variable: &str) -> Option<PathBuf> {
-    std::env::var_os(variable).map(PathBuf::from)
+    std::env::var_os(variable).filter(|value| !value.is_empty()).map(PathBuf::from)
 }
 
 /// The archive in a folder.

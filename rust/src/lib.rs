@@ -127,6 +127,8 @@
 #![no_std]
 #![deny(unsafe_code)]
 #![warn(missing_docs)]
+// without alloc, what the docs link to is not all there
+#![cfg_attr(not(feature = "alloc"), allow(rustdoc::broken_intra_doc_links))]
 
 #[cfg(feature = "alloc")]
 extern crate alloc;
@@ -148,19 +150,30 @@ mod unit;
 #[cfg(feature = "alloc")]
 mod work;
 
+#[doc(inline)]
 pub use answers::{Mark, Report, Taken, Verdict};
+#[doc(inline)]
 pub use block::Block;
+#[doc(inline)]
 pub use closed::{Ambiguous, Closed, Inconsistent, Missing, Symbol, Symbols, Whole};
+#[doc(inline)]
 pub use code::Code;
+#[doc(inline)]
 pub use codeword::Codeword;
 #[cfg(feature = "alloc")]
+#[doc(inline)]
 pub use codeword::Units;
 #[cfg(feature = "alloc")]
+#[doc(inline)]
 pub use receiver::{ReceiveError, Received, Receiver};
+#[doc(inline)]
 pub use record::Record;
+#[doc(inline)]
 pub use refusal::{Refusal, UnknownRefusal};
+#[doc(inline)]
 pub use unit::{Parameters, Unit};
 #[cfg(feature = "alloc")]
+#[doc(inline)]
 pub use work::Work;
 
 /// The largest W: bytes of a symbol.
