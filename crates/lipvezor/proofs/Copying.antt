@@ -18,7 +18,7 @@ use Rattle.ccsds.specs.Show.{Slice, showRefusal, showOf}
 use Rattle.ccsds.proofs.RefusalOrder.{in-order, parts-none, part-passed, first-none, first-on, first-end}
 use Rattle.ccsds.proofs.Refusals.{length-right}
 use Rattle.ccsds.proofs.ShowLaws.{Showable, showable, in-information, in-parity, shows-information, shows-parity}
-use Rattle.lipvezor.specs.Numbers.{copyRefusal}
+use Rattle.lipvezor.specs.Sending.{copyRefusal}
 
 -- show is not refused, and the output has W bytes
 pub copyable : (number w infoLength parityLength lwc outLength : ℕ) → copyRefusal number w infoLength parityLength lwc outLength ≡ 0

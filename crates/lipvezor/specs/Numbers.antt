@@ -1,15 +1,12 @@
--- The calls' answers as numbers, for C and Rust. Each call answers 0 where it is done and else the number of its refusal; what else it has
+-- Records and answers as numbers, for C and Rust. Each call answers 0 where it is done and else the number of its refusal; what else it has
 -- to say stands in a lent record.
 -- Assumes nothing.
-use mathlib.Core.List.{List, [], _∷_, _++_}
+use mathlib.Core.List.{List, [], _∷_}
 use mathlib.Core.Option.{Option, none, some}
 use Prim.Native.Nat.{ℕ}
 use lib.ListN.{getD}
 use Rattle.algebra.specs.Agreeing.{Verdict, whole, ambiguous, inconsistent}
-use Rattle.ccsds.specs.Codes.{nOf}
-use Rattle.ccsds.specs.Tables.{codeOf}
-use Rattle.ccsds.specs.RefusalTable as refusal
-use Rattle.ccsds.specs.Refusals.{Outcome, refused, answered, firstOf, encoderConditions, wrongLength, wrongPosition}
+use Rattle.ccsds.specs.Refusals.{Outcome, refused, answered}
 use Rattle.ccsds.specs.Reader.{Coding, Parts}
 use Rattle.block.specs.Take.{TakeResult, kept, repeated}
 use Rattle.block.specs.Close.{Report}
@@ -42,19 +39,6 @@ codingValues (some p) = 1 ∷ p .w ∷ p .k ∷ p .n ∷ p .seed ∷ []
 
 abbrev pub partsValues : Parts → List ℕ
 partsValues p = p .protocol ∷ p .count ∷ p .lwc ∷ p .lsc ∷ p .symbol ∷ codingValues (p .coding)
-
--- ---- show
-
--- The number of the refusal, or 0: where 1, 2, 4 or 9 would apply show has the empty part; here its number is answered, and an output that
--- is not W bytes is 4.
-unfoldable pub copyRefusal : ℕ → ℕ → ℕ → ℕ → ℕ → ℕ → ℕ
-copyRefusal number w infoLength parityLength lwc outLength =
-    firstOf (
-    encoderConditions number w infoLength parityLength
-    ++ (refusal.length, wrongLength outLength w)
-    ∷ (refusal.position, wrongPosition (nOf (codeOf number)) lwc)
-    ∷ []
-    )
 
 -- ---- take
 

@@ -14,18 +14,16 @@ use ccsds::writer::Written;
 use encoder::encode::Encoded;
 ghost use mathlib.Core.Path.{_≡_};
 ghost use Prim.Native.Nat.{_+_, _*_, _/_};
-ghost use lib.ListN.{length};
-ghost use Rattle.ccsds.specs.Codes.{nOf, encodeOf};
+ghost use Rattle.ccsds.specs.Codes.{nOf};
 ghost use Rattle.ccsds.specs.Tables.{codeOf};
-ghost use Rattle.ccsds.specs.Refusals.{afterwards, bytesOf};
-ghost use Rattle.encoder.specs.Encode.{encodeRefusal};
-ghost use Rattle.ccsds.specs.Writer.{unitOf, unitBytes, writeRefusal};
+ghost use Rattle.ccsds.specs.Refusals.{bytesOf};
+ghost use Rattle.ccsds.specs.Writer.{unitBytes};
 ghost use Rattle.ccsds.specs.Reader.{readUnit};
-ghost use Rattle.ccsds.specs.Show.{showOf};
 ghost use Rattle.block.specs.Open.{openOf};
 ghost use Rattle.block.specs.Take.{takeOf};
 ghost use Rattle.block.specs.Close.{closeOf, verdictAs};
-ghost use Rattle.lipvezor.specs.Numbers.{version, blockOf, numberOf, recordAfter, partsValues, copyRefusal, resultValues, verdictNumber, reportValues};
+ghost use Rattle.lipvezor.specs.Numbers.{version, blockOf, numberOf, recordAfter, partsValues, resultValues, verdictNumber, reportValues};
+ghost use Rattle.lipvezor.specs.Sending.{encoding, copyRefusal, showing, writing};
 
 // The version of this library, as the header's LIPVEZOR_VERSION.
 #[no_mangle]
@@ -131,8 +129,8 @@ fn block_of(numbers: &[usize; 4]) -> Block
 // Encode.
 #[no_mangle]
 pub extern "C" fn lipvezor_encode(numbers: &[usize; 4], info: &[u8], parity: &mut [u8]) -> u8
-    ensures answer { λ r. ⌜ r ≡ encodeRefusal (blockOf (now (numbers .entry)) .code) (blockOf (now (numbers .entry)) .w) (length (now (info .entry))) (length (now (parity .entry))) ⌝ }
-    ensures parity { λ _. ⌜ now (parity .exit) ≡ afterwards (encodeRefusal (blockOf (now (numbers .entry)) .code) (blockOf (now (numbers .entry)) .w) (length (now (info .entry))) (length (now (parity .entry)))) (encodeOf (codeOf (blockOf (now (numbers .entry)) .code)) (blockOf (now (numbers .entry)) .w) (now (info .entry))) (now (parity .entry)) ⌝ }
+    ensures answer { λ r. ⌜ r ≡ encoding (blockOf (now (numbers .entry))) (now (info .entry)) (now (parity .entry)) .number ⌝ }
+    ensures parity { λ _. ⌜ now (parity .exit) ≡ encoding (blockOf (now (numbers .entry))) (now (info .entry)) (now (parity .entry)) .output ⌝ }
 {
     let b = block_of(numbers);
     match encoder::encode::encode(b.code, b.w, info, parity) {
@@ -175,8 +173,8 @@ pub extern "C" fn lipvezor_show<'a, 'b, 'c>(
     lwc: usize,
     out: &'b mut [u8],
 ) -> u8
-    ensures answer { λ r. ⌜ r ≡ copyRefusal (blockOf (now (numbers .entry)) .code) (blockOf (now (numbers .entry)) .w) (length (now (info .entry))) (length (now (parity .entry))) lwc (length (now (out .entry))) ⌝ }
-    ensures output { λ _. ⌜ now (out .exit) ≡ afterwards (copyRefusal (blockOf (now (numbers .entry)) .code) (blockOf (now (numbers .entry)) .w) (length (now (info .entry))) (length (now (parity .entry))) lwc (length (now (out .entry)))) (showOf (blockOf (now (numbers .entry)) .code) (blockOf (now (numbers .entry)) .w) (info .entry) (parity .entry) lwc .bytes) (now (out .entry)) ⌝ }
+    ensures answer { λ r. ⌜ r ≡ showing (blockOf (now (numbers .entry))) (info .entry) (parity .entry) lwc (now (out .entry)) .number ⌝ }
+    ensures output { λ _. ⌜ now (out .exit) ≡ showing (blockOf (now (numbers .entry))) (info .entry) (parity .entry) lwc (now (out .entry)) .output ⌝ }
 {
     let b = block_of(numbers);
     let number = check_copy(b.code, b.w, info.len(), parity.len(), lwc, out.len());
@@ -196,8 +194,8 @@ pub extern "C" fn lipvezor_write(
     symbol: &[u8],
     out: &mut [u8],
 ) -> u8
-    ensures answer { λ r. ⌜ r ≡ writeRefusal (blockOf (now (numbers .entry)) .code) (blockOf (now (numbers .entry)) .w) (blockOf (now (numbers .entry)) .protocol) (blockOf (now (numbers .entry)) .lsc) lwc (length (now (symbol .entry))) (length (now (out .entry))) ⌝ }
-    ensures output { λ _. ⌜ now (out .exit) ≡ afterwards (writeRefusal (blockOf (now (numbers .entry)) .code) (blockOf (now (numbers .entry)) .w) (blockOf (now (numbers .entry)) .protocol) (blockOf (now (numbers .entry)) .lsc) lwc (length (now (symbol .entry))) (length (now (out .entry)))) (unitOf (codeOf (blockOf (now (numbers .entry)) .code)) (blockOf (now (numbers .entry)) .w) (blockOf (now (numbers .entry)) .protocol) (blockOf (now (numbers .entry)) .lsc) lwc (now (symbol .entry))) (now (out .entry)) ⌝ }
+    ensures answer { λ r. ⌜ r ≡ writing (blockOf (now (numbers .entry))) lwc (now (symbol .entry)) (now (out .entry)) .number ⌝ }
+    ensures output { λ _. ⌜ now (out .exit) ≡ writing (blockOf (now (numbers .entry))) lwc (now (symbol .entry)) (now (out .entry)) .output ⌝ }
 {
     let b = block_of(numbers);
     match ccsds::writer::write(b.code, b.w, b.protocol, b.lsc, lwc, symbol, out) {

@@ -10,7 +10,7 @@ use Rattle.ccsds.specs.RefusalTable as refusal
 use Rattle.ccsds.specs.Refusals.{encoderConditions, wrongLength, wrongPosition}
 use Rattle.ccsds.proofs.RefusalOrder.{chain, part-refuses, part-passed, first-is, first-on, first-end}
 use Rattle.ccsds.proofs.Refusals.{length-same, length-wrong}
-use Rattle.lipvezor.specs.Numbers.{copyRefusal}
+use Rattle.lipvezor.specs.Sending.{copyRefusal}
 use Rattle.lipvezor.proofs.check_copy.Statement.{statement}
 use Rattle.lipvezor.proofs.check_copy.Tie as tie
 

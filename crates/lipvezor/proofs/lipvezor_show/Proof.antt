@@ -5,7 +5,7 @@ use native.Mathlib.Omega.{arith}
 use lib.ListN.{length}
 use Rattle.ccsds.specs.Show.{Slice}
 use Rattle.ccsds.proofs.Refusals.{kept-by, changed-by}
-use Rattle.lipvezor.specs.Numbers.{copyRefusal}
+use Rattle.lipvezor.specs.Sending.{copyRefusal}
 use Rattle.lipvezor.proofs.Copying.{copyable, shown-length, copied}
 use borrow.Author.Needs.{needs}
 use Rattle.lipvezor.proofs.lipvezor_show.Statement.{statement}

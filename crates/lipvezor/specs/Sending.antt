@@ -1,0 +1,50 @@
+-- Encode, show and write on a block's record, for C and Rust: the number that each answers, and its output afterwards.
+-- Assumes nothing.
+use mathlib.Core.List.{List, [], _∷_, _++_}
+use Prim.Native.Nat.{ℕ}
+use lib.ListN.{length}
+use denote.Ref.{RefT, now}
+use Rattle.ccsds.specs.Codes.{nOf, encodeOf}
+use Rattle.ccsds.specs.Tables.{codeOf}
+use Rattle.ccsds.specs.RefusalTable as refusal
+use Rattle.ccsds.specs.Refusals.{firstOf, encoderConditions, wrongLength, wrongPosition, afterwards}
+use Rattle.ccsds.specs.Show.{showOf}
+use Rattle.ccsds.specs.Writer.{unitOf, writeRefusal}
+use Rattle.encoder.specs.Encode.{encodeRefusal}
+use Rattle.block.specs.declared.Block.{Block}
+
+pub record Sending : Type 0 where
+  pub number : ℕ
+  pub output : List ℕ
+
+-- by the number of the refusal, or 0: a refused call leaves the output as it was
+abbrev pub sendingBy : ℕ → List ℕ → List ℕ → Sending
+sendingBy number new old = record { number = number; output = afterwards number new old }
+
+-- of the information and the parity buffer
+abbrev pub encoding : Block → List ℕ → List ℕ → Sending
+encoding b info parity =
+    sendingBy (encodeRefusal (b .code) (b .w) (length info) (length parity)) (encodeOf (codeOf (b .code)) (b .w) info) parity
+
+-- The number of show's refusal, or 0: where 1, 2, 4 or 9 would apply show has the empty part; here its number is answered, and an output
+-- that is not W bytes is 4.
+unfoldable pub copyRefusal : ℕ → ℕ → ℕ → ℕ → ℕ → ℕ → ℕ
+copyRefusal number w infoLength parityLength lwc outLength =
+    firstOf (
+    encoderConditions number w infoLength parityLength
+    ++ (refusal.length, wrongLength outLength w)
+    ∷ (refusal.position, wrongPosition (nOf (codeOf number)) lwc)
+    ∷ []
+    )
+
+-- of the encoder's two buffers, an LWC and the output, which gets a copy of the shown part
+abbrev pub showing : Block → RefT (List ℕ) → RefT (List ℕ) → ℕ → List ℕ → Sending
+showing b info parity lwc out =
+    sendingBy (copyRefusal (b .code) (b .w) (length (now info)) (length (now parity)) lwc (length out))
+    (showOf (b .code) (b .w) info parity lwc .bytes) out
+
+-- of an LWC, a symbol and the output
+abbrev pub writing : Block → ℕ → List ℕ → List ℕ → Sending
+writing b lwc symbol out =
+    sendingBy (writeRefusal (b .code) (b .w) (b .protocol) (b .lsc) lwc (length symbol) (length out))
+    (unitOf (codeOf (b .code)) (b .w) (b .protocol) (b .lsc) lwc symbol) out
