@@ -139,9 +139,9 @@ pub fn seeded() -> Random {
     Random::new(seed())
 }
 
-/// Seconds for random blocks: LIPVEZOR_SECONDS, 90 by default.
+/// Seconds for random blocks: LIPVEZOR_SECONDS, 45 by default.
 pub fn seconds() -> u64 {
-    number_from("LIPVEZOR_SECONDS", 90)
+    number_from("LIPVEZOR_SECONDS", 45)
 }
 
 fn number_from(variable: &str, default: u64) -> u64 {
