@@ -60,7 +60,8 @@ fn sum_64(s: Chunk64, src: &[u8], from: usize) -> Chunk64
     }
 }
 
-// The sum of bytes c to c + 63 of the n symbols xs of src. Each position is read once for all of them.
+// The sum of bytes c to c + 63 of the n symbols xs of src. Each position is read once for all of them. This loop, running_sum_64's and
+// row_sum_64's have one caller each, so that they are inlined: called for each chunk, a loop takes twice as long.
 fn gather_64(w: usize, c: usize, xs: &[u16; 64], n: usize, src: &[u8]) -> Chunk64
     requires { ⌜ c + 64 ≤ w ⌝ }
     requires { ⌜ Inside (now xs) n w (length (now src)) ⌝ }
@@ -134,8 +135,7 @@ fn before_byte(dst: &[u8], w: usize, prev: usize, c: usize) -> u8
     dst[(prev - 1) * w + c]
 }
 
-// Bytes c to c + 63 of symbol prev - 1 of dst, where prev is not 0, plus those of the n symbols xs of src. It has one
-// caller, so that it is inlined; a loop that is handed its start and shared with gather_64 is not.
+// Bytes c to c + 63 of symbol prev - 1 of dst, where prev is not 0, plus those of the n symbols xs of src.
 fn running_sum_64(
     w: usize,
     prev: usize,
@@ -420,13 +420,33 @@ fn or_16<'a>(t: &'a [u8; 16], u: &'a [u8; 16]) -> [u8; 16]
     r
 }
 
+// gather_64 for cancels.
+fn row_sum_64(w: usize, c: usize, xs: &[u16; 64], n: usize, src: &[u8]) -> Chunk64
+    requires { ⌜ c + 64 ≤ w ⌝ }
+    requires { ⌜ Inside (now xs) n w (length (now src)) ⌝ }
+    ensures { λ r. ⌜ Chunk64Is (summed (λ b. 0) w (now (src .entry)) (now (xs .entry)) n) c r ⌝ }
+{
+    let mut s = Chunk64 {
+        a: [0u8; 16],
+        b: [0u8; 16],
+        c: [0u8; 16],
+        d: [0u8; 16],
+    };
+    let mut i = 0;
+    while i < n {
+        s = sum_64(s, src, offset(xs[i], w, c));
+        i += 1;
+    }
+    s
+}
+
 // Bytes c to c + 63 of the n symbols xs of src add up to zero.
 fn cancels_64(w: usize, c: usize, xs: &[u16; 64], n: usize, src: &[u8]) -> bool
     requires { ⌜ c + 64 ≤ w ⌝ }
     requires { ⌜ Inside (now xs) n w (length (now src)) ⌝ }
     ensures { λ r. ⌜ ZeroIs (summed (λ b. 0) w (now (src .entry)) (now (xs .entry)) n) c (c + 64) r ⌝ }
 {
-    let s = gather_64(w, c, xs, n, src);
+    let s = row_sum_64(w, c, xs, n, src);
     let x = or_16(&s.a, &s.b);
     let y = or_16(&s.c, &s.d);
     all_zero(&or_16(&x, &y), 0, 16)

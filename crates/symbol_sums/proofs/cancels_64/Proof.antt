@@ -5,8 +5,8 @@ use borrow.Author.Needs.{needs}
 use Rattle.symbol_sums.proofs.cancels_64.Statement.{statement}
 use Rattle.symbol_sums.proofs.cancels_64.Tie as tie
 
-gather-64-requires : tie.Need-gather-64-requires
-gather-64-requires c κs = search needs
+row-sum-64-requires : tie.Need-row-sum-64-requires
+row-sum-64-requires c κs = search needs
 
 or-16-requires : tie.Need-or-16-requires
 or-16-requires c κs = search needs
@@ -24,13 +24,13 @@ all-zero-requires : tie.Need-all-zero-requires
 all-zero-requires c κs = search needs
 
 returns : tie.Need-returns
-returns c = zero-64 (c .before .before .before .before .before .before .before .before .before .before .before .before .before .gather-64 .ensures) (c .before .before .before .before .before .before .before .before .before .or-16 .ensures) (c .before .before .before .before .before .or-162 .ensures) (c .before .before .or-163 .ensures) (c .all-zero .result) (c .all-zero .ensures)
+returns c = zero-64 (c .before .before .before .before .before .before .before .before .before .before .before .before .before .row-sum-64 .ensures) (c .before .before .before .before .before .before .before .before .before .or-16 .ensures) (c .before .before .before .before .before .or-162 .ensures) (c .before .before .or-163 .ensures) (c .all-zero .result) (c .all-zero .ensures)
 
 pub cancels-64-spec : {M : Type 1} → statement M
 cancels-64-spec =
     tie.close
     (tie.spec
-    gather-64-requires
+    row-sum-64-requires
     or-16-requires
     or-16-requires-2
     or-16-requires-3
