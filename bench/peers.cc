@@ -1,5 +1,5 @@
-// Encode and close of C2 beside Reed-Solomon codes of two libraries, ISA-L and cm256cc, in one process on the same information and losses.
-// make bench-peers builds and runs it where both are installed. What differs between the sides is printed first.
+// Encode and close of C2 beside Reed-Solomon codes of two libraries, ISA-L and cm256cc, and RaptorQ of a third, lcrq, in one process on the same
+// information and losses. make bench-peers builds and runs it where all three are installed. What differs between the sides is printed first.
 #include <algorithm>
 #include <cstdint>
 #include <cstdio>
@@ -10,8 +10,13 @@
 #include <string>
 #include <vector>
 
+#include <arpa/inet.h>
+
 #include <cm256cc/cm256.h>
 #include <isa-l.h>
+extern "C" {
+#include <lcrq.h>
+}
 
 #include "lipvezor.h"
 
@@ -20,8 +25,8 @@ namespace {
 typedef std::vector<uint8_t> Bytes;
 typedef std::function<void()> Step;
 
-const size_t K = LIPVEZOR_K(C2), M = LIPVEZOR_M(C2), N = LIPVEZOR_N(C2);
-const size_t PATTERNS = 41, SELDOM = 8;
+const size_t K = LIPVEZOR_K(LIPVEZOR_C2), M = LIPVEZOR_M(LIPVEZOR_C2), N = LIPVEZOR_N(LIPVEZOR_C2);
+const size_t PATTERNS = 41, SELDOM = 8, RARELY = 20;
 
 // 12 groups of 256 symbols have just as many information and parity symbols as C2: 8 groups of 171 + 85 and 4 of 170 + 86.
 const size_t GROUPS = 12, GROUP = 256;
@@ -123,7 +128,8 @@ std::string line(const std::string &name, const std::vector<Side> &sides, size_t
     std::string all = "peers " + name;
     for (const Side &side : sides) {
         char part[64];
-        snprintf(part, sizeof part, " %s=%.1f", side.name, K * w / 1e6 / median(side.times));
+        const double speed = K * w / 1e6 / median(side.times);
+        snprintf(part, sizeof part, " %s=%.*f", side.name, speed < 10 ? 2 : 1, speed);
         all += part;
     }
     return all + " unit=MB/s";
@@ -132,7 +138,7 @@ std::string line(const std::string &name, const std::vector<Side> &sides, size_t
 // The parity of one block by each side.
 struct Sent {
     size_t w;
-    Bytes information, ours, cm256, isal;
+    Bytes information, ours, cm256, isal, lcrq;
 };
 
 // ISA-L's tables for encoding a group of k: they depend on k alone.
@@ -181,6 +187,41 @@ void encode_cm256(CM256 &cm256, const Group &g, size_t w, const Bytes &informati
         blocks[i].Index = i;
     }
     check(cm256.cm256_encode(parameters(g, w), blocks, &parity[g.parity * w]) == 0, "cm256_encode failed");
+}
+
+// RaptorQ: one block of K source symbols, whose encoding symbols have numbers from 0 on. The first K are the source symbols themselves.
+struct RaptorQ {
+    rq_t *context;
+
+    explicit RaptorQ(size_t w) : context(rq_init(K * w, w))
+    {
+        check(context != nullptr && rq_K(context) == K && rq_T(context) == w, "rq_init makes another block");
+    }
+    RaptorQ(const RaptorQ &) = delete;
+    RaptorQ &operator=(const RaptorQ &) = delete;
+    ~RaptorQ() { rq_free(context); }
+};
+
+void encode_lcrq(size_t w, Bytes &information, Bytes &parity)
+{
+    RaptorQ all(w);
+    check(rq_encode(all.context, information.data(), information.size()) == 0, "rq_encode failed");
+    for (size_t i = 0; i < M; i++) {
+        rq_pid_t number = htonl(K + i) >> 8;
+        rq_symbol(all.context, &number, &parity[i * w], 0);
+    }
+}
+
+// What came of RaptorQ's symbols, one after the other, with their numbers.
+struct Came {
+    Bytes symbols;
+    std::vector<uint32_t> numbers;
+};
+
+void decode_lcrq(size_t w, Came &came, Bytes &information)
+{
+    RaptorQ all(w);
+    check(rq_decode(all.context, information.data(), came.symbols.data(), came.numbers.data(), came.numbers.size()) == 0, "rq_decode failed");
 }
 
 // A decoding matrix of a group, from what is lost of it.
@@ -316,7 +357,12 @@ struct Loss {
 
 lipvezor_block record_of(size_t w)
 {
-    return lipvezor_block{LIPVEZOR_C2, w, 1, 7};
+    lipvezor_block record = {};
+    record.code = LIPVEZOR_C2;
+    record.w = w;
+    record.protocol = 1;
+    record.lsc = 7;
+    return record;
 }
 
 // Our block, with the work buffers.
@@ -339,7 +385,7 @@ struct Block {
         std::fill(marks.begin(), marks.end(), LIPVEZOR_MARK_HEARD);
         for (size_t i : loss.positions) {
             memset(&symbols[i * w], 0, w);
-            marks[i] = LIPVEZOR_MARK_LEFT;
+            marks[i] = LIPVEZOR_MARK_MISSING;
         }
         std::fill(words.begin(), words.end(), 1);
         std::fill(bytes.begin(), bytes.end(), 1);
@@ -348,9 +394,9 @@ struct Block {
     void close()
     {
         const lipvezor_block record = record_of(w);
-        uint8_t refused = lipvezor_close(&record, symbols.data(), symbols.size(), marks.data(), marks.size(), words.data(), words.size(),
-                                         bytes.data(), bytes.size(), &report);
-        check(refused == LIPVEZOR_DONE, "lipvezor_close refused");
+        const lipvezor_buffers buffers = {symbols.data(), symbols.size(), marks.data(), marks.size()};
+        const lipvezor_work work = {words.data(), words.size(), bytes.data(), bytes.size()};
+        check(lipvezor_close(&record, &buffers, &work, &report) == LIPVEZOR_DONE, "lipvezor_close refused");
     }
 
     bool is_whole() const { return report.verdict == LIPVEZOR_WHOLE; }
@@ -369,8 +415,8 @@ void encode_all(CM256 &cm256, Sent &sent)
         {"lipvezor", 1, [&] { touch(sent.ours); },
          [&] {
              const lipvezor_block record = record_of(w);
-             uint8_t refused = lipvezor_encode(&record, sent.information.data(), K * w, sent.ours.data(), M * w);
-             check(refused == LIPVEZOR_DONE, "lipvezor_encode refused");
+             const lipvezor_codeword codeword = {sent.information.data(), K * w, sent.ours.data(), M * w};
+             check(lipvezor_encode(&record, &codeword) == LIPVEZOR_DONE, "lipvezor_encode refused");
          },
          nothing, {}},
         {"cm256", 1, [&] { touch(sent.cm256); },
@@ -387,6 +433,7 @@ void encode_all(CM256 &cm256, Sent &sent)
              }
          },
          nothing, {}},
+        {"lcrq", RARELY, [&] { touch(sent.lcrq); }, [&] { encode_lcrq(w, sent.information, sent.lcrq); }, nothing, {}},
     };
     for (size_t round = 0; round < PATTERNS; round++) {
         run_sides(sides, round);
@@ -401,6 +448,7 @@ void close_all(CM256 &cm256, const Sent &sent, size_t percent)
     Random random{w * 1000 + percent};
     Block block(w);
     Bytes information, parity;
+    Came came;
     std::vector<std::vector<CM256::cm256_block>> blocks(GROUPS);
     std::vector<Decoder> decoders(GROUPS);
     const Loss *loss = nullptr;
@@ -494,6 +542,19 @@ void close_all(CM256 &cm256, const Sent &sent, size_t percent)
              hear_isal();
          },
          apply, recovered, {}},
+        {"lcrq", RARELY,
+         [&] {
+             information.assign(K * w, 0);
+             came = Came();
+             for (size_t i = 0; i < N; i++) {
+                 if (!loss->missing[i]) {
+                     const uint8_t *symbol = i < K ? &sent.information[i * w] : &sent.lcrq[(i - K) * w];
+                     came.symbols.insert(came.symbols.end(), symbol, symbol + w);
+                     came.numbers.push_back(i);
+                 }
+             }
+         },
+         [&] { decode_lcrq(w, came, information); }, recovered, {}},
     };
     size_t redrawn = 0, redrawn_whole = 0;
     for (size_t round = 0; round < PATTERNS;) {
@@ -527,14 +588,16 @@ int main()
            "- close finds heard symbols that contradict each other; the libraries find none.\n"
            "- close gets marks; cm256 and isal get lists of what came. Making them, and putting cm256's symbols in their places, isn't counted.\n"
            "- lipvezor is compiled for any x86-64, cm256cc for SSSE3; ISA-L takes the widest vectors that the processor has.\n"
+           "- lcrq is RaptorQ (RFC 6330), one block of 2,048 source symbols with 1,024 repair symbols. It gets a list of what came, which isn't counted,\n"
+           "  and runs in every %zuth round. Its version 0.0.1 solves its equations anew for each block, and says little of what RaptorQ can do.\n"
            "isal inverts the matrix of all symbols that came, as in ISA-L's example (every %zuth pattern); isal_small inverts only what the parity symbols have\n"
            "of the lost ones; isal_known has its tables from before and only goes over the symbols.\n",
-           PATTERNS, SELDOM);
+           PATTERNS, RARELY, SELDOM);
     static CM256 cm256;
     check(cm256.isInitialized(), "cm256cc doesn't start");
     check(lipvezor_version() == LIPVEZOR_VERSION, "the library is not of this header's version");
     for (size_t w : {16, 64, 1024}) {
-        Sent sent{w, Bytes(K * w), Bytes(M * w), Bytes(M * w), Bytes(M * w)};
+        Sent sent{w, Bytes(K * w), Bytes(M * w), Bytes(M * w), Bytes(M * w), Bytes(M * w)};
         Random random{w};
         for (uint8_t &byte : sent.information) {
             byte = random.next();

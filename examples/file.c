@@ -25,7 +25,7 @@
 
 /* The blocks' information, one block after the other, is the file's length in 8 bytes, big-endian, then the file, then zeros to the end of
    the last block. */
-enum { LENGTH_BYTES = 8, FIRST_LSC = 1, LAST_LSC = 65534, PROTOCOL = 1, SAMPLE_BYTES = 300000 };
+enum { LENGTH_BYTES = 8, FIRST_LSC = 1, LAST_LSC = LIPVEZOR_MAX_LSC, PROTOCOL = 1, SAMPLE_BYTES = 300000 };
 
 struct bytes {
     uint8_t *at;
@@ -138,13 +138,16 @@ static struct bytes information_of(struct bytes file, size_t blocks, size_t bloc
 
 static void send_block(struct link *link, lipvezor_block block, struct bytes information)
 {
-    static uint8_t parity[LIPVEZOR_PARITY_BYTES(C2, LIPVEZOR_MAX_WIDTH)];
+    static uint8_t parity[LIPVEZOR_PARITY_BYTES(LIPVEZOR_C2, LIPVEZOR_MAX_WIDTH)];
     static uint8_t symbol[LIPVEZOR_MAX_WIDTH];
-    const size_t parity_length = lipvezor_parity_bytes(block.code, block.w);
-    expect_done("encode", lipvezor_encode(&block, information.at, information.length, parity, parity_length));
+    const lipvezor_codeword codeword = {.information = information.at,
+                                        .information_length = information.length,
+                                        .parity = parity,
+                                        .parity_length = lipvezor_parity_bytes(block.code, block.w)};
+    expect_done("encode", lipvezor_encode(&block, &codeword));
     for (size_t lwc = 1; lwc <= lipvezor_n(block.code); lwc++) {
         struct unit *unit = new_unit(lipvezor_unit_bytes(block.code, block.w));
-        expect_done("show", lipvezor_show(&block, information.at, information.length, parity, parity_length, lwc, symbol, block.w));
+        expect_done("show", lipvezor_show(&block, &codeword, lwc, symbol, block.w));
         expect_done("write", lipvezor_write(&block, lwc, symbol, block.w, unit->bytes, unit->length));
         link->units[link->count++] = unit;
     }
@@ -177,7 +180,7 @@ static struct link send_file(struct bytes file, size_t code, size_t w)
 
 struct received {
     lipvezor_block record;
-    struct bytes symbols, marks;
+    lipvezor_buffers buffers;
     lipvezor_report report;
 };
 
@@ -198,8 +201,8 @@ static size_t code_of(const lipvezor_parts *parts)
 
 static void free_received(struct received *block)
 {
-    free(block->symbols.at);
-    free(block->marks.at);
+    free(block->buffers.symbols);
+    free(block->buffers.marks);
     free(block);
 }
 
@@ -208,11 +211,10 @@ static uint8_t open_received(const lipvezor_parts *parts, struct received **open
 {
     struct received *block = allocate(sizeof *block);
     block->record = (lipvezor_block){.code = code_of(parts), .w = parts->w, .protocol = parts->protocol, .lsc = parts->lsc};
-    block->symbols.length = lipvezor_symbol_bytes(block->record.code, block->record.w);
-    block->symbols.at = allocate(block->symbols.length);
-    block->marks.length = lipvezor_n(block->record.code);
-    block->marks.at = allocate(block->marks.length);
-    uint8_t refused = lipvezor_open(&block->record, block->symbols.at, block->symbols.length, block->marks.at, block->marks.length);
+    const size_t symbols = lipvezor_symbol_bytes(block->record.code, block->record.w), marks = lipvezor_n(block->record.code);
+    block->buffers = (lipvezor_buffers){
+        .symbols = allocate(symbols), .symbols_length = symbols, .marks = allocate(marks), .marks_length = marks};
+    uint8_t refused = lipvezor_open(&block->record, &block->buffers);
     if (refused)
         free_received(block);
     else
@@ -233,8 +235,7 @@ static uint8_t take_unit(struct receiver *receiver, const struct unit *unit, lip
     if (refused)
         return refused;
     struct received *block = *place;
-    return lipvezor_take(&block->record, block->symbols.at, block->symbols.length, block->marks.at, block->marks.length, unit->bytes,
-                         unit->length, taken);
+    return lipvezor_take(&block->record, &block->buffers, unit->bytes, unit->length, taken);
 }
 
 /* a unit that is refused counts as lost */
@@ -255,11 +256,13 @@ static void receive_unit(struct receiver *receiver, const struct unit *unit)
 /* one pair of work buffers, large enough for every block */
 static void close_received(struct received *block)
 {
-    static uint64_t work_words[LIPVEZOR_WORK_WORDS(C2)];
-    static uint8_t work_bytes[LIPVEZOR_WORK_BYTES(C2, LIPVEZOR_MAX_WIDTH)];
-    const size_t words = lipvezor_work_words(block->record.code), bytes = lipvezor_work_bytes(block->record.code, block->record.w);
-    expect_done("close", lipvezor_close(&block->record, block->symbols.at, block->symbols.length, block->marks.at, block->marks.length,
-                                        work_words, words, work_bytes, bytes, &block->report));
+    static uint64_t words[LIPVEZOR_WORK_WORDS(LIPVEZOR_C2)];
+    static uint8_t bytes[LIPVEZOR_WORK_BYTES(LIPVEZOR_C2, LIPVEZOR_MAX_WIDTH)];
+    const lipvezor_work work = {.words = words,
+                                .words_length = lipvezor_work_words(block->record.code),
+                                .bytes = bytes,
+                                .bytes_length = lipvezor_work_bytes(block->record.code, block->record.w)};
+    expect_done("close", lipvezor_close(&block->record, &block->buffers, &work, &block->report));
 }
 
 static void receive_all(struct receiver *receiver, const struct link *link)
@@ -288,7 +291,7 @@ static int is_whole(const struct received *block)
 
 static struct bytes information_in(const struct received *block)
 {
-    return (struct bytes){block->symbols.at, lipvezor_information_bytes(block->record.code, block->record.w)};
+    return (struct bytes){block->buffers.symbols, lipvezor_information_bytes(block->record.code, block->record.w)};
 }
 
 /* The information of the whole blocks from the first to the one before the first that is not whole. */

@@ -10,20 +10,25 @@
 #include <stdio.h>
 #include <string.h>
 
-enum { W = 16, N = LIPVEZOR_N(C1) };
+enum { CODE = LIPVEZOR_C1, W = 16, N = LIPVEZOR_N(CODE) };
 
-static const lipvezor_block block = {.code = LIPVEZOR_C1, .w = W, .protocol = 1, .lsc = 7};
+static const lipvezor_block block = {.code = CODE, .w = W, .protocol = 1, .lsc = 7};
 
 /* the sender's buffers; units is the link */
-static uint8_t information[LIPVEZOR_INFORMATION_BYTES(C1, W)];
-static uint8_t parity[LIPVEZOR_PARITY_BYTES(C1, W)];
-static uint8_t units[N][LIPVEZOR_UNIT_BYTES(C1, W)];
+static uint8_t information[LIPVEZOR_INFORMATION_BYTES(CODE, W)];
+static uint8_t parity[LIPVEZOR_PARITY_BYTES(CODE, W)];
+static const lipvezor_codeword codeword = {
+    .information = information, .information_length = sizeof information, .parity = parity, .parity_length = sizeof parity};
+static uint8_t units[N][LIPVEZOR_UNIT_BYTES(CODE, W)];
 
 /* the receiver's */
-static uint8_t symbols[LIPVEZOR_SYMBOL_BYTES(C1, W)];
+static uint8_t symbols[LIPVEZOR_SYMBOL_BYTES(CODE, W)];
 static uint8_t marks[N];
-static uint64_t work_words[LIPVEZOR_WORK_WORDS(C1)];
-static uint8_t work_bytes[LIPVEZOR_WORK_BYTES(C1, W)];
+static uint64_t work_words[LIPVEZOR_WORK_WORDS(CODE)];
+static uint8_t work_bytes[LIPVEZOR_WORK_BYTES(CODE, W)];
+static const lipvezor_buffers buffers = {.symbols = symbols, .symbols_length = sizeof symbols, .marks = marks, .marks_length = sizeof marks};
+static const lipvezor_work work = {
+    .words = work_words, .words_length = LIPVEZOR_WORK_WORDS(CODE), .bytes = work_bytes, .bytes_length = sizeof work_bytes};
 
 static int fail(const char *call, uint8_t refused)
 {
@@ -34,12 +39,12 @@ static int fail(const char *call, uint8_t refused)
 /* on board: 0, or 1 if a call refused */
 static int send_block(void)
 {
-    uint8_t refused = lipvezor_encode(&block, information, sizeof information, parity, sizeof parity);
+    uint8_t refused = lipvezor_encode(&block, &codeword);
     if (refused)
         return fail("encode", refused);
     for (size_t lwc = 1; lwc <= N; lwc++) {
         uint8_t symbol[W];
-        refused = lipvezor_show(&block, information, sizeof information, parity, sizeof parity, lwc, symbol, sizeof symbol);
+        refused = lipvezor_show(&block, &codeword, lwc, symbol, sizeof symbol);
         if (refused)
             return fail("show", refused);
         refused = lipvezor_write(&block, lwc, symbol, sizeof symbol, units[lwc - 1], sizeof units[lwc - 1]);
@@ -58,19 +63,18 @@ static int lost(size_t lwc)
 /* on the ground: 0 and what close found, or 1 if a call refused */
 static int receive_block(lipvezor_report *report)
 {
-    uint8_t refused = lipvezor_open(&block, symbols, sizeof symbols, marks, sizeof marks);
+    uint8_t refused = lipvezor_open(&block, &buffers);
     if (refused)
         return fail("open", refused);
     for (size_t lwc = N; lwc >= 1; lwc--) {
         lipvezor_taken taken;
         if (lost(lwc))
             continue;
-        refused = lipvezor_take(&block, symbols, sizeof symbols, marks, sizeof marks, units[lwc - 1], sizeof units[lwc - 1], &taken);
+        refused = lipvezor_take(&block, &buffers, units[lwc - 1], sizeof units[lwc - 1], &taken);
         if (refused)
             return fail("take", refused);
     }
-    refused = lipvezor_close(&block, symbols, sizeof symbols, marks, sizeof marks, work_words, LIPVEZOR_WORK_WORDS(C1), work_bytes,
-                             sizeof work_bytes, report);
+    refused = lipvezor_close(&block, &buffers, &work, report);
     return refused ? fail("close", refused) : 0;
 }
 

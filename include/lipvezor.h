@@ -1,3 +1,4 @@
+/* SPDX-License-Identifier: Apache-2.0 */
 /*
  * Lipvezor 0.3.0: the erasure layer of a satellite downlink (codes C1 and C2 of CCSDS 131.5-O-1), for C11 and C++11.
  *
@@ -11,14 +12,19 @@
  *   LSC       the block's number, 1 to 65534.
  *   LWC       a symbol's number in its block, 1 to n: LWC 1 to k are information, k + 1 to n parity. A position counts from 0: LWC - 1.
  *
- * Answers. Every call returns 0 (LIPVEZOR_DONE) or the number of a refusal (enum lipvezor_refusal), and the compiler warns where that is
- * not looked at. What else a call has to say it writes to a record that it was lent. Every call may be handed any numbers, bytes and
- * lengths: what does not fit is refused, the first refusal that applies is returned, in the order of the enum, and a refused call has
- * changed nothing that it was lent. All this is proved of the archive's source, for all inputs, and so is what each call answers and
- * leaves in every buffer.
+ * Answers. Every call but lipvezor_version and the sizes returns 0 (LIPVEZOR_DONE) or the number of a refusal (enum lipvezor_refusal), and
+ * the compiler warns where that is not looked at. What else a call has to say it writes to a record that it was lent. Every call may be
+ * handed any numbers, bytes and lengths: what does not fit is refused, the first refusal that applies is returned, in the order of the
+ * enum, and a refused call has changed nothing that it was lent. A size of 0 says that the code or W is refused. All this is proved of the
+ * archive's source, for all inputs, and so is what each call answers and leaves in every buffer.
  *
- * A unit, byte by byte. It has no CRC-32: the frame or packet layer below adds that when it sends a unit, and tests and removes it when one
- * arrives. A unit of which some bit was changed on the way and that is taken all the same makes a block inconsistent, or whole and wrong.
+ * Which bytes may be used. Only a verdict of lipvezor_close says it: of a whole block all, of an ambiguous one the symbols that are not
+ * marked as missing, of an inconsistent one none. The symbol of position p lies at symbols + p * W, so the information is the first
+ * lipvezor_information_bytes bytes. A verdict holds until lipvezor_take keeps another unit: then the block is closed again.
+ *
+ * A unit, byte by byte, as lipvezor_write makes it; one that arrives may have other extensions too. It has no CRC-32: the frame or packet
+ * layer below adds that when it sends a unit, and tests and removes it when one arrives. A unit that was changed on the way and is taken all
+ * the same makes the block inconsistent where it contradicts the others; where it does not, the block is whole or ambiguous, and wrong.
  *   0         version 1 in the upper four bits, protocol ID (0 to 7) in the next three, reserved bit 0
  *   1         number of extensions: 1
  *   2, 3      LWC, big-endian
@@ -29,8 +35,8 @@
  *   then      the symbol's W bytes
  *
  * What the caller must see to, as always in C:
- *  - a buffer is a pointer and, after it, its length in elements; the pointer is valid for that many, aligned for its type, and not NULL,
- *    even where the length is 0; a pointer to a record is not NULL either;
+ *  - a buffer is a pointer and, after it, its length in elements, as two arguments or in a record; the pointer is valid for that many,
+ *    aligned for its type, and not NULL, even where the length is 0; a pointer to a record is not NULL either;
  *  - a buffer or record that a call may write overlaps no other that the same call gets. What a call only reads may overlap.
  *
  * Needs. x86-64 Linux; no library but C's own, and of that memcpy and memset alone. Nothing is allocated, no call keeps a pointer or reads
@@ -38,8 +44,9 @@
  * LIPVEZOR_CLOSE_STACK say how many bytes of stack a call takes at most.
  *
  * Versions. Until 1.0 a change of the second number may change this interface, and a change of the third does not. The archive and this
- * header belong together: lipvezor_version() == LIPVEZOR_VERSION. Records are initialised by their members' names ({.code = ..., .w = ...}),
- * so that a member added in a later version is 0 in code that does not name it, and is refused with its own number where 0 does not fit.
+ * header belong together: lipvezor_version() == LIPVEZOR_VERSION. Compile again when the second number changes: a record may have grown.
+ * Initialise a record by its members' names ({.code = ..., .w = ...}; in C++ before 20: lipvezor_block block = {}; block.code = ...;), so
+ * that a member added in a later version is 0 in code that does not name it, and is refused with its own number where 0 does not fit.
  */
 #ifndef LIPVEZOR_H
 #define LIPVEZOR_H
@@ -79,7 +86,7 @@ enum lipvezor_refusal {
     LIPVEZOR_REFUSED_CODE = 1,        /* the code's number is neither 1 nor 2 */
     LIPVEZOR_REFUSED_WIDTH = 2,       /* W is 0 or above 1024 */
     LIPVEZOR_REFUSED_LABEL = 3,       /* LSC is 0 or above 65534, or the protocol ID is above 7 */
-    LIPVEZOR_REFUSED_LENGTH = 4,      /* a block, work, information, parity or output buffer is not exactly its size */
+    LIPVEZOR_REFUSED_LENGTH = 4,      /* a symbol, mark, work, information, parity or output buffer is not exactly its size */
     LIPVEZOR_REFUSED_HEADER = 5,      /* under 6 bytes, version not 1, reserved bit set, or extension count 0 */
     LIPVEZOR_REFUSED_EXTENSION = 6,   /* the unit's bytes end early: before a type, within a length, or before the end of a value */
     LIPVEZOR_REFUSED_NUMBER = 19,     /* an SDNV too long, too large or not in its shortest form */
@@ -105,7 +112,7 @@ static inline const char *lipvezor_refusal_text(unsigned number)
     case LIPVEZOR_REFUSED_EXTENSION: return "extension: the unit's bytes end early";
     case LIPVEZOR_REFUSED_NUMBER: return "number: an SDNV too long, too large or not in its shortest form";
     case LIPVEZOR_REFUSED_EXTENSION_KIND: return "extension kind: type 0 or 255, a second type 1, or type 1 not exactly four numbers";
-    case LIPVEZOR_REFUSED_PARAMETERS: return "parameters: not the block's W, k, n and seed 0";
+    case LIPVEZOR_REFUSED_PARAMETERS: return "parameters: none, or not the block's W, k, n and seed 0";
     case LIPVEZOR_REFUSED_FOREIGN: return "foreign: the unit's LSC or protocol ID isn't the block's";
     case LIPVEZOR_REFUSED_POSITION: return "position: LWC is 0 or above n";
     case LIPVEZOR_REFUSED_SYMBOL: return "symbol: not W bytes";
@@ -121,32 +128,24 @@ static inline const char *lipvezor_refusal_text(unsigned number)
 #define LIPVEZOR_C1 1
 #define LIPVEZOR_C2 2
 
-/* The largest W. */
+/* The largest W, LSC and protocol ID. */
 #define LIPVEZOR_MAX_WIDTH 1024
+#define LIPVEZOR_MAX_LSC 65534
+#define LIPVEZOR_MAX_PROTOCOL 7
 
-/* k and m of each code. */
-#define LIPVEZOR_C1_K 512
-#define LIPVEZOR_C1_M 256
-#define LIPVEZOR_C2_K 2048
-#define LIPVEZOR_C2_M 1024
+/* Sizes as constants, for static buffers: LIPVEZOR_SYMBOL_BYTES(LIPVEZOR_C1, 16). They are 0 for a number that is no code's; w is a W that is
+   not refused. */
+#define LIPVEZOR_K(code) ((code) == LIPVEZOR_C1 ? 512 : (code) == LIPVEZOR_C2 ? 2048 : 0)
+#define LIPVEZOR_M(code) ((code) == LIPVEZOR_C1 ? 256 : (code) == LIPVEZOR_C2 ? 1024 : 0)
+#define LIPVEZOR_N(code) (LIPVEZOR_K(code) + LIPVEZOR_M(code))
+#define LIPVEZOR_INFORMATION_BYTES(code, w) (LIPVEZOR_K(code) * (w))
+#define LIPVEZOR_PARITY_BYTES(code, w) (LIPVEZOR_M(code) * (w))
+#define LIPVEZOR_SYMBOL_BYTES(code, w) (LIPVEZOR_N(code) * (w))
+#define LIPVEZOR_UNIT_BYTES(code, w) (LIPVEZOR_N(code) == 0 ? 0 : ((w) < 128 ? 14 : 15) + (w))
+#define LIPVEZOR_WORK_WORDS(code) (LIPVEZOR_M(code) * (LIPVEZOR_N(code) / 64 + 1))
+#define LIPVEZOR_WORK_BYTES(code, w) (LIPVEZOR_M(code) * (w))
 
-/* Sizes as constants, for static buffers: LIPVEZOR_SYMBOL_BYTES(C1, 16). The code is written C1 or C2; w is a W that is not refused. */
-#define LIPVEZOR_N(code) (LIPVEZOR_##code##_K + LIPVEZOR_##code##_M)
-#define LIPVEZOR_K(code) (LIPVEZOR_##code##_K)
-#define LIPVEZOR_M(code) (LIPVEZOR_##code##_M)
-#define LIPVEZOR_INFORMATION_BYTES(code, w) (LIPVEZOR_##code##_K * (w))
-#define LIPVEZOR_PARITY_BYTES(code, w) (LIPVEZOR_##code##_M * (w))
-#define LIPVEZOR_SYMBOL_BYTES(code, w) ((LIPVEZOR_##code##_K + LIPVEZOR_##code##_M) * (w))
-#define LIPVEZOR_UNIT_BYTES(code, w) (((w) < 128 ? 14 : 15) + (w))
-#define LIPVEZOR_WORK_WORDS(code) (LIPVEZOR_##code##_M * ((LIPVEZOR_##code##_K + LIPVEZOR_##code##_M) / 64 + 1))
-#define LIPVEZOR_WORK_BYTES(code, w) (LIPVEZOR_##code##_M * (w))
-
-/* Bytes of stack that lipvezor_close takes at most, and that every other call does, with 256 for memset. Where memset is bound at its first
-   call, the loader takes some thousand more then; -Wl,-z,now, LD_BIND_NOW=1 or a static link binds it at the start. */
-#define LIPVEZOR_CLOSE_STACK 36000
-#define LIPVEZOR_STACK 4800
-
-/* The same sizes by a code's number: 0 for a number or a W that is refused. */
+/* The same sizes from the archive, for a code or W that is known at run time only: 0 for a number or a W that is refused. */
 
 /* n: symbols of a block, and the bytes of its marks. */
 size_t lipvezor_n(size_t code);
@@ -175,9 +174,14 @@ size_t lipvezor_work_words(size_t code);
 /* m * W: bytes of close's second work buffer. */
 size_t lipvezor_work_bytes(size_t code, size_t w);
 
+/* Bytes of stack that lipvezor_close takes at most, and that every other call does. The loader's part is in it, where memset or memcpy is bound
+   at its first call. */
+#define LIPVEZOR_CLOSE_STACK 40000
+#define LIPVEZOR_STACK 8000
+
 /* ---- a block */
 
-/* A block's numbers. Each call on the block is lent this record, and only reads it. */
+/* A block's numbers. Each call on the block is lent this record. */
 typedef struct lipvezor_block {
     size_t code;                      /* LIPVEZOR_C1 or LIPVEZOR_C2 */
     size_t w;                         /* bytes of a symbol, 1 to LIPVEZOR_MAX_WIDTH */
@@ -185,9 +189,33 @@ typedef struct lipvezor_block {
     size_t lsc;                       /* the block's number, 1 to 65534 */
 } lipvezor_block;
 
+/* The buffers of a block on board. encode writes the parity; no call changes this record or the information. */
+typedef struct lipvezor_codeword {
+    const uint8_t *information;       /* lipvezor_information_bytes bytes */
+    size_t information_length;
+    uint8_t *parity;                  /* lipvezor_parity_bytes bytes */
+    size_t parity_length;
+} lipvezor_codeword;
+
+/* The buffers of a block on the ground. open, take and close write to both; no call changes this record. */
+typedef struct lipvezor_buffers {
+    uint8_t *symbols;                 /* lipvezor_symbol_bytes bytes */
+    size_t symbols_length;
+    uint8_t *marks;                   /* lipvezor_n bytes, each an enum lipvezor_mark */
+    size_t marks_length;
+} lipvezor_buffers;
+
+/* Work space of a close, for one block at a time. It may hold anything, and is all 0 after a verdict; no call changes this record. */
+typedef struct lipvezor_work {
+    uint64_t *words;                  /* lipvezor_work_words words */
+    size_t words_length;              /* in words */
+    uint8_t *bytes;                   /* lipvezor_work_bytes bytes */
+    size_t bytes_length;
+} lipvezor_work;
+
 /* A position's mark. */
 enum lipvezor_mark {
-    LIPVEZOR_MARK_LEFT = 0,           /* missing; its bytes are 0 after a close */
+    LIPVEZOR_MARK_MISSING = 0,        /* its bytes are 0 after a close */
     LIPVEZOR_MARK_HEARD = 1,          /* taken from a unit */
     LIPVEZOR_MARK_FILLED = 2          /* filled by close */
 };
@@ -195,25 +223,19 @@ enum lipvezor_mark {
 /* ---- sending */
 
 /*
- * The parity of the information: from lipvezor_information_bytes bytes to lipvezor_parity_bytes bytes. Of the block's numbers code and w
- * count here, protocol and lsc do not.
+ * Makes the parity of the information. Of the block's numbers code and w count here, protocol and lsc do not.
  * Refuses: code, width, length.
  */
 LIPVEZOR_CHECKED
-uint8_t lipvezor_encode(const lipvezor_block *block,
-                        const uint8_t *information, size_t information_length,
-                        uint8_t *parity, size_t parity_length);
+uint8_t lipvezor_encode(const lipvezor_block *block, const lipvezor_codeword *codeword);
 
 /*
- * The symbol of an LWC, from the encoder's two buffers, copied to an output of W bytes. Of the block's numbers code and w count here,
- * protocol and lsc do not.
+ * The symbol of an LWC, information or parity, copied to an output of W bytes. Of the block's numbers code and w count here, protocol and
+ * lsc do not.
  * Refuses: code, width, length (of any of the three buffers), position.
  */
 LIPVEZOR_CHECKED
-uint8_t lipvezor_show(const lipvezor_block *block,
-                      const uint8_t *information, size_t information_length,
-                      const uint8_t *parity, size_t parity_length,
-                      size_t lwc,
+uint8_t lipvezor_show(const lipvezor_block *block, const lipvezor_codeword *codeword, size_t lwc,
                       uint8_t *output, size_t output_length);
 
 /*
@@ -251,14 +273,11 @@ LIPVEZOR_CHECKED
 uint8_t lipvezor_read(const uint8_t *unit, size_t unit_length, lipvezor_parts *parts);
 
 /*
- * Opens a block: all lipvezor_symbol_bytes symbol bytes and all lipvezor_n marks become 0.
- * A block is its record and these two buffers; the caller hands the same to each call.
+ * Opens a block: all symbol bytes and marks become 0. The caller hands the same numbers and buffers to each call on the block.
  * Refuses: code, width, label, length.
  */
 LIPVEZOR_CHECKED
-uint8_t lipvezor_open(const lipvezor_block *block,
-                      uint8_t *symbols, size_t symbols_length,
-                      uint8_t *marks, size_t marks_length);
+uint8_t lipvezor_open(const lipvezor_block *block, const lipvezor_buffers *buffers);
 
 /* What lipvezor_take did with a unit. */
 enum lipvezor_result {
@@ -272,17 +291,15 @@ typedef struct lipvezor_taken {
 
 /*
  * Takes one unit. A kept symbol stands at its position, with mark LIPVEZOR_MARK_HEARD; it may take the place of a filled one. Only a kept
- * unit changes the block.
+ * unit changes the block. A receiver goes on after a refusal: the unit counts as lost.
  * Refuses: any.
  */
 LIPVEZOR_CHECKED
-uint8_t lipvezor_take(const lipvezor_block *block,
-                      uint8_t *symbols, size_t symbols_length,
-                      uint8_t *marks, size_t marks_length,
+uint8_t lipvezor_take(const lipvezor_block *block, const lipvezor_buffers *buffers,
                       const uint8_t *unit, size_t unit_length,
                       lipvezor_taken *taken);
 
-/* How many codewords agree with the symbols heard. Only a whole block's bytes are all there; a verdict of 0 was never given. */
+/* How many codewords agree with the symbols heard. 0 is no verdict. */
 enum lipvezor_verdict {
     LIPVEZOR_WHOLE = 1,               /* just one: every symbol is there */
     LIPVEZOR_AMBIGUOUS = 2,           /* two or more: the symbols on which they all agree are filled */
@@ -292,24 +309,18 @@ enum lipvezor_verdict {
 /* What lipvezor_close found. The counts add up to n. */
 typedef struct lipvezor_report {
     size_t verdict;                   /* enum lipvezor_verdict */
-    size_t heard;                     /* positions with mark LIPVEZOR_MARK_HEARD */
-    size_t filled;                    /* with LIPVEZOR_MARK_FILLED */
-    size_t left;                      /* with LIPVEZOR_MARK_LEFT */
+    size_t heard;                     /* positions of which a unit was kept */
+    size_t filled;                    /* missing ones that this close filled */
+    size_t left;                      /* missing ones that it could not */
 } lipvezor_report;
 
 /*
  * Closes the block: each missing symbol that the heard ones determine is filled, with mark LIPVEZOR_MARK_FILLED; one that they leave open
- * has bytes and mark 0. The two work buffers, of lipvezor_work_words words and lipvezor_work_bytes bytes, may hold anything; after a
- * verdict they are all 0.
- * Refuses: code, width, label, length, mark.
+ * has bytes and mark 0. The answer 0 says that there is a verdict, not that the block is whole: report->verdict says that.
+ * Refuses: code, width, label, length (of any of the four buffers), mark.
  */
 LIPVEZOR_CHECKED
-uint8_t lipvezor_close(const lipvezor_block *block,
-                       uint8_t *symbols, size_t symbols_length,
-                       uint8_t *marks, size_t marks_length,
-                       uint64_t *work_words, size_t work_words_length,
-                       uint8_t *work_bytes, size_t work_bytes_length,
-                       lipvezor_report *report);
+uint8_t lipvezor_close(const lipvezor_block *block, const lipvezor_buffers *buffers, const lipvezor_work *work, lipvezor_report *report);
 
 #ifdef __cplusplus
 }

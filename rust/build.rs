@@ -31,7 +31,8 @@ fn archive(folder: &Path) -> PathBuf {
 fn find() -> PathBuf {
     if let Some(named) = folder("LIPVEZOR_LIB_DIR") {
         if !archive(&named).exists() {
-            fail(format!("LIPVEZOR_LIB_DIR is {}, and no liblipvezor.a is there", named.display()));
+            let hint = if named.is_relative() { ": it must be an absolute path" } else { "" };
+            fail(format!("LIPVEZOR_LIB_DIR is {}, and no liblipvezor.a is there{hint}", named.display()));
         }
         return named;
     }

@@ -6,7 +6,8 @@
 #[path = "../support/random.rs"]
 mod random;
 
-use lipvezor::{calls, Code, Record, Taken, Verdict};
+use lipvezor::calls::{self, Buffers};
+use lipvezor::{Code, Codeword, Record, Taken, Verdict};
 use random::Random;
 use std::fmt::Write as _;
 use std::io::IsTerminal;
@@ -84,15 +85,10 @@ struct Sent {
 }
 
 fn send(record: Record, random: &mut Random) -> Sent {
-    let mut codeword = vec![0; record.symbol_bytes()];
-    let (information, parity) = codeword.split_at_mut(record.information_bytes());
-    random.fill(information);
-    calls::encode(&record, information, parity).unwrap();
-    let mut units = vec![0; record.n() * record.unit_bytes()];
-    for (i, unit) in units.chunks_exact_mut(record.unit_bytes()).enumerate() {
-        calls::write(&record, i + 1, &codeword[i * W..(i + 1) * W], unit).unwrap();
-    }
-    Sent { codeword, units }
+    let mut information = vec![0; record.information_bytes()];
+    random.fill(&mut information);
+    let word = Codeword::encode(record, information).unwrap();
+    Sent { codeword: [word.information(), word.parity()].concat(), units: word.units().unwrap().flatten().collect() }
 }
 
 /// How many of the blocks, each with its own random numbers, aren't whole after close.
@@ -103,13 +99,14 @@ fn failures(record: Record, lost: f64, sent: &Sent, blocks: impl Iterator<Item =
     let mut bytes = vec![0; record.work_bytes()];
     let mut failed = 0;
     for mut random in blocks {
-        calls::open(&record, &mut symbols, &mut marks).unwrap();
+        let mut buffers = Buffers::new(&mut symbols, &mut marks);
+        calls::open(&record, &mut buffers).unwrap();
         for unit in sent.units.chunks_exact(record.unit_bytes()) {
             if !random.chance(lost) {
-                assert_eq!(calls::take(&record, &mut symbols, &mut marks, unit), Ok(Taken::Kept));
+                assert_eq!(calls::take(&record, &mut buffers, unit), Ok(Taken::Kept));
             }
         }
-        match calls::close(&record, &mut symbols, &mut marks, &mut words, &mut bytes).unwrap().verdict {
+        match calls::close(&record, &mut buffers, &mut words, &mut bytes).unwrap().verdict {
             Verdict::Whole => assert!(symbols == sent.codeword),
             Verdict::Ambiguous => failed += 1,
             verdict => panic!("{verdict:?} of what was sent"),

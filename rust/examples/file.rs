@@ -1,27 +1,39 @@
-//! Sends a file in blocks, loses some of the units, mixes the rest, and recovers the file.
+//! A file there and back: cut into blocks, encoded, sent as units over a link that loses some and changes their order, and recovered. The
+//! receiver knows nothing but the units that arrive. `examples/file.c` does the same in C.
 //!
-//!     cargo run --release --example file -- [--loss 0.2] [--code 1] [--w 64] [--seed 1] [--out RECOVERED] [FILE]
+//!     cargo run --release --example file -- [--loss 0.15] [--code 1] [--w 64] [--seed 1] [--out RECOVERED] [FILE]
 //!
-//! Without FILE it sends a sample of 300,000 bytes. It prints the verdict of each block, and what failed. The exit code is 0 if the file was
-//! recovered, 1 if a block is not whole or something else failed, 2 if the arguments are wrong. RECOVERED is written only if all blocks are
-//! whole.
+//! Without FILE it sends a sample of 300,000 bytes. It prints each unit that is refused and the verdict of each block. Exit status 0: every
+//! block is whole, and the file is as sent. 1: some block is not whole; which ones is printed, and nothing is written. 2: something else went
+//! wrong.
 #[path = "../support/random.rs"]
 mod random;
 
 use std::collections::BTreeMap;
 use std::error::Error;
+use std::fmt::Display;
+use std::ops::Range;
 use std::process::ExitCode;
+use std::str::FromStr;
 
-use lipvezor::{Code, Codeword, ReceiveError, Receiver, Record, Refusal};
+use lipvezor::{Code, Codeword, ReceiveError, Receiver, Record, Refusal, Report, Taken};
 use random::Random;
 
 const PROTOCOL: usize = 1;
+const LAST_LSC: usize = 65_534;
 
 /// Blocks whose units are under way at a time.
 const TOGETHER: usize = 8;
 
-/// Bytes that say how long the file is, before its own: the last block ends in zeros that are none of the file's.
+/// The blocks' information, one block after the other, is the file's length in 8 bytes, big-endian, then the file, then zeros to the end of the
+/// last block.
 const LENGTH_BYTES: usize = 8;
+
+fn blocks_for(file_length: usize, block_bytes: usize) -> usize {
+    file_length / block_bytes + (file_length % block_bytes + LENGTH_BYTES).div_ceil(block_bytes)
+}
+
+// ---- options and files
 
 struct Options {
     record: Record,
@@ -31,33 +43,42 @@ struct Options {
     file: Option<String>,
 }
 
+fn number<T: FromStr<Err: Display>>(option: &str, text: &str) -> Result<T, String> {
+    text.parse().map_err(|why| format!("{option} {text}: {why}"))
+}
+
+fn share(option: &str, text: &str) -> Result<f64, String> {
+    text.parse().ok().filter(|share| (0.0..=1.0).contains(share)).ok_or(format!("{option} {text}: not a number from 0 to 1"))
+}
+
 impl Options {
     fn read(mut words: impl Iterator<Item = String>) -> Result<Options, Box<dyn Error>> {
-        let record = Record::new(Code::C1, 64).with_protocol(PROTOCOL);
-        let mut options = Options { record, loss: 0.2, seed: 1, out: None, file: None };
+        let (mut code, mut w, mut loss, mut seed, mut out, mut file) = (Code::C1, 64, 0.15, 1, None, None);
         while let Some(word) = words.next() {
             let mut value = || words.next().ok_or(format!("{word} needs a value"));
             match &word[..] {
-                "--loss" => options.loss = value()?.parse()?,
-                "--code" => options.record.code = Code::try_from(value()?.parse::<usize>()?)?,
-                "--w" => options.record.w = value()?.parse()?,
-                "--seed" => options.seed = value()?.parse()?,
-                "--out" => options.out = Some(value()?),
-                name if name.starts_with("--") => return Err(format!("{name} is no option").into()),
-                _ => options.file = Some(word),
+                "--loss" => loss = share(&word, &value()?)?,
+                "--code" => code = Code::try_from(number::<usize>(&word, &value()?)?)?,
+                "--w" => w = number(&word, &value()?)?,
+                "--seed" => seed = number(&word, &value()?)?,
+                "--out" => out = Some(value()?),
+                option if option.starts_with('-') => return Err(format!("{option} is no option").into()),
+                _ if file.is_some() => return Err(format!("{word}: one FILE only").into()),
+                _ => file = Some(word),
             }
         }
-        // no bytes at all: W is refused
-        if options.record.information_bytes() <= LENGTH_BYTES {
+        let record = Record::new(code, w).with_protocol(PROTOCOL);
+        // the code is one, so it is W that is refused
+        if record.information_bytes() == 0 {
             return Err(Refusal::Width.into());
         }
-        Ok(options)
+        Ok(Options { record, loss, seed, out, file })
     }
 
     /// The file's bytes, or the sample's.
-    fn bytes(&self) -> std::io::Result<Vec<u8>> {
+    fn bytes(&self) -> Result<Vec<u8>, String> {
         match &self.file {
-            Some(path) => std::fs::read(path),
+            Some(path) => std::fs::read(path).map_err(|why| format!("{path}: {why}")),
             None => {
                 let mut sample = vec![0; 300_000];
                 Random::new(0).fill(&mut sample);
@@ -65,24 +86,34 @@ impl Options {
             }
         }
     }
+
+    /// Writes the recovered file, if it is wanted.
+    fn write(&self, recovered: &[u8]) -> Result<(), String> {
+        self.out.as_ref().map_or(Ok(()), |path| std::fs::write(path, recovered).map_err(|why| format!("{path}: {why}")))
+    }
 }
 
-/// On board: a file's blocks, each the information of a codeword, numbered from LSC 1.
+// ---- on board
+
+/// A file's blocks, each the information of a codeword; LSC 1 is the first.
 struct Board {
     record: Record,
     blocks: Vec<Vec<u8>>,
 }
 
 impl Board {
-    fn new(record: Record, file: &[u8]) -> Board {
-        let stream = [&(file.len() as u64).to_be_bytes(), file].concat();
+    fn new(record: Record, file: &[u8]) -> Result<Board, String> {
         let size = record.information_bytes();
+        if blocks_for(file.len(), size) > LAST_LSC {
+            return Err(format!("the file needs more than {LAST_LSC} blocks: take a larger W, or C2"));
+        }
+        let stream = [&(file.len() as u64).to_be_bytes(), file].concat();
         let blocks = stream.chunks(size).map(|part| [part, &vec![0; size - part.len()]].concat()).collect();
-        Board { record, blocks }
+        Ok(Board { record, blocks })
     }
 
-    /// All units of the blocks from one LSC to another.
-    fn units(&self, lscs: std::ops::Range<usize>) -> Result<Vec<Vec<u8>>, Refusal> {
+    /// All units of the blocks of some LSCs.
+    fn units(&self, lscs: Range<usize>) -> Result<Vec<Vec<u8>>, Refusal> {
         let mut units = Vec::new();
         for lsc in lscs {
             units.extend(Codeword::encode(self.record.with_lsc(lsc), &self.blocks[lsc - 1])?.units()?);
@@ -91,28 +122,59 @@ impl Board {
     }
 }
 
-/// On the way: some units are lost, the others come in any order.
+// ---- on the way
+
+/// Some units are lost, the others come in any order.
 fn downlink(mut units: Vec<Vec<u8>>, loss: f64, random: &mut Random) -> Vec<Vec<u8>> {
     let order = random.shuffled(units.len());
     order.into_iter().filter(|_| !random.chance(loss)).map(|i| std::mem::take(&mut units[i])).collect()
 }
 
-/// On the ground: blocks that are open, and the information of those that closed whole, by LSC.
+// ---- on the ground
+
+#[derive(Default)]
+struct Counts {
+    kept: usize,
+    repeated: usize,
+    refused: usize,
+}
+
+/// Blocks that are open, and by LSC what was found of the closed ones, and the information of the whole ones.
 struct Ground {
     receiver: Receiver,
+    counts: Counts,
+    reports: BTreeMap<usize, Report>,
     whole: BTreeMap<usize, Vec<u8>>,
 }
 
 impl Ground {
     fn new() -> Result<Ground, Refusal> {
-        Ok(Ground { receiver: Receiver::new(PROTOCOL)?.with_limit(TOGETHER), whole: BTreeMap::new() })
+        let receiver = Receiver::new(PROTOCOL)?.with_limit(TOGETHER);
+        Ok(Ground { receiver, counts: Counts::default(), reports: BTreeMap::new(), whole: BTreeMap::new() })
     }
 
-    /// Closes and removes all blocks that are open, and keeps the information of the whole ones.
+    /// A unit that is refused counts as lost.
+    fn take(&mut self, unit: &[u8]) -> Result<(), ReceiveError> {
+        match self.receiver.take(unit) {
+            Ok(received) => match received.taken {
+                Taken::Kept => self.counts.kept += 1,
+                Taken::Repeated => self.counts.repeated += 1,
+                other => println!("a unit is {other}"),
+            },
+            Err(ReceiveError::Refused(refusal)) => {
+                self.counts.refused += 1;
+                println!("a unit is refused: {}, {}", refusal.number(), refusal.text());
+            }
+            Err(other) => return Err(other),
+        }
+        Ok(())
+    }
+
+    /// Closes and removes all blocks that are open.
     fn close(&mut self) -> Result<(), ReceiveError> {
         for lsc in self.receiver.lscs().collect::<Vec<usize>>() {
             let closed = self.receiver.close(lsc)?;
-            println!("block {lsc}: {closed}");
+            self.reports.insert(lsc, closed.report());
             if let Some(information) = closed.information() {
                 self.whole.insert(lsc, information.to_vec());
             }
@@ -121,60 +183,84 @@ impl Ground {
         Ok(())
     }
 
+    /// The file's length, as the first block's information gives it, if that is whole.
+    fn length(&self) -> Option<usize> {
+        let (length, _) = self.whole.get(&1)?.split_first_chunk::<LENGTH_BYTES>()?;
+        usize::try_from(u64::from_be_bytes(*length)).ok()
+    }
+
+    /// The LSCs that were sent, as far as the receiver can tell: the first block says it if that is whole, else the last is that of which a unit
+    /// came.
+    fn lscs(&self) -> Range<usize> {
+        let sent = self.length().and_then(|length| Some(blocks_for(length, self.whole.get(&1)?.len())));
+        let last = sent.unwrap_or_else(|| self.reports.keys().last().copied().unwrap_or(1));
+        1..last.min(LAST_LSC) + 1
+    }
+
     /// The file, if all its blocks are whole.
-    fn file(&self) -> Result<Vec<u8>, String> {
-        let block = |lsc: usize| self.whole.get(&lsc).ok_or(format!("block {lsc} is not whole: the file is not recovered"));
-        let (length, start) = block(1)?.split_first_chunk::<LENGTH_BYTES>().expect("a block is longer");
-        let length = usize::try_from(u64::from_be_bytes(*length)).map_err(|_| "the file is too long for this machine".to_string())?;
-        let mut file = start.to_vec();
-        for lsc in 2.. {
-            if file.len() >= length {
-                break;
-            }
-            file.extend_from_slice(block(lsc)?);
+    fn file(&self) -> Option<Vec<u8>> {
+        let mut stream = Vec::new();
+        for lsc in self.lscs() {
+            stream.extend_from_slice(self.whole.get(&lsc)?);
         }
-        file.truncate(length);
-        Ok(file)
+        stream.get(LENGTH_BYTES..)?.get(..self.length()?).map(<[u8]>::to_vec)
+    }
+
+    fn print_blocks(&self) {
+        for lsc in self.lscs() {
+            match self.reports.get(&lsc) {
+                Some(Report { verdict, heard, filled, left, .. }) => {
+                    println!("block {lsc}: {verdict}, heard {heard}, filled {filled}, left {left}");
+                }
+                None => println!("block {lsc}: no unit came"),
+            }
+        }
+    }
+
+    fn print_not_whole(&self) {
+        print!("not recovered; not whole:");
+        self.lscs().filter(|lsc| !self.whole.contains_key(lsc)).for_each(|lsc| print!(" {lsc}"));
+        println!();
     }
 }
 
-fn run(options: &Options) -> Result<(), Box<dyn Error>> {
-    let sent = options.bytes()?;
-    let board = Board::new(options.record, &sent);
-    let (count, mut random, mut ground) = (board.blocks.len(), Random::new(options.seed), Ground::new()?);
-    let Record { code, w, .. } = options.record;
-    println!("{} bytes in {count} blocks of {code}, W {w}; loss {}", sent.len(), options.loss);
-    for first in (1..=count).step_by(TOGETHER) {
-        let last = count.min(first + TOGETHER - 1);
-        for unit in downlink(board.units(first..last + 1)?, options.loss, &mut random) {
-            ground.receiver.take(&unit)?;
+/// Whether the file was recovered.
+fn run(options: &Options) -> Result<bool, Box<dyn Error>> {
+    let file = options.bytes()?;
+    let board = Board::new(options.record, &file)?;
+    let (mut random, mut ground) = (Random::new(options.seed), Ground::new()?);
+    let (mut sent, mut arrived, end) = (0, 0, board.blocks.len() + 1);
+    for first in (1..end).step_by(TOGETHER) {
+        let units = board.units(first..end.min(first + TOGETHER))?;
+        sent += units.len();
+        for unit in downlink(units, options.loss, &mut random) {
+            arrived += 1;
+            ground.take(&unit)?;
         }
         ground.close()?;
     }
-    let recovered = ground.file()?;
-    if recovered != sent {
-        return Err("what was recovered is not what was sent".into());
+    let Counts { kept, repeated, refused } = ground.counts;
+    println!("units: {sent} sent, {arrived} arrived, {kept} kept, {repeated} repeated, {refused} refused");
+    ground.print_blocks();
+    let Some(recovered) = ground.file() else {
+        ground.print_not_whole();
+        return Ok(false);
+    };
+    if recovered != file {
+        return Err("every block is whole, but the file is not as sent".into());
     }
-    println!("recovered, and the same as was sent");
-    if let Some(path) = &options.out {
-        std::fs::write(path, recovered)?;
-    }
-    Ok(())
+    options.write(&recovered)?;
+    println!("recovered: {} bytes, as sent", recovered.len());
+    Ok(true)
 }
 
 fn main() -> ExitCode {
-    let options = match Options::read(std::env::args().skip(1)) {
-        Ok(options) => options,
+    match Options::read(std::env::args().skip(1)).and_then(|options| run(&options)) {
+        Ok(true) => ExitCode::SUCCESS,
+        Ok(false) => ExitCode::from(1),
         Err(why) => {
-            eprintln!("{why}");
-            return ExitCode::from(2);
-        }
-    };
-    match run(&options) {
-        Ok(()) => ExitCode::SUCCESS,
-        Err(why) => {
-            println!("failed: {why}");
-            ExitCode::FAILURE
+            eprintln!("file: {why}");
+            ExitCode::from(2)
         }
     }
 }

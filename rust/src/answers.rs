@@ -74,7 +74,8 @@ impl fmt::Display for Verdict {
     }
 }
 
-/// What close found: its verdict, and how many positions have which [`Mark`]. The three counts add up to n.
+/// What close found: its verdict, and how many positions were heard, how many it filled, and how many are left missing. The three counts add up
+/// to n.
 ///
 /// ```
 /// use lipvezor::{Block, Code, Record, Work};
@@ -117,13 +118,14 @@ impl fmt::Display for Report {
 /// let record = Record::new(Code::C2, 1);
 /// let mut block = Block::open(record)?;
 /// let _ = block.close(&mut Work::of(record))?;
-/// assert_eq!(block.mark(3070), Some(Mark::Left));
+/// assert_eq!(block.mark(3070), Some(Mark::Missing));
 /// assert_eq!(block.mark(3071), Some(Mark::Filled));
 /// assert_eq!(block.mark(3072), None);
+/// assert!(block.mark(0).is_some_and(Mark::is_missing));
 ///
 /// // as a byte of a block's marks
 /// assert_eq!(Mark::try_from(2), Ok(Mark::Filled));
-/// assert_eq!(Mark::try_from(3), Err(Refusal::Mark));
+/// assert_eq!(Mark::try_from(255), Err(Refusal::Mark));
 /// assert_eq!(u8::from(Mark::Heard), 1);
 /// # Ok(())
 /// # }
@@ -132,22 +134,44 @@ impl fmt::Display for Report {
 #[derive(Clone, Copy, Debug, PartialEq, Eq, Hash)]
 #[repr(u8)]
 pub enum Mark {
-    /// Missing: no unit brought the symbol and no close filled it.
-    Left = 0,
+    /// No unit brought the symbol, and no close filled it.
+    Missing = 0,
     /// Taken from a unit.
     Heard = 1,
     /// Filled by close.
     Filled = 2,
 }
 
-/// The mark of a byte. Refuses one above 2, with [`Refusal::Mark`].
+impl Mark {
+    /// Whether no symbol is there: none was heard, and the last close filled none.
+    #[inline]
+    #[must_use]
+    pub const fn is_missing(self) -> bool {
+        match self {
+            Mark::Missing => true,
+            Mark::Heard | Mark::Filled => false,
+        }
+    }
+
+    /// Whether the last close filled the position.
+    #[inline]
+    #[must_use]
+    pub const fn is_filled(self) -> bool {
+        match self {
+            Mark::Filled => true,
+            Mark::Missing | Mark::Heard => false,
+        }
+    }
+}
+
+/// The mark of a byte. Refuses one that is no mark, with [`Refusal::Mark`].
 impl TryFrom<u8> for Mark {
     type Error = Refusal;
 
     #[inline]
     fn try_from(byte: u8) -> Result<Mark, Refusal> {
         match byte {
-            0 => Ok(Mark::Left),
+            0 => Ok(Mark::Missing),
             1 => Ok(Mark::Heard),
             2 => Ok(Mark::Filled),
             _ => Err(Refusal::Mark),
@@ -164,7 +188,7 @@ impl From<Mark> for u8 {
 impl fmt::Display for Mark {
     fn fmt(&self, f: &mut fmt::Formatter<'_>) -> fmt::Result {
         f.pad(match self {
-            Mark::Left => "left",
+            Mark::Missing => "missing",
             Mark::Heard => "heard",
             Mark::Filled => "filled",
         })
@@ -181,7 +205,7 @@ mod tests {
     fn a_mark_is_its_byte() {
         for byte in 0..=u8::MAX {
             match Mark::try_from(byte) {
-                Ok(mark) => assert_eq!(u8::from(mark), byte),
+                Ok(mark) => assert_eq!((u8::from(mark), mark.is_missing(), mark.is_filled()), (byte, byte == 0, byte == 2)),
                 Err(refusal) => assert!(refusal == Refusal::Mark && byte > 2),
             }
         }
@@ -189,7 +213,7 @@ mod tests {
 
     #[test]
     fn answers_are_shown_in_words() {
-        assert_eq!([Mark::Left, Mark::Heard, Mark::Filled].map(|mark| mark.to_string()), ["left", "heard", "filled"]);
+        assert_eq!([Mark::Missing, Mark::Heard, Mark::Filled].map(|mark| mark.to_string()), ["missing", "heard", "filled"]);
         assert_eq!([Taken::Kept, Taken::Repeated].map(|taken| taken.to_string()), ["kept", "repeated"]);
         let verdicts = [Verdict::Whole, Verdict::Ambiguous, Verdict::Inconsistent];
         assert_eq!(verdicts.map(|verdict| verdict.to_string()), ["whole", "ambiguous", "inconsistent"]);

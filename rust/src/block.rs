@@ -3,12 +3,13 @@
 use alloc::{vec, vec::Vec};
 use core::fmt;
 
+use crate::calls::{self, Buffers};
 #[cfg(feature = "alloc")]
 use crate::Work;
-use crate::{calls, Closed, Mark, Missing, Record, Refusal, Taken};
+use crate::{Closed, Mark, Missing, Record, Refusal, Taken};
 
-/// A block on the ground: its record, and two buffers, which it owns (`Block`) or borrows (`Block<&mut [u8]>`, any type that lends its bytes will
-/// do).
+/// A block on the ground: its record, and two buffers, symbols and marks, which it owns (`Block`) or borrows (`Block<&mut [u8]>`; any two types
+/// that lend their bytes will do).
 ///
 /// Units are taken in any order and any number of times. A block may be closed more than once, with more units taken in between. Positions
 /// count from 0: position i holds the symbol of LWC i + 1, information symbols first. What a close recovered comes from its answer,
@@ -21,12 +22,11 @@ use crate::{calls, Closed, Mark, Missing, Record, Refusal, Taken};
 /// let record = Record::new(Code::C1, 2).with_protocol(1).with_lsc(7);
 /// let sent = Codeword::encode(record, [0x5A; 1024])?;
 /// let mut block = Block::open(record)?;
-/// for lwc in (3..=768).rev() {
+/// for lwc in sent.lwcs().skip(2).rev() {
 ///     assert_eq!(block.take(&sent.unit(lwc)?)?, Taken::Kept);
 /// }
 /// assert_eq!(block.take(&sent.unit(3)?)?, Taken::Repeated);
 /// assert!(block.missing().eq([0, 1]));
-/// assert_eq!(block.heard(2), Some(&[0x5A, 0x5A][..]));
 ///
 /// let other = Codeword::encode(record.with_lsc(8), [0x5A; 1024])?;
 /// assert_eq!(block.take(&other.unit(1)?), Err(Refusal::Foreign));
@@ -47,17 +47,17 @@ use crate::{calls, Closed, Mark, Missing, Record, Refusal, Taken};
 /// const W: usize = 2;
 /// let (mut symbols, mut marks) = ([0; 768 * W], [0; 768]);
 /// let (mut words, mut bytes) = ([0; 256 * 13], [0; 256 * W]);
-/// let mut block = Block::open_in(Record::new(Code::C1, W), &mut symbols[..], &mut marks[..])?;
+/// let mut block = Block::open_in(Record::new(Code::C1, W), &mut symbols, &mut marks)?;
 /// let closed = block.close_with(&mut words, &mut bytes)?;
 /// assert_eq!(closed.verdict(), Verdict::Ambiguous);
 /// # Ok(())
 /// # }
 /// ```
 #[derive(Clone, PartialEq, Eq)]
-pub struct Block<#[cfg(feature = "alloc")] B = Vec<u8>, #[cfg(not(feature = "alloc"))] B> {
+pub struct Block<#[cfg(feature = "alloc")] S = Vec<u8>, #[cfg(not(feature = "alloc"))] S, M = S> {
     record: Record,
-    symbols: B,
-    marks: B,
+    symbols: S,
+    marks: M,
 }
 
 #[cfg(feature = "alloc")]
@@ -70,13 +70,13 @@ impl Block {
     }
 }
 
-impl<B: AsRef<[u8]> + AsMut<[u8]>> Block<B> {
+impl<S: AsRef<[u8]> + AsMut<[u8]>, M: AsRef<[u8]> + AsMut<[u8]>> Block<S, M> {
     /// Opens a block in given buffers: [`Record::symbol_bytes`] bytes for the symbols and [`Record::n`] for the marks. What they held is
     /// overwritten.
     ///
     /// Refusals: code, width, label, length.
-    pub fn open_in(record: Record, mut symbols: B, mut marks: B) -> Result<Block<B>, Refusal> {
-        calls::open(&record, symbols.as_mut(), marks.as_mut())?;
+    pub fn open_in(record: Record, mut symbols: S, mut marks: M) -> Result<Block<S, M>, Refusal> {
+        calls::open(&record, &mut Buffers::new(symbols.as_mut(), marks.as_mut()))?;
         Ok(Block { record, symbols, marks })
     }
 
@@ -85,7 +85,7 @@ impl<B: AsRef<[u8]> + AsMut<[u8]>> Block<B> {
     /// Refusals: header, extension, number, extension kind, parameters, foreign, position, symbol, conflict.
     #[inline]
     pub fn take(&mut self, unit: &[u8]) -> Result<Taken, Refusal> {
-        calls::take(&self.record, self.symbols.as_mut(), self.marks.as_mut(), unit)
+        calls::take(&self.record, &mut Buffers::new(self.symbols.as_mut(), self.marks.as_mut()), unit)
     }
 
     /// Closes the block: each missing symbol that the heard ones determine is filled. The answer has the verdict, and the bytes that it allows.
@@ -103,7 +103,7 @@ impl<B: AsRef<[u8]> + AsMut<[u8]>> Block<B> {
     /// Refusals: length.
     pub fn close_with(&mut self, words: &mut [u64], bytes: &mut [u8]) -> Result<Closed<'_>, Refusal> {
         let (symbols, marks) = (self.symbols.as_mut(), self.marks.as_mut());
-        let report = calls::close(&self.record, symbols, marks, words, bytes)?;
+        let report = calls::close(&self.record, &mut Buffers::new(symbols, marks), words, bytes)?;
         Ok(Closed::new(self.record, report, symbols, marks))
     }
 
@@ -124,37 +124,59 @@ impl<B: AsRef<[u8]> + AsMut<[u8]>> Block<B> {
         Missing::new(self.marks.as_ref())
     }
 
-    /// The symbol that a unit brought to a position, as it came; `None` where none did, where it was filled, and beyond the block.
-    ///
-    /// Nothing but a verdict says whether it was sent so.
-    #[must_use]
-    pub fn heard(&self, position: usize) -> Option<&[u8]> {
-        match self.mark(position)? {
-            Mark::Heard => self.symbols.as_ref().chunks_exact(self.record.w).nth(position),
-            Mark::Left | Mark::Filled => None,
-        }
-    }
-
-    /// The raw buffers: all symbols one after the other, and a byte for each position, 0 left, 1 heard, 2 filled.
+    /// The raw buffers: all symbols one after the other, as they came or were filled, and a byte for each position, its [`Mark`].
     ///
     /// Not for the recovered bytes: those are [`Closed`]'s. Neither a mark nor a byte here says whether a symbol may be used; that takes the
     /// verdict of a close after which no unit was kept. After [`Verdict::Inconsistent`](crate::Verdict::Inconsistent) none of these bytes may
     /// be, although all information symbols may be marked as heard.
     #[must_use]
-    pub fn buffers(&self) -> (&[u8], &[u8]) {
+    pub fn raw_buffers(&self) -> (&[u8], &[u8]) {
         (self.symbols.as_ref(), self.marks.as_ref())
     }
 
-    /// The raw buffers, symbols and marks, to use them for another block. What [`Block::buffers`] says of their bytes holds here too.
+    /// The raw buffers, symbols and marks, to use them for another block. What [`Block::raw_buffers`] says of their bytes holds here too.
     #[must_use]
-    pub fn into_buffers(self) -> (B, B) {
+    pub fn into_raw_buffers(self) -> (S, M) {
         (self.symbols, self.marks)
     }
 }
 
-impl<B> fmt::Debug for Block<B> {
+impl<S, M> fmt::Debug for Block<S, M> {
     fn fmt(&self, f: &mut fmt::Formatter<'_>) -> fmt::Result {
         f.debug_struct("Block").field("record", &self.record).finish_non_exhaustive()
+    }
+}
+
+#[cfg(test)]
+mod lent_tests {
+    use super::*;
+    use crate::{Code, Codeword, Verdict, MAX_UNIT_BYTES};
+
+    #[test]
+    fn there_and_back_without_an_allocator() {
+        const W: usize = 2;
+        let record = Record::new(Code::C1, W).with_protocol(2).with_lsc(65_534);
+        let information: [u8; 512 * W] = core::array::from_fn(|i| (i * 31 % 253) as u8);
+        let mut parity = [0xEE; 256 * W];
+        let sent = Codeword::encode_in(record, &information, &mut parity).unwrap();
+        let (mut symbols, mut marks) = ([0xEE; 768 * W], [0xEE; 768]);
+        let mut block = Block::open_in(record, &mut symbols, &mut marks).unwrap();
+        let mut buffer = [0; MAX_UNIT_BYTES];
+        let unit = &mut buffer[..record.unit_bytes()];
+        for lwc in sent.lwcs().filter(|lwc| lwc % 4 != 1) {
+            sent.write_unit(lwc, unit).unwrap();
+            assert_eq!(block.take(unit), Ok(Taken::Kept));
+        }
+        assert!(block.missing().eq((0..768).step_by(4)));
+        let (mut words, mut bytes) = ([!0; 256 * 13], [0xEE; 256 * W]);
+        let closed = block.close_with(&mut words, &mut bytes).unwrap();
+        let report = closed.report();
+        assert_eq!((report.verdict, report.heard, report.filled, report.left), (Verdict::Whole, 576, 192, 0));
+        let Closed::Whole(whole) = closed else { panic!("{closed:?}") };
+        assert_eq!((whole.information(), whole.parity()), (&information[..], sent.parity()));
+        assert!(words.iter().all(|&x| x == 0) && bytes.iter().all(|&x| x == 0));
+        let (symbols, marks) = block.into_raw_buffers();
+        assert_eq!((&symbols[..512 * W], marks[0], marks[1]), (&information[..], 2, 1));
     }
 }
 
@@ -170,7 +192,7 @@ mod tests {
         let (mut symbols, mut marks) = (vec![0xEE; 768 * 3], vec![0xEE; 768]);
         let mut owning = Block::open(record).unwrap();
         let mut borrowing = Block::open_in(record, &mut symbols[..], &mut marks[..]).unwrap();
-        assert_eq!(owning.buffers(), borrowing.buffers());
+        assert_eq!(owning.raw_buffers(), borrowing.raw_buffers());
         for unit in sent.units().unwrap().step_by(2).chain(sent.units().unwrap().skip(300).take(200)) {
             assert_eq!(owning.take(&unit), borrowing.take(&unit));
         }
@@ -180,8 +202,8 @@ mod tests {
         assert_eq!(closed, borrowing.close_with(&mut words, &mut bytes));
         assert_eq!(closed.unwrap().report().heard, 484);
         assert!(words.iter().all(|&x| x == 0) && bytes.iter().all(|&x| x == 0));
-        let (lent_symbols, lent_marks) = borrowing.into_buffers();
-        let (own_symbols, own_marks) = owning.into_buffers();
+        let (lent_symbols, lent_marks) = borrowing.into_raw_buffers();
+        let (own_symbols, own_marks) = owning.into_raw_buffers();
         assert_eq!((&own_symbols[..], &own_marks[..]), (&*lent_symbols, &*lent_marks));
     }
 
@@ -198,19 +220,19 @@ mod tests {
         for (words, bytes) in [(words - 1, bytes), (words + 1, bytes), (words, bytes - 1), (words, bytes + 1), (0, 0)] {
             assert_eq!(block.close_with(&mut vec![0; words], &mut vec![0; bytes]), Err(Refusal::Length));
         }
-        assert_eq!(block.close(&mut Work::new(Code::from_number(0), 1)), Err(Refusal::Length));
-        assert_eq!(block.close(&mut Work::new(Code::C1, 0)), Err(Refusal::Length));
+        assert_eq!(block.close(&mut Work::of(Record::new(Code::from_number(0), 1))), Err(Refusal::Length));
+        assert_eq!(block.close(&mut Work::of(Record::new(Code::C1, 0))), Err(Refusal::Length));
     }
 
     #[test]
     fn numbers_of_any_size_are_refused_without_buffers() {
-        for code in [0, 3, usize::MAX].map(Code::from_number) {
+        for code in [0, 255, usize::MAX].map(Code::from_number) {
             assert_eq!(Block::open(Record::new(code, 1)).unwrap_err(), Refusal::Code);
             let all = Record::new(code, usize::MAX).with_protocol(usize::MAX).with_lsc(usize::MAX);
             assert_eq!(Block::open(all).unwrap_err(), Refusal::Code);
         }
         for w in [0, 1025, 1 << 32, usize::MAX / 3072, usize::MAX] {
-            for code in Code::ALL {
+            for &code in Code::ALL {
                 assert_eq!(Block::open(Record::new(code, w).with_protocol(usize::MAX).with_lsc(0)).unwrap_err(), Refusal::Width);
             }
         }
@@ -220,7 +242,7 @@ mod tests {
     }
 
     #[test]
-    fn outside_a_verdict_only_heard_symbols_are_shown() {
+    fn a_block_shows_marks_and_what_is_missing() {
         let record = Record::new(Code::C1, 1);
         let sent = Codeword::encode(record, (0..512).map(|i| i as u8).collect::<Vec<u8>>()).unwrap();
         let mut block = Block::open(record).unwrap();
@@ -229,14 +251,11 @@ mod tests {
         }
         assert!(block.missing().eq((0..1).chain(512..768)));
         assert!(block.missing().rev().eq((0..1).chain(512..768).rev()));
-        assert_eq!((block.mark(0), block.heard(0)), (Some(Mark::Left), None));
-        assert_eq!((block.mark(511), block.heard(511)), (Some(Mark::Heard), Some(&[255][..])));
-        for beyond in [768, 769, usize::MAX] {
-            assert_eq!((block.mark(beyond), block.heard(beyond)), (None, None));
-        }
+        assert_eq!([0, 511].map(|position| block.mark(position)), [Some(Mark::Missing), Some(Mark::Heard)]);
+        assert_eq!([768, 769, usize::MAX].map(|beyond| block.mark(beyond)), [None; 3]);
         // the sum of all information symbols
         block.take(&sent.unit(768).unwrap()).unwrap();
         assert!(block.close(&mut Work::of(record)).unwrap().information().is_some());
-        assert_eq!((block.mark(0), block.heard(0), block.missing().next()), (Some(Mark::Filled), None, None));
+        assert_eq!((block.mark(0), block.missing().next()), (Some(Mark::Filled), None));
     }
 }

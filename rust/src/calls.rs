@@ -19,15 +19,19 @@
 //!
 //! // open, take, close
 //! let (mut symbols, mut marks) = ([0; 768], [0; 768]);
-//! calls::open(&record, &mut symbols, &mut marks)?;
-//! assert_eq!(calls::take(&record, &mut symbols, &mut marks, &unit)?, Taken::Kept);
+//! let mut buffers = calls::Buffers::new(&mut symbols, &mut marks);
+//! calls::open(&record, &mut buffers)?;
+//! assert_eq!(calls::take(&record, &mut buffers, &unit)?, Taken::Kept);
 //! let (mut words, mut bytes) = (vec![0; record.work_words()], vec![0; record.work_bytes()]);
-//! let report = calls::close(&record, &mut symbols, &mut marks, &mut words, &mut bytes)?;
+//! let report = calls::close(&record, &mut buffers, &mut words, &mut bytes)?;
 //! assert_eq!((report.verdict, symbols[4], marks[4]), (Verdict::Ambiguous, 3, 1));
 //! # Ok(())
 //! # }
 //! ```
-use crate::{ffi, Parameters, Record, Refusal, Report, Taken, Unit, Verdict};
+use crate::{ffi, version, Parameters, Record, Refusal, Report, Taken, Unit, Verdict};
+
+#[doc(inline)]
+pub use crate::ffi::Buffers;
 
 const NO_OTHER: &str = "the archive answers no other number";
 
@@ -47,7 +51,8 @@ fn done(number: u8) -> Result<(), Refusal> {
 /// The archive's version: first number * 10000 + second * 100 + third.
 ///
 /// ```
-/// assert_eq!(lipvezor::calls::version() / 100, 3); // 0.3
+/// let version = lipvezor::calls::version();
+/// println!("{}.{}.{}", version / 10_000, version / 100 % 100, version % 100);
 /// ```
 #[inline]
 #[must_use]
@@ -83,8 +88,13 @@ pub fn write(record: &Record, lwc: usize, symbol: &[u8], out: &mut [u8]) -> Resu
 /// What a unit says by itself, whatever block it is of. Take reads units too: this call is for seeing which block a unit is of.
 ///
 /// Refusals: header; extension, number, extension kind, by the first byte that can't be accepted.
+///
+/// # Panics
+///
+/// As [`Record::new`], if the archive is of another version.
 #[inline]
 pub fn read(unit: &[u8]) -> Result<Unit<'_>, Refusal> {
+    version::check();
     let mut parts = ffi::Parts::default();
     done(ffi::read(unit, &mut parts))?;
     let ffi::Parts { protocol, count, lwc, lsc, symbol, coding, w, k, n, seed } = parts;
@@ -92,21 +102,21 @@ pub fn read(unit: &[u8]) -> Result<Unit<'_>, Refusal> {
     Ok(Unit { protocol, count, lwc, lsc, symbol: &unit[symbol..], coding })
 }
 
-/// Opens a block: all [`Record::symbol_bytes`] symbol bytes and all [`Record::n`] marks become 0.
+/// Opens a block: all symbol bytes and marks become 0.
 ///
 /// Refusals: code, width, label, length.
 #[inline]
-pub fn open(record: &Record, symbols: &mut [u8], marks: &mut [u8]) -> Result<(), Refusal> {
-    done(ffi::open(record, symbols, marks))
+pub fn open(record: &Record, buffers: &mut Buffers<'_>) -> Result<(), Refusal> {
+    done(ffi::open(record, buffers))
 }
 
 /// Takes one unit. Only a kept one changes the block: its symbol stands at position LWC - 1, with mark 1.
 ///
 /// Refusals: any.
 #[inline]
-pub fn take(record: &Record, symbols: &mut [u8], marks: &mut [u8], unit: &[u8]) -> Result<Taken, Refusal> {
+pub fn take(record: &Record, buffers: &mut Buffers<'_>, unit: &[u8]) -> Result<Taken, Refusal> {
     let mut taken = ffi::Taken::default();
-    done(ffi::take(record, symbols, marks, unit, &mut taken))?;
+    done(ffi::take(record, buffers, unit, &mut taken))?;
     match taken.result {
         1 => Ok(Taken::Kept),
         2 => Ok(Taken::Repeated),
@@ -119,9 +129,9 @@ pub fn take(record: &Record, symbols: &mut [u8], marks: &mut [u8], unit: &[u8]) 
 ///
 /// Refusals: code, width, label, length, mark.
 #[inline]
-pub fn close(record: &Record, symbols: &mut [u8], marks: &mut [u8], words: &mut [u64], bytes: &mut [u8]) -> Result<Report, Refusal> {
+pub fn close(record: &Record, buffers: &mut Buffers<'_>, words: &mut [u64], bytes: &mut [u8]) -> Result<Report, Refusal> {
     let mut report = ffi::Report::default();
-    done(ffi::close(record, symbols, marks, words, bytes, &mut report))?;
+    done(ffi::close(record, buffers, words, bytes, &mut report))?;
     let verdict = match report.verdict {
         1 => Verdict::Whole,
         2 => Verdict::Ambiguous,
@@ -129,25 +139,4 @@ pub fn close(record: &Record, symbols: &mut [u8], marks: &mut [u8], words: &mut 
         _ => unreachable!("{NO_OTHER}"),
     };
     Ok(Report { verdict, heard: report.heard, filled: report.filled, left: report.left })
-}
-
-#[cfg(test)]
-mod tests {
-    use super::*;
-    use crate::{Code, MAX_UNIT_BYTES, MAX_WIDTH};
-
-    #[test]
-    fn the_archive_is_of_the_crates_version() {
-        let numbers = [env!("CARGO_PKG_VERSION_MAJOR"), env!("CARGO_PKG_VERSION_MINOR"), env!("CARGO_PKG_VERSION_PATCH")];
-        let [major, minor, patch] = numbers.map(|number| number.parse::<usize>().unwrap());
-        assert_eq!(version(), major * 10_000 + minor * 100 + patch);
-    }
-
-    #[test]
-    fn the_constants_are_the_archives() {
-        for code in Code::ALL {
-            assert!(code.symbol_bytes(MAX_WIDTH) > 0 && code.symbol_bytes(MAX_WIDTH + 1) == 0);
-            assert_eq!((1..=MAX_WIDTH).map(|w| code.unit_bytes(w)).max(), Some(MAX_UNIT_BYTES));
-        }
-    }
 }

@@ -15,7 +15,7 @@ use crate::{Mark, Record, Report, Verdict};
 /// let record = Record::new(Code::C1, 1);
 /// let sent = Codeword::encode(record, [7; 512])?;
 /// let mut block = Block::open(record)?;
-/// for lwc in 1..=511 {
+/// for lwc in sent.lwcs().take(511) {
 ///     block.take(&sent.unit(lwc)?)?;
 /// }
 /// let mut work = Work::of(record);
@@ -72,6 +72,16 @@ impl<'a> Closed<'a> {
         }
     }
 
+    /// The block's numbers.
+    #[must_use]
+    pub fn record(&self) -> Record {
+        match self {
+            Closed::Whole(block) => block.record(),
+            Closed::Ambiguous(block) => block.record(),
+            Closed::Inconsistent(block) => block.record(),
+        }
+    }
+
     /// The verdict and the counts.
     pub fn report(&self) -> Report {
         match self {
@@ -114,8 +124,8 @@ struct Parts<'a> {
 }
 
 impl<'a> Parts<'a> {
-    fn symbol(&self, position: usize) -> Option<&'a [u8]> {
-        self.symbols.chunks_exact(self.record.w).nth(position)
+    fn symbol_at(&self, position: usize) -> Option<&'a [u8]> {
+        self.symbols.chunks_exact(self.record.w()).nth(position)
     }
 
     /// Numbers and counts alone: the bytes are not for a log.
@@ -138,7 +148,7 @@ impl<'a> Parts<'a> {
 /// }
 /// if let Closed::Whole(whole) = block.close(&mut Work::of(record))? {
 ///     assert_eq!((whole.information(), whole.parity()), (sent.information(), sent.parity()));
-///     assert_eq!(whole.symbol(0), Some(&[7, 7][..]));
+///     assert_eq!(whole.symbol_at(0), Some(&[7, 7][..]));
 /// }
 /// # Ok(())
 /// # }
@@ -167,13 +177,14 @@ impl<'a> Whole<'a> {
     /// The parity, m symbols one after the other.
     #[must_use]
     pub fn parity(&self) -> &'a [u8] {
-        &self.0.symbols[self.0.record.information_bytes()..]
+        let parity = self.0.symbols.len() - self.0.record.parity_bytes();
+        &self.0.symbols[parity..]
     }
 
     /// The symbol at a position; `None` beyond the block.
     #[must_use]
-    pub fn symbol(&self, position: usize) -> Option<&'a [u8]> {
-        self.0.symbol(position)
+    pub fn symbol_at(&self, position: usize) -> Option<&'a [u8]> {
+        self.0.symbol_at(position)
     }
 }
 
@@ -196,7 +207,7 @@ impl fmt::Debug for Whole<'_> {
 ///         assert_eq!((symbol.position, symbol.mark, symbol.bytes), (3071, Mark::Filled, &[0, 0][..]));
 ///     }
 ///     assert!(block.missing().eq(0..3071));
-///     assert_eq!(block.symbol(0), None);
+///     assert_eq!(block.symbol_at(0), None);
 /// }
 /// # Ok(())
 /// # }
@@ -219,13 +230,13 @@ impl<'a> Ambiguous<'a> {
     /// The symbols that were heard or filled, in the order of their positions. A heard one is as it came: an ambiguous block may have heard a
     /// symbol that was not sent, and what was filled is then wrong too.
     pub fn symbols(&self) -> Symbols<'a> {
-        Symbols(self.0.marks.iter().enumerate().zip(self.0.symbols.chunks_exact(self.0.record.w)))
+        Symbols(self.0.marks.iter().enumerate().zip(self.0.symbols.chunks_exact(self.0.record.w())))
     }
 
     /// The symbol at a position, where it was heard or filled; `None` where it is missing, and beyond the block.
     #[must_use]
-    pub fn symbol(&self, position: usize) -> Option<Symbol<'a>> {
-        Symbol::new(position, *self.0.marks.get(position)?, self.0.symbol(position)?)
+    pub fn symbol_at(&self, position: usize) -> Option<Symbol<'a>> {
+        Symbol::new(position, *self.0.marks.get(position)?, self.0.symbol_at(position)?)
     }
 
     /// The positions that are missing, in order.
@@ -290,7 +301,7 @@ impl fmt::Debug for Inconsistent<'_> {
 pub struct Symbol<'a> {
     /// Its position, from 0.
     pub position: usize,
-    /// [`Mark::Heard`] or [`Mark::Filled`].
+    /// Whether it was heard or filled.
     pub mark: Mark,
     /// Its W bytes.
     pub bytes: &'a [u8],
@@ -299,7 +310,7 @@ pub struct Symbol<'a> {
 impl<'a> Symbol<'a> {
     /// The symbol at a position, unless its mark says that it is missing.
     fn new(position: usize, mark: u8, bytes: &'a [u8]) -> Option<Symbol<'a>> {
-        let mark = Mark::try_from(mark).ok().filter(|&mark| mark != Mark::Left)?;
+        let mark = Mark::try_from(mark).ok().filter(|mark| !mark.is_missing())?;
         Some(Symbol { position, mark, bytes })
     }
 }
@@ -357,15 +368,15 @@ impl<'a> Missing<'a> {
 }
 
 /// A position, if its mark says that it is missing.
-fn left((position, &mark): (usize, &u8)) -> Option<usize> {
-    (mark == u8::from(Mark::Left)).then_some(position)
+fn if_missing((position, &mark): (usize, &u8)) -> Option<usize> {
+    Mark::try_from(mark).is_ok_and(Mark::is_missing).then_some(position)
 }
 
 impl Iterator for Missing<'_> {
     type Item = usize;
 
     fn next(&mut self) -> Option<usize> {
-        self.0.find_map(left)
+        self.0.find_map(if_missing)
     }
 
     fn size_hint(&self) -> (usize, Option<usize>) {
@@ -375,7 +386,7 @@ impl Iterator for Missing<'_> {
 
 impl DoubleEndedIterator for Missing<'_> {
     fn next_back(&mut self) -> Option<usize> {
-        self.0.by_ref().rev().find_map(left)
+        self.0.by_ref().rev().find_map(if_missing)
     }
 }
 
@@ -383,9 +394,9 @@ impl FusedIterator for Missing<'_> {}
 
 #[cfg(all(test, feature = "alloc"))]
 mod tests {
+    use alloc::format;
     use alloc::string::ToString;
     use alloc::vec::Vec;
-    use alloc::{format, vec};
 
     use super::*;
     use crate::{Block, Code, Codeword, Work};
@@ -413,16 +424,16 @@ mod tests {
     fn a_whole_block_has_all_its_bytes() {
         let (sent, mut block, mut work) = (sent(), block((0..768).filter(|position| position % 5 != 0)), Work::of(record()));
         let closed = block.close(&mut work).unwrap();
-        assert_eq!((closed.verdict(), closed.report().verdict), (Verdict::Whole, Verdict::Whole));
+        assert_eq!((closed.record(), closed.verdict(), closed.report().verdict), (record(), Verdict::Whole, Verdict::Whole));
         assert_eq!(closed.to_string(), "whole: heard 614, filled 154, left 0");
         let Closed::Whole(whole) = closed else { panic!("{closed:?}") };
         assert_eq!((whole.record(), whole.report()), (record(), closed.report()));
         assert_eq!((whole.information(), whole.parity()), (sent.information(), sent.parity()));
         assert_eq!(closed.information(), Some(sent.information()));
         for position in 0..768 {
-            assert_eq!(whole.symbol(position), Some(&sent.symbol(position + 1).unwrap()[..]));
+            assert_eq!(whole.symbol_at(position), Some(&sent.symbol(position + 1).unwrap()[..]));
         }
-        assert_eq!([768, usize::MAX].map(|beyond| whole.symbol(beyond)), [None, None]);
+        assert_eq!([768, usize::MAX].map(|beyond| whole.symbol_at(beyond)), [None, None]);
     }
 
     #[test]
@@ -432,7 +443,7 @@ mod tests {
             |position: &usize| *position == 0 || [41..61, 72..98, 222..256].iter().any(|run| run.contains(&position.wrapping_sub(512)));
         let (sent, mut block, mut work) = (sent(), block((0..768).filter(|position| !lost(position))), Work::of(record()));
         let closed = block.close(&mut work).unwrap();
-        assert_eq!((closed.verdict(), closed.information()), (Verdict::Ambiguous, None));
+        assert_eq!((closed.record(), closed.verdict(), closed.information()), (record(), Verdict::Ambiguous, None));
         assert_eq!(closed.to_string(), "ambiguous: heard 687, filled 1, left 80");
         let Closed::Ambiguous(ambiguous) = closed else { panic!("{closed:?}") };
         assert_eq!((ambiguous.record(), ambiguous.report()), (record(), closed.report()));
@@ -441,16 +452,16 @@ mod tests {
         for symbol in &symbols {
             let mark = if symbol.position == 512 + 60 { Mark::Filled } else { Mark::Heard };
             assert_eq!((symbol.mark, symbol.bytes), (mark, &sent.symbol(symbol.position + 1).unwrap()[..]));
-            assert_eq!(ambiguous.symbol(symbol.position), Some(*symbol));
+            assert_eq!(ambiguous.symbol_at(symbol.position), Some(*symbol));
         }
         let missing: Vec<usize> = ambiguous.missing().collect();
-        assert!(missing.iter().all(|&position| ambiguous.symbol(position).is_none()));
+        assert!(missing.iter().all(|&position| ambiguous.symbol_at(position).is_none()));
         assert!(missing.iter().all(|position| lost(position) && *position != 512 + 60));
         assert_eq!(missing.len(), 80);
         let mut positions: Vec<usize> = symbols.iter().map(|symbol| symbol.position).chain(missing).collect();
         positions.sort_unstable();
         assert!(positions.into_iter().eq(0..768));
-        assert_eq!(ambiguous.symbol(768), None);
+        assert_eq!(ambiguous.symbol_at(768), None);
         assert!(ambiguous.symbols().rev().eq(symbols.into_iter().rev()));
     }
 
@@ -462,13 +473,13 @@ mod tests {
         *unit.last_mut().unwrap() ^= 1;
         block.take(&unit).unwrap();
         let closed = block.close(&mut work).unwrap();
-        assert_eq!((closed.verdict(), closed.information()), (Verdict::Inconsistent, None));
+        assert_eq!((closed.record(), closed.verdict(), closed.information()), (record(), Verdict::Inconsistent, None));
         assert_eq!(closed.to_string(), "inconsistent: heard 768, filled 0, left 0");
         let Closed::Inconsistent(inconsistent) = closed else { panic!("{closed:?}") };
         assert_eq!((inconsistent.record(), inconsistent.report()), (record(), closed.report()));
-        // the block shows what came there, as it came
-        assert_eq!(block.heard(0), unit.get(unit.len() - W..));
-        assert_eq!(block.buffers().1, vec![1; 768]);
+        // the raw buffers have what came, as it came
+        let (symbols, marks) = block.raw_buffers();
+        assert_eq!((&symbols[..W], marks), (&unit[unit.len() - W..], &[1; 768][..]));
     }
 
     #[test]

@@ -4,20 +4,18 @@ use core::fmt;
 use crate::{ffi, Refusal};
 
 /// A code, by its number. [`Code::from_number`] takes any number: a call that is handed one that is no code's answers [`Refusal::Code`], and the
-/// sizes below are 0 for it. `Code::try_from` refuses it at once. A size that depends on a width is 0 for one that is refused.
+/// sizes below are 0 for it. `Code::try_from` refuses it at once. Sizes that depend on W are [`Record`](crate::Record)'s.
 ///
 /// ```
 /// use lipvezor::{Code, Refusal};
 ///
 /// assert_eq!((Code::C1.n(), Code::C1.k(), Code::C1.m()), (768, 512, 256));
-/// assert_eq!(Code::C2.information_bytes(1024), 2 << 20);
-/// assert_eq!(Code::C2.information_bytes(1025), 0);
 /// assert_eq!(Code::of(2048, 3072), Some(Code::C2));
 /// assert_eq!(Code::try_from(2), Ok(Code::C2));
 /// assert_eq!(Code::C1.to_string(), "C1");
 ///
-/// assert_eq!(Code::from_number(3).n(), 0);
-/// assert_eq!(Code::try_from(3), Err(Refusal::Code));
+/// assert_eq!(Code::from_number(255).n(), 0);
+/// assert_eq!(Code::try_from(255), Err(Refusal::Code));
 /// ```
 #[derive(Clone, Copy, Debug, PartialEq, Eq, PartialOrd, Ord, Hash)]
 #[repr(transparent)]
@@ -29,7 +27,7 @@ impl Code {
     /// k 2048, m 1024, n 3072.
     pub const C2: Code = Code(2);
     /// The codes that no call refuses.
-    pub const ALL: [Code; 2] = [Code::C1, Code::C2];
+    pub const ALL: &'static [Code] = &[Code::C1, Code::C2];
 
     /// The code of a number, which may be any: calls refuse what is no code's.
     #[inline]
@@ -38,7 +36,7 @@ impl Code {
         Code(number)
     }
 
-    /// Its number.
+    /// Its number, as in the C header.
     #[inline]
     #[must_use]
     pub const fn number(self) -> usize {
@@ -48,7 +46,7 @@ impl Code {
     /// The code with these k and n, as a unit's [`Parameters`](crate::Parameters) have them.
     #[must_use]
     pub fn of(k: usize, n: usize) -> Option<Code> {
-        Code::ALL.into_iter().find(|code| (code.k(), code.n()) == (k, n))
+        Code::ALL.iter().copied().find(|code| (code.k(), code.n()) == (k, n))
     }
 
     /// Symbols of a block.
@@ -72,46 +70,11 @@ impl Code {
         ffi::m(self.0)
     }
 
-    /// Bytes of the information, for symbols of `w` bytes.
-    #[inline]
-    #[must_use]
-    pub fn information_bytes(self, w: usize) -> usize {
-        ffi::information_bytes(self.0, w)
-    }
-
-    /// Bytes of the parity.
-    #[inline]
-    #[must_use]
-    pub fn parity_bytes(self, w: usize) -> usize {
-        ffi::parity_bytes(self.0, w)
-    }
-
-    /// Bytes of a block's symbols.
-    #[inline]
-    #[must_use]
-    pub fn symbol_bytes(self, w: usize) -> usize {
-        ffi::symbol_bytes(self.0, w)
-    }
-
-    /// Bytes of a unit.
-    #[inline]
-    #[must_use]
-    pub fn unit_bytes(self, w: usize) -> usize {
-        ffi::unit_bytes(self.0, w)
-    }
-
     /// 64-bit words of close's first work buffer.
     #[inline]
     #[must_use]
     pub fn work_words(self) -> usize {
         ffi::work_words(self.0)
-    }
-
-    /// Bytes of close's second work buffer.
-    #[inline]
-    #[must_use]
-    pub fn work_bytes(self, w: usize) -> usize {
-        ffi::work_bytes(self.0, w)
     }
 }
 
@@ -120,7 +83,7 @@ impl TryFrom<usize> for Code {
     type Error = Refusal;
 
     fn try_from(number: usize) -> Result<Code, Refusal> {
-        Code::ALL.into_iter().find(|code| code.0 == number).ok_or(Refusal::Code)
+        Code::ALL.iter().copied().find(|code| code.0 == number).ok_or(Refusal::Code)
     }
 }
 
@@ -130,7 +93,7 @@ impl From<Code> for usize {
     }
 }
 
-/// `C1` or `C2`; else `code 3`, with its number.
+/// `C1` or `C2`; else `code 255`, with its number.
 impl fmt::Display for Code {
     fn fmt(&self, f: &mut fmt::Formatter<'_>) -> fmt::Result {
         match *self {
@@ -150,7 +113,7 @@ mod tests {
 
     #[test]
     fn a_code_is_found_by_k_and_n() {
-        for code in Code::ALL {
+        for &code in Code::ALL {
             assert_eq!(Code::of(code.k(), code.n()), Some(code));
             assert_eq!(code.k() + code.m(), code.n());
         }
@@ -162,20 +125,19 @@ mod tests {
     #[test]
     fn a_number_is_a_code_or_refused() {
         assert_eq!((Code::try_from(1), Code::try_from(2)), (Ok(Code::C1), Ok(Code::C2)));
-        for number in [0, 3, usize::MAX] {
+        for number in [0, 255, usize::MAX] {
             assert_eq!(Code::try_from(number), Err(Refusal::Code));
             let code = Code::from_number(number);
             assert_eq!((code.number(), usize::from(code)), (number, number));
             assert_eq!((code.n(), code.k(), code.m(), code.work_words()), (0, 0, 0, 0));
-            assert_eq!((code.symbol_bytes(1), code.unit_bytes(1), code.work_bytes(1)), (0, 0, 0));
         }
     }
 
     #[test]
     fn a_code_is_shown_by_its_name() {
         assert_eq!(
-            (Code::C1.to_string(), Code::C2.to_string(), Code::from_number(3).to_string()),
-            ("C1".into(), "C2".into(), "code 3".into())
+            (Code::C1.to_string(), Code::C2.to_string(), Code::from_number(255).to_string()),
+            ("C1".into(), "C2".into(), "code 255".into())
         );
         assert_eq!(format!("{:>4}|{:<4}", Code::C1, Code::C2), "  C1|C2  ");
     }

@@ -2,13 +2,16 @@
 #[cfg(feature = "alloc")]
 use alloc::{vec, vec::Vec};
 use core::fmt;
-#[cfg(feature = "alloc")]
-use core::{iter::FusedIterator, ops::Range};
+use core::iter::FusedIterator;
+use core::ops::Range;
 
 use crate::{calls, Record, Refusal, MAX_WIDTH};
 
+/// The widest symbol that a short array serves when its unit is written.
+const NARROW: usize = 64;
+
 /// A block on board: its record, its information and the parity that encoding adds. Both are in buffers that it owns or borrows; any type that
-/// lends its bytes will do. Symbols are called by their LWC, from 1 to n: information symbols have LWC 1 to k, parity symbols k + 1 to n.
+/// lends its bytes will do. Symbols are numbered by their LWC, from 1 to n: information symbols have LWC 1 to k, parity symbols k + 1 to n.
 ///
 /// ```
 /// use lipvezor::{Code, Codeword, Record, Refusal, Unit};
@@ -43,7 +46,7 @@ use crate::{calls, Record, Refusal, MAX_WIDTH};
 /// let sent = Codeword::encode_in(record, &information, &mut parity)?;
 /// let mut buffer = [0; MAX_UNIT_BYTES];
 /// let unit = &mut buffer[..record.unit_bytes()];
-/// for lwc in 1..=record.n() {
+/// for lwc in sent.lwcs() {
 ///     sent.write_unit(lwc, unit)?;
 ///     // send it
 /// }
@@ -97,6 +100,11 @@ impl<I: AsRef<[u8]>, P: AsRef<[u8]>> Codeword<I, P> {
         self.parity.as_ref()
     }
 
+    /// The LWCs of the units that are sent, in order.
+    pub fn lwcs(&self) -> Lwcs {
+        Lwcs(1..self.record.n() + 1)
+    }
+
     /// The symbol of an LWC, copied to an output of exactly W bytes.
     ///
     /// Refusals: length, position.
@@ -109,7 +117,7 @@ impl<I: AsRef<[u8]>, P: AsRef<[u8]>> Codeword<I, P> {
     /// Refusals: position.
     #[cfg(feature = "alloc")]
     pub fn symbol(&self, lwc: usize) -> Result<Vec<u8>, Refusal> {
-        let mut symbol = vec![0; self.record.w];
+        let mut symbol = vec![0; self.record.w()];
         self.copy_symbol(lwc, &mut symbol)?;
         Ok(symbol)
     }
@@ -118,8 +126,18 @@ impl<I: AsRef<[u8]>, P: AsRef<[u8]>> Codeword<I, P> {
     ///
     /// Refusals: label, length, position.
     pub fn write_unit(&self, lwc: usize, out: &mut [u8]) -> Result<(), Refusal> {
-        let mut symbol = [0; MAX_WIDTH];
-        let symbol = &mut symbol[..self.record.w];
+        // a narrow symbol does not pay for the widest one's array
+        if self.record.w() <= NARROW {
+            self.write_unit_by::<NARROW>(lwc, out)
+        } else {
+            self.write_unit_by::<MAX_WIDTH>(lwc, out)
+        }
+    }
+
+    /// The same, with an array for symbols of up to N bytes.
+    fn write_unit_by<const N: usize>(&self, lwc: usize, out: &mut [u8]) -> Result<(), Refusal> {
+        let mut symbol = [0; N];
+        let symbol = &mut symbol[..self.record.w()];
         match self.copy_symbol(lwc, symbol) {
             Ok(()) => calls::write(&self.record, lwc, symbol, out),
             // the position is refused; write answers so too, or what it tries before that
@@ -137,14 +155,15 @@ impl<I: AsRef<[u8]>, P: AsRef<[u8]>> Codeword<I, P> {
         Ok(unit)
     }
 
-    /// All n units, in the order of LWC.
+    /// All units that are sent, in the order of LWC.
     ///
     /// Refusals: label.
     #[cfg(feature = "alloc")]
     pub fn units(&self) -> Result<Units<'_>, Refusal> {
-        self.unit(1)?;
+        // the bytes that the first unit is written from are those of all units
         let word = Codeword { record: self.record, information: self.information(), parity: self.parity() };
-        Ok(Units { word, lwcs: 1..self.record.n() + 1 })
+        word.unit(1)?;
+        Ok(Units { lwcs: word.lwcs(), word })
     }
 
     /// The two buffers, information and parity.
@@ -160,17 +179,62 @@ impl<I, P> fmt::Debug for Codeword<I, P> {
     }
 }
 
-/// The units of a codeword, from [`Codeword::units`].
+/// The LWCs of the units that are sent of a block, in order, from [`Codeword::lwcs`].
+///
+/// ```
+/// use lipvezor::{Code, Codeword, Record};
+///
+/// # fn main() -> Result<(), lipvezor::Refusal> {
+/// let sent = Codeword::encode(Record::new(Code::C1, 1), [0; 512])?;
+/// assert!(sent.lwcs().eq(1..=768));
+/// // every other unit, the last first
+/// for lwc in sent.lwcs().rev().step_by(2) {
+///     let unit = sent.unit(lwc)?;
+/// }
+/// # Ok(())
+/// # }
+/// ```
+#[must_use]
+#[derive(Clone, Debug, PartialEq, Eq)]
+pub struct Lwcs(Range<usize>);
+
+impl Iterator for Lwcs {
+    type Item = usize;
+
+    #[inline]
+    fn next(&mut self) -> Option<usize> {
+        self.0.next()
+    }
+
+    fn nth(&mut self, n: usize) -> Option<usize> {
+        self.0.nth(n)
+    }
+
+    fn size_hint(&self) -> (usize, Option<usize>) {
+        self.0.size_hint()
+    }
+}
+
+impl DoubleEndedIterator for Lwcs {
+    fn next_back(&mut self) -> Option<usize> {
+        self.0.next_back()
+    }
+}
+
+impl ExactSizeIterator for Lwcs {}
+
+impl FusedIterator for Lwcs {}
+
+/// The units that are sent of a block, in the order of LWC, from [`Codeword::units`]. A unit knows its LWC.
 ///
 /// ```
 /// use lipvezor::{Code, Codeword, Record, Unit};
 ///
 /// # fn main() -> Result<(), lipvezor::Refusal> {
 /// let sent = Codeword::encode(Record::new(Code::C1, 1), [0; 512])?;
-/// let units = sent.units()?;
-/// assert_eq!(units.len(), 768);
-/// for (unit, lwc) in units.zip(1..) {
-///     assert_eq!(Unit::read(&unit)?.lwc, lwc);
+/// assert_eq!(sent.units()?.len(), sent.lwcs().len());
+/// for unit in sent.units()? {
+///     println!("LWC {}", Unit::read(&unit)?.lwc);
 /// }
 /// # Ok(())
 /// # }
@@ -180,7 +244,7 @@ impl<I, P> fmt::Debug for Codeword<I, P> {
 #[derive(Clone, Debug)]
 pub struct Units<'a> {
     word: Codeword<&'a [u8], &'a [u8]>,
-    lwcs: Range<usize>,
+    lwcs: Lwcs,
 }
 
 #[cfg(feature = "alloc")]
@@ -235,7 +299,8 @@ mod tests {
         for (code, w) in [(Code::C1, 1), (Code::C1, 5), (Code::C2, 3)] {
             let word = word(Record::new(code, w));
             let all = [word.information(), word.parity()].concat();
-            for (lwc, expected) in (1..=code.n()).zip(all.chunks(w)) {
+            assert!(word.lwcs().eq(1..=code.n()));
+            for (lwc, expected) in word.lwcs().zip(all.chunks(w)) {
                 assert_eq!(word.symbol(lwc).as_deref(), Ok(expected), "LWC {lwc}");
                 assert_eq!(Unit::read(&word.unit(lwc).unwrap()).unwrap().symbol, expected, "LWC {lwc}");
             }
@@ -270,7 +335,7 @@ mod tests {
 
     #[test]
     fn what_does_not_fit_is_refused() {
-        for code in [0, 3, usize::MAX].map(Code::from_number) {
+        for code in [0, 255, usize::MAX].map(Code::from_number) {
             assert_eq!(Codeword::encode(Record::new(code, 1), []).unwrap_err(), Refusal::Code);
         }
         for w in [0, 1025, usize::MAX / 512, usize::MAX] {
@@ -318,12 +383,42 @@ mod tests {
         assert_eq!(units.len(), 768 - 13);
         assert!(units.eq(all[12..767].iter().cloned()));
         assert_eq!(word.units().unwrap().nth(768), None);
+        let mut lwcs = word.lwcs();
+        assert_eq!((lwcs.next(), lwcs.next_back(), lwcs.nth(10), lwcs.len()), (Some(1), Some(768), Some(12), 768 - 13));
     }
 
     #[test]
-    fn the_widest_unit_is_written() {
-        let word = word(Record::new(Code::C1, MAX_WIDTH));
-        let unit = word.unit(512).unwrap();
-        assert_eq!((unit.len(), &unit[15..]), (crate::MAX_UNIT_BYTES, &word.information()[511 * 1024..]));
+    fn units_of_any_width_are_written() {
+        for w in [1, NARROW - 1, NARROW, NARROW + 1, MAX_WIDTH] {
+            let word = word(Record::new(Code::C1, w));
+            let unit = word.unit(512).unwrap();
+            assert_eq!((unit.len(), &unit[unit.len() - w..]), (word.record().unit_bytes(), &word.information()[511 * w..]));
+        }
+    }
+
+    /// Lends other bytes each time.
+    struct Fickle {
+        good: Vec<u8>,
+        times: core::cell::Cell<usize>,
+    }
+
+    impl AsRef<[u8]> for Fickle {
+        fn as_ref(&self) -> &[u8] {
+            self.times.set(self.times.get() + 1);
+            if self.times.get() % 2 == 1 {
+                &self.good
+            } else {
+                &[]
+            }
+        }
+    }
+
+    #[test]
+    fn bytes_that_are_lent_otherwise_make_no_panic() {
+        let information = Fickle { good: vec![5; 512], times: 0.into() };
+        let word = Codeword::encode(Record::new(Code::C1, 1), information).unwrap();
+        // lent well at the first call, badly at the second
+        assert_eq!(word.units().unwrap_err(), Refusal::Symbol);
+        assert_eq!(word.units().unwrap().count(), 768);
     }
 }

@@ -2,7 +2,51 @@
 //! Rust sees to it that a buffer lent to be written overlaps no other.
 #![allow(unsafe_code)]
 
+use core::marker::PhantomData;
+
 use crate::Record;
+
+/// `lipvezor_codeword`: a block's buffers on board.
+#[repr(C)]
+struct Codeword {
+    information: *const u8,
+    information_length: usize,
+    parity: *mut u8,
+    parity_length: usize,
+}
+
+/// A block's two buffers as open, take and close are lent them, symbols and marks. Made once, it serves any number of calls.
+///
+/// The buffers are borrowed as long as this is there.
+// lipvezor_buffers in C
+#[repr(C)]
+#[derive(Debug)]
+pub struct Buffers<'a> {
+    symbols: *mut u8,
+    symbols_length: usize,
+    marks: *mut u8,
+    marks_length: usize,
+    lent: PhantomData<&'a mut [u8]>,
+}
+
+impl<'a> Buffers<'a> {
+    /// Symbols and marks, each of any length: the calls refuse what is not exactly [`Record::symbol_bytes`] and [`Record::n`] bytes.
+    #[inline]
+    #[must_use]
+    pub fn new(symbols: &'a mut [u8], marks: &'a mut [u8]) -> Buffers<'a> {
+        let (symbols_length, marks_length) = (symbols.len(), marks.len());
+        Buffers { symbols: symbols.as_mut_ptr(), symbols_length, marks: marks.as_mut_ptr(), marks_length, lent: PhantomData }
+    }
+}
+
+/// `lipvezor_work`: work space of a close.
+#[repr(C)]
+struct Work {
+    words: *mut u64,
+    words_length: usize,
+    bytes: *mut u8,
+    bytes_length: usize,
+}
 
 /// `lipvezor_parts`: what read finds.
 #[repr(C)]
@@ -38,7 +82,7 @@ pub struct Report {
 }
 
 mod c {
-    use super::{Parts, Record, Report, Taken};
+    use super::{Buffers, Codeword, Parts, Record, Report, Taken, Work};
 
     extern "C" {
         pub fn lipvezor_version() -> usize;
@@ -51,46 +95,31 @@ mod c {
         pub fn lipvezor_unit_bytes(code: usize, w: usize) -> usize;
         pub fn lipvezor_work_words(code: usize) -> usize;
         pub fn lipvezor_work_bytes(code: usize, w: usize) -> usize;
-        pub fn lipvezor_encode(block: *const Record, info: *const u8, info_len: usize, parity: *mut u8, parity_len: usize) -> u8;
-        pub fn lipvezor_show(
+        pub fn lipvezor_encode(block: *const Record, codeword: *const Codeword) -> u8;
+        pub fn lipvezor_show(block: *const Record, codeword: *const Codeword, lwc: usize, out: *mut u8, out_length: usize) -> u8;
+        pub fn lipvezor_write(
             block: *const Record,
-            info: *const u8,
-            info_len: usize,
-            parity: *const u8,
-            parity_len: usize,
             lwc: usize,
+            symbol: *const u8,
+            symbol_length: usize,
             out: *mut u8,
-            out_len: usize,
+            out_length: usize,
         ) -> u8;
-        pub fn lipvezor_write(block: *const Record, lwc: usize, symbol: *const u8, symbol_len: usize, out: *mut u8, out_len: usize) -> u8;
-        pub fn lipvezor_read(unit: *const u8, unit_len: usize, parts: *mut Parts) -> u8;
-        pub fn lipvezor_open(block: *const Record, symbols: *mut u8, symbols_len: usize, marks: *mut u8, marks_len: usize) -> u8;
+        pub fn lipvezor_read(unit: *const u8, unit_length: usize, parts: *mut Parts) -> u8;
+        pub fn lipvezor_open(block: *const Record, buffers: *const Buffers<'_>) -> u8;
         pub fn lipvezor_take(
             block: *const Record,
-            symbols: *mut u8,
-            symbols_len: usize,
-            marks: *mut u8,
-            marks_len: usize,
+            buffers: *const Buffers<'_>,
             unit: *const u8,
-            unit_len: usize,
+            unit_length: usize,
             taken: *mut Taken,
         ) -> u8;
-        pub fn lipvezor_close(
-            block: *const Record,
-            symbols: *mut u8,
-            symbols_len: usize,
-            marks: *mut u8,
-            marks_len: usize,
-            words: *mut u64,
-            words_len: usize,
-            bytes: *mut u8,
-            bytes_len: usize,
-            report: *mut Report,
-        ) -> u8;
+        pub fn lipvezor_close(block: *const Record, buffers: *const Buffers<'_>, work: *const Work, report: *mut Report) -> u8;
     }
 }
 
-// An archive from before 0.3.0 takes its arguments otherwise and has no lipvezor_version: it must not link.
+// An archive from before 0.3.0 takes its arguments otherwise and has no lipvezor_version: it must not link. Any other that is not of the crate's
+// version is found by version::check.
 #[used]
 static VERSION: unsafe extern "C" fn() -> usize = c::lipvezor_version;
 
@@ -149,14 +178,16 @@ pub fn work_bytes(code: usize, w: usize) -> usize {
 
 #[inline]
 pub fn encode(block: &Record, information: &[u8], parity: &mut [u8]) -> u8 {
-    unsafe { c::lipvezor_encode(block, information.as_ptr(), information.len(), parity.as_mut_ptr(), parity.len()) }
+    let (information, information_length, parity_length) = (information.as_ptr(), information.len(), parity.len());
+    unsafe { c::lipvezor_encode(block, &Codeword { information, information_length, parity: parity.as_mut_ptr(), parity_length }) }
 }
 
 #[inline]
 pub fn show(block: &Record, information: &[u8], parity: &[u8], lwc: usize, out: &mut [u8]) -> u8 {
-    unsafe {
-        c::lipvezor_show(block, information.as_ptr(), information.len(), parity.as_ptr(), parity.len(), lwc, out.as_mut_ptr(), out.len())
-    }
+    let (information, information_length, parity_length) = (information.as_ptr(), information.len(), parity.len());
+    // show only reads the parity
+    let codeword = Codeword { information, information_length, parity: parity.as_ptr().cast_mut(), parity_length };
+    unsafe { c::lipvezor_show(block, &codeword, lwc, out.as_mut_ptr(), out.len()) }
 }
 
 #[inline]
@@ -170,31 +201,17 @@ pub fn read(unit: &[u8], parts: &mut Parts) -> u8 {
 }
 
 #[inline]
-pub fn open(block: &Record, symbols: &mut [u8], marks: &mut [u8]) -> u8 {
-    unsafe { c::lipvezor_open(block, symbols.as_mut_ptr(), symbols.len(), marks.as_mut_ptr(), marks.len()) }
+pub fn open(block: &Record, buffers: &mut Buffers<'_>) -> u8 {
+    unsafe { c::lipvezor_open(block, buffers) }
 }
 
 #[inline]
-pub fn take(block: &Record, symbols: &mut [u8], marks: &mut [u8], unit: &[u8], taken: &mut Taken) -> u8 {
-    unsafe {
-        c::lipvezor_take(block, symbols.as_mut_ptr(), symbols.len(), marks.as_mut_ptr(), marks.len(), unit.as_ptr(), unit.len(), taken)
-    }
+pub fn take(block: &Record, buffers: &mut Buffers<'_>, unit: &[u8], taken: &mut Taken) -> u8 {
+    unsafe { c::lipvezor_take(block, buffers, unit.as_ptr(), unit.len(), taken) }
 }
 
 #[inline]
-pub fn close(block: &Record, symbols: &mut [u8], marks: &mut [u8], words: &mut [u64], bytes: &mut [u8], report: &mut Report) -> u8 {
-    unsafe {
-        c::lipvezor_close(
-            block,
-            symbols.as_mut_ptr(),
-            symbols.len(),
-            marks.as_mut_ptr(),
-            marks.len(),
-            words.as_mut_ptr(),
-            words.len(),
-            bytes.as_mut_ptr(),
-            bytes.len(),
-            report,
-        )
-    }
+pub fn close(block: &Record, buffers: &mut Buffers<'_>, words: &mut [u64], bytes: &mut [u8], report: &mut Report) -> u8 {
+    let work = Work { words: words.as_mut_ptr(), words_length: words.len(), bytes: bytes.as_mut_ptr(), bytes_length: bytes.len() };
+    unsafe { c::lipvezor_close(block, buffers, &work, report) }
 }

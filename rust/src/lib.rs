@@ -25,13 +25,11 @@
 //!
 //! // on the ground, where every fifth unit is lost
 //! let mut block = Block::open(record)?;
-//! for (i, unit) in sent.units()?.enumerate() {
-//!     if i % 5 != 0 {
-//!         block.take(&unit)?;
-//!     }
+//! for lwc in sent.lwcs().filter(|lwc| lwc % 5 != 0) {
+//!     block.take(&sent.unit(lwc)?)?;
 //! }
 //! let closed = block.close(&mut Work::of(record))?;
-//! assert_eq!(closed.to_string(), "whole: heard 614, filled 154, left 0");
+//! assert_eq!(closed.to_string(), "whole: heard 615, filled 153, left 0");
 //! assert_eq!(closed.information(), Some(&scene[..]));
 //! # Ok(())
 //! # }
@@ -43,31 +41,29 @@
 //! not whole has no [`information`](Closed::information). Of an ambiguous one, the heard and the filled symbols come one by one.
 //!
 //! ```
-//! use lipvezor::{Block, Closed, Code, Codeword, Mark, Record, Work};
+//! use lipvezor::{Block, Closed, Code, Codeword, Record, Work};
 //!
 //! # fn main() -> Result<(), lipvezor::Refusal> {
 //! let record = Record::new(Code::C1, 1).with_protocol(1).with_lsc(7);
 //! let sent = Codeword::encode(record, [0; 512])?;
-//! // the first information symbol is lost, with the 79 parity symbols that change with it, and p_60
-//! let lost = |position: usize| position == 0 || [41..61, 72..98, 222..256].iter().any(|run| run.contains(&position.wrapping_sub(512)));
+//! // the first information symbol is lost, with the 79 parity symbols that change with it, and p_60, whose LWC is 513 + 60
+//! let lost = |lwc: usize| lwc == 1 || [41..61, 72..98, 222..256].iter().any(|run| run.contains(&lwc.wrapping_sub(513)));
 //! let mut block = Block::open(record)?;
-//! for (position, unit) in sent.units()?.enumerate() {
-//!     if !lost(position) {
-//!         block.take(&unit)?;
-//!     }
+//! for lwc in sent.lwcs().filter(|&lwc| !lost(lwc)) {
+//!     block.take(&sent.unit(lwc)?)?;
 //! }
 //! let mut work = Work::of(record);
 //! let closed = block.close(&mut work)?;
 //! assert_eq!(closed.to_string(), "ambiguous: heard 687, filled 1, left 80");
 //! assert_eq!(closed.information(), None);
 //! if let Closed::Ambiguous(closed) = closed {
-//!     let filled: Vec<usize> = closed.symbols().filter(|symbol| symbol.mark == Mark::Filled).map(|symbol| symbol.position).collect();
+//!     let filled: Vec<usize> = closed.symbols().filter(|symbol| symbol.mark.is_filled()).map(|symbol| symbol.position).collect();
 //!     assert_eq!(filled, [512 + 60]);
 //!     assert_eq!(closed.missing().next(), Some(0));
 //! }
 //!
 //! // one more unit comes
-//! block.take(&sent.unit(512 + 1 + 41)?)?;
+//! block.take(&sent.unit(513 + 41)?)?;
 //! assert_eq!(block.close(&mut work)?.information(), Some(&[0; 512][..]));
 //! # Ok(())
 //! # }
@@ -102,7 +98,7 @@
 //!     sent.push(Codeword::encode(record.with_lsc(lsc), part)?);
 //! }
 //! let mut receiver = Receiver::new(1)?.with_limit(8);
-//! for lwc in (1..=record.n()).filter(|lwc| lwc % 4 != 0) {
+//! for lwc in sent[0].lwcs().filter(|lwc| lwc % 4 != 0) {
 //!     for word in &sent {
 //!         receiver.take(&word.unit(lwc)?)?;
 //!     }
@@ -123,7 +119,8 @@
 //! # Without an allocator
 //!
 //! The crate is `no_std`. Without its feature `alloc` (which `std`, on by default, has with it) it allocates nothing: [`calls`], [`Unit`],
-//! [`Codeword::encode_in`], [`Codeword::write_unit`], [`Block::open_in`] and [`Block::close_with`] stay, over buffers that are lent to them.
+//! [`Codeword::encode_in`], [`Codeword::lwcs`], [`Codeword::write_unit`], [`Block::open_in`] and [`Block::close_with`] stay, over buffers that
+//! are lent to them.
 #![no_std]
 #![deny(unsafe_code)]
 #![warn(missing_docs)]
@@ -147,6 +144,7 @@ mod receiver;
 mod record;
 mod refusal;
 mod unit;
+mod version;
 #[cfg(feature = "alloc")]
 mod work;
 
@@ -158,11 +156,11 @@ pub use block::Block;
 pub use closed::{Ambiguous, Closed, Inconsistent, Missing, Symbol, Symbols, Whole};
 #[doc(inline)]
 pub use code::Code;
-#[doc(inline)]
-pub use codeword::Codeword;
 #[cfg(feature = "alloc")]
 #[doc(inline)]
 pub use codeword::Units;
+#[doc(inline)]
+pub use codeword::{Codeword, Lwcs};
 #[cfg(feature = "alloc")]
 #[doc(inline)]
 pub use receiver::{ReceiveError, Received, Receiver};

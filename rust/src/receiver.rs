@@ -7,7 +7,8 @@ use crate::{calls, Block, Closed, Code, Record, Refusal, Taken, Unit, Work, MAX_
 /// The blocks of one protocol ID on the ground, kept by their LSC. Each is opened by its first unit, whose coding parameters name its code and
 /// W. Units may come in any order, those of different blocks mixed, and any number of times.
 ///
-/// If those were changed on the way, and no CRC-32 found it, the block's other units are refused with [`Refusal::Parameters`] until it is removed.
+/// If the first unit's coding parameters were changed on the way, and no CRC-32 found it, the block's other units are refused with
+/// [`Refusal::Parameters`] until the block is removed.
 ///
 /// A close keeps the block, so that more units may come and it may be closed again. [`Receiver::remove`] gives it back; a unit of the same LSC
 /// that comes after that opens a new block. LSCs come again after 65,534 blocks, so a block must be removed before its number does.
@@ -23,10 +24,10 @@ use crate::{calls, Block, Closed, Code, Record, Refusal, Taken, Unit, Work, MAX_
 /// let sent = [5, 6].map(|lsc| Codeword::encode(record.with_lsc(lsc), [lsc as u8; 512 * 8]).unwrap());
 ///
 /// let mut receiver = Receiver::new(1)?.with_limit(2);
-/// for lwc in (100..=768).rev() {
+/// for lwc in sent[0].lwcs().skip(100).rev() {
 ///     for word in &sent {
 ///         let received = receiver.take(&word.unit(lwc)?)?;
-///         assert_eq!((received.lsc, received.taken), (word.record().lsc, Taken::Kept));
+///         assert_eq!((received.lsc, received.taken), (word.record().lsc(), Taken::Kept));
 ///     }
 /// }
 /// let third = Codeword::encode(record.with_lsc(7), [0; 512 * 8])?;
@@ -201,7 +202,7 @@ impl Receiver {
         Ok(record)
     }
 
-    /// Closes the open block of an LSC, and keeps it.
+    /// Closes the open block of an LSC, and keeps it. Where none is open, the answer is [`ReceiveError::NotOpen`].
     pub fn close(&mut self, lsc: usize) -> Result<Closed<'_>, ReceiveError> {
         let block = self.blocks.get_mut(&lsc).ok_or(ReceiveError::NotOpen)?;
         self.work.grow(block.record());
@@ -245,10 +246,10 @@ mod tests {
     use alloc::vec::Vec;
 
     use super::*;
-    use crate::{Codeword, Verdict};
+    use crate::{Codeword, Mark, Verdict};
 
     fn word(record: Record) -> Codeword<Vec<u8>> {
-        let information: Vec<u8> = (0..record.information_bytes()).map(|i| (i * 29 % 249 + record.lsc) as u8).collect();
+        let information: Vec<u8> = (0..record.information_bytes()).map(|i| (i * 29 % 249 + record.lsc()) as u8).collect();
         Codeword::encode(record, information).unwrap()
     }
 
@@ -273,13 +274,13 @@ mod tests {
         let mut receiver = Receiver::new(5).unwrap();
         let mut alone = sent.each_ref().map(|word| Block::open(word.record()).unwrap());
         for unit in &units {
-            let block = alone.iter_mut().find(|block| block.record().lsc == Unit::read(unit).unwrap().lsc).unwrap();
-            assert_eq!(receiver.take(unit), taken(block.record().lsc, block.take(unit).unwrap()));
+            let block = alone.iter_mut().find(|block| block.record().lsc() == Unit::read(unit).unwrap().lsc).unwrap();
+            assert_eq!(receiver.take(unit), taken(block.record().lsc(), block.take(unit).unwrap()));
         }
         assert!(receiver.lscs().eq([1, 3, 40, 65_534]));
         assert_eq!((receiver.len(), receiver.is_empty(), receiver.protocol()), (4, false, 5));
         for (word, alone) in sent.iter().zip(alone) {
-            let lsc = word.record().lsc;
+            let lsc = word.record().lsc();
             assert_eq!(receiver.block(lsc), Some(&alone));
             let closed = receiver.close(lsc).unwrap();
             assert_eq!((closed.verdict(), closed.information()), (Verdict::Whole, Some(word.information())));
@@ -384,7 +385,7 @@ mod tests {
         }
         // when one is removed there is room for it
         assert_eq!(receiver.remove(3), None);
-        assert_eq!(receiver.remove(1).unwrap().heard(4), Some(&[0xAA][..]));
+        assert_eq!(receiver.remove(1).unwrap().mark(4), Some(Mark::Heard));
         assert_eq!(receiver.take(&of(3)), taken(3, Taken::Kept));
         assert_eq!(receiver.take(&of(1)), Err(ReceiveError::Full));
         let mut none = receiver.with_limit(0);
@@ -398,7 +399,7 @@ mod tests {
         assert_eq!(receiver.take(&UNIT), taken(7, Taken::Kept));
         assert_eq!(receiver.take(&UNIT), taken(7, Taken::Repeated));
         assert_eq!(receiver.take(&changed(14, &[0xAB])), refused(Refusal::Conflict));
-        assert_eq!(receiver.block(7).unwrap().heard(4), Some(&[0xAA][..]));
+        assert_eq!(receiver.block(7).unwrap().raw_buffers().0[4], 0xAA);
         // of the same LSC, with another W
         let wider = [&UNIT[..8], &[2], &UNIT[9..], &[0xAA]].concat();
         assert_eq!(receiver.take(&wider), refused(Refusal::Parameters));

@@ -8,12 +8,12 @@ use core::fmt;
 /// ```
 /// use lipvezor::{Block, Code, Record, Refusal};
 ///
-/// let refusal = Block::open(Record::new(Code::from_number(3), 16)).unwrap_err();
-/// assert_eq!(refusal, Refusal::Code);
-/// assert_eq!(refusal.number(), 1);
-/// assert_eq!(refusal.to_string(), "refused 1, code: the number is neither 1 nor 2");
-/// assert_eq!(Refusal::from_number(1), Some(Refusal::Code));
-/// assert_eq!(Refusal::try_from(13).unwrap_err().to_string(), "13 is no refusal's number");
+/// let refusal = Block::open(Record::new(Code::C1, 0)).unwrap_err();
+/// assert_eq!(refusal, Refusal::Width);
+/// assert_eq!(refusal.number(), 2);
+/// assert_eq!(refusal.to_string(), "refused 2, width: W is 0 or above 1024");
+/// assert_eq!(Refusal::from_number(2), Some(Refusal::Width));
+/// assert_eq!(Refusal::try_from(255).unwrap_err().to_string(), "255 is no refusal's number");
 /// ```
 ///
 /// A number in a unit is read in its shortest form alone:
@@ -29,7 +29,7 @@ use core::fmt;
 /// assert_eq!(Unit::read(&rewritten), Err(Refusal::Number));
 /// # Ok::<(), Refusal>(())
 /// ```
-#[derive(Clone, Copy, Debug, PartialEq, Eq, PartialOrd, Ord, Hash)]
+#[derive(Clone, Copy, Debug, PartialEq, Eq, Hash)]
 #[non_exhaustive]
 #[repr(u8)]
 pub enum Refusal {
@@ -65,7 +65,7 @@ pub enum Refusal {
 
 impl Refusal {
     /// All of them, in the order in which they are tried. Extension, number and extension kind share one place.
-    pub const ALL: [Refusal; 14] = [
+    pub const ALL: &'static [Refusal] = &[
         Refusal::Code,
         Refusal::Width,
         Refusal::Label,
@@ -82,16 +82,16 @@ impl Refusal {
         Refusal::Conflict,
     ];
 
-    /// Its number in the requirements.
+    /// Its number, as in the C header.
     #[must_use]
     pub const fn number(self) -> u8 {
         self as u8
     }
 
-    /// The refusal of a number: 1 to 12, 19 or 20.
+    /// The refusal of a number; `None` if it is no refusal's.
     #[must_use]
     pub fn from_number(number: u8) -> Option<Refusal> {
-        Refusal::ALL.into_iter().find(|r| r.number() == number)
+        Refusal::ALL.iter().copied().find(|refusal| refusal.number() == number)
     }
 
     /// Why, in a few words: those of `lipvezor_refusal_text` in the C header.
@@ -106,7 +106,7 @@ impl Refusal {
             Refusal::Extension => "extension: the unit's bytes end early",
             Refusal::Number => "number: an SDNV too long, too large or not in its shortest form",
             Refusal::ExtensionKind => "extension kind: type 0 or 255, a second type 1, or type 1 not exactly four numbers",
-            Refusal::Parameters => "parameters: not the block's W, k, n and seed 0",
+            Refusal::Parameters => "parameters: none, or not the block's W, k, n and seed 0",
             Refusal::Foreign => "foreign: the unit's LSC or protocol ID isn't the block's",
             Refusal::Position => "position: LWC is 0 or above n",
             Refusal::Symbol => "symbol: not W bytes",
@@ -164,49 +164,3 @@ impl fmt::Display for UnknownRefusal {
 }
 
 impl core::error::Error for UnknownRefusal {}
-
-#[cfg(all(test, feature = "std"))]
-mod tests {
-    use std::format;
-    use std::string::{String, ToString};
-
-    use super::*;
-
-    fn header() -> String {
-        let path = concat!(env!("CARGO_MANIFEST_DIR"), "/../include/lipvezor.h");
-        std::fs::read_to_string(path).expect("the header stands beside the crate")
-    }
-
-    #[test]
-    fn numbers_and_texts_are_the_headers() {
-        let header = header();
-        let after = |start: &str| header.split_once(start).unwrap_or_else(|| panic!("{start} is in the header")).1;
-        let mut place = 0;
-        for refusal in Refusal::ALL {
-            let name: String = format!("{refusal:?}")
-                .chars()
-                .flat_map(|c| c.is_uppercase().then_some('_').into_iter().chain([c.to_ascii_uppercase()]))
-                .collect();
-            // in the enum: the same number, after the one before
-            let line = format!("    LIPVEZOR_REFUSED{name} = {}", refusal.number());
-            let found = header.find(&line).unwrap_or_else(|| panic!("{line} is in the header"));
-            assert!(!header[found + line.len()..].starts_with(|c: char| c.is_ascii_digit()), "{line}");
-            assert!(found > place, "{line}");
-            place = found;
-            let text = after(&format!("case LIPVEZOR_REFUSED{name}: return \"")).split_once('"').unwrap().0;
-            assert_eq!(refusal.to_string(), format!("refused {}, {text}", refusal.number()));
-        }
-        assert_eq!(header.matches("case LIPVEZOR_REFUSED_").count(), Refusal::ALL.len());
-    }
-
-    #[test]
-    fn a_number_is_a_refusal_or_none() {
-        for number in 0..=u8::MAX {
-            match Refusal::try_from(number) {
-                Ok(refusal) => assert_eq!((refusal.number(), u8::from(refusal)), (number, number)),
-                Err(unknown) => assert_eq!((unknown, Refusal::from_number(number)), (UnknownRefusal(number), None)),
-            }
-        }
-        assert_eq!((0..=u8::MAX).filter(|&number| Refusal::try_from(number).is_ok()).count(), Refusal::ALL.len());
-    }
-}

@@ -76,6 +76,10 @@ impl<'a> Unit<'a> {
     /// of.
     ///
     /// Refusals: header; extension, number, extension kind, by the first byte that can't be accepted.
+    ///
+    /// # Panics
+    ///
+    /// As [`Record::new`](crate::Record::new), if the archive is of another version.
     #[inline]
     pub fn read(unit: &'a [u8]) -> Result<Unit<'a>, Refusal> {
         calls::read(unit)

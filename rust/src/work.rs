@@ -3,10 +3,10 @@ use alloc::vec;
 use alloc::vec::Vec;
 use core::fmt;
 
-use crate::{Code, Record};
+use crate::Record;
 
-/// The two work buffers of a close. One `Work` serves any number of blocks, one after the other: those of the code and width that it was made
-/// for, and all that need less. With [`Code::C2`] and 1,024 it serves every block.
+/// The two work buffers of a close. One `Work` serves any number of blocks, one after the other: those of the code and W that it was made for,
+/// and all that need less. [`Work::grow`] makes it serve more.
 ///
 /// ```
 /// use lipvezor::{Block, Code, Record, Refusal, Verdict, Work};
@@ -33,39 +33,33 @@ pub struct Work {
 }
 
 impl Work {
-    /// Buffers for blocks of a code and width. For a code or width that is refused they are empty.
+    /// Buffers for blocks of a record's code and W. For a code or W that is refused they are empty.
     #[must_use]
-    pub fn new(code: Code, w: usize) -> Work {
-        let (words, bytes) = sizes(code, w);
+    pub fn of(record: Record) -> Work {
+        let (words, bytes) = sizes(record);
         Work { words: vec![0; words], bytes: vec![0; bytes] }
     }
 
-    /// Buffers for blocks of a record's code and width.
-    #[must_use]
-    pub fn of(record: Record) -> Work {
-        Work::new(record.code, record.w)
-    }
-
-    /// Makes the buffers longer, where that is needed to serve blocks of a record's code and width as well.
+    /// Makes the buffers longer, where that is needed to serve blocks of a record's code and W as well.
     pub fn grow(&mut self, record: Record) {
-        let (words, bytes) = sizes(record.code, record.w);
+        let (words, bytes) = sizes(record);
         self.words.resize(words.max(self.words.len()), 0);
         self.bytes.resize(bytes.max(self.bytes.len()), 0);
     }
 
     /// As much of the two as a block needs, or all there is.
     pub(crate) fn parts(&mut self, record: Record) -> (&mut [u64], &mut [u8]) {
-        let (words, bytes) = sizes(record.code, record.w);
+        let (words, bytes) = sizes(record);
         let (words, bytes) = (words.min(self.words.len()), bytes.min(self.bytes.len()));
         (&mut self.words[..words], &mut self.bytes[..bytes])
     }
 }
 
-/// Words and bytes for blocks of a code and width; 0 and 0 if one of these is refused.
-fn sizes(code: Code, w: usize) -> (usize, usize) {
-    match code.work_bytes(w) {
+/// Words and bytes for blocks of a record's code and W; 0 and 0 if one of these is refused.
+fn sizes(record: Record) -> (usize, usize) {
+    match record.work_bytes() {
         0 => (0, 0),
-        bytes => (code.work_words(), bytes),
+        bytes => (record.work_words(), bytes),
     }
 }
 
@@ -78,17 +72,17 @@ impl fmt::Debug for Work {
 #[cfg(test)]
 mod tests {
     use super::*;
-    use crate::{Block, Refusal};
+    use crate::{Block, Code, Refusal};
 
     #[test]
     fn one_work_serves_smaller_blocks() {
-        let mut work = Work::new(Code::C2, 1024);
+        let mut work = Work::of(Record::new(Code::C2, 1024));
         for (code, w) in [(Code::C1, 1), (Code::C2, 1), (Code::C1, 1024), (Code::C2, 1024)] {
             let mut block = Block::open(Record::new(code, w)).unwrap();
             assert_eq!(block.close(&mut work).unwrap().report().heard, 0);
         }
         let mut c2 = Block::open(Record::new(Code::C2, 1)).unwrap();
-        assert_eq!(c2.close(&mut Work::new(Code::C1, 1024)), Err(Refusal::Length));
+        assert_eq!(c2.close(&mut Work::of(Record::new(Code::C1, 1024))), Err(Refusal::Length));
     }
 
     #[test]
@@ -100,14 +94,14 @@ mod tests {
         work.grow(Record::new(Code::C2, 1));
         assert_eq!(sizes(&work), (1024 * 49, 256 * 100));
         work.grow(Record::new(Code::C2, 1025));
-        work.grow(Record::new(Code::from_number(3), 1));
+        work.grow(Record::new(Code::from_number(255), 1));
         assert_eq!(sizes(&work), (1024 * 49, 256 * 100));
     }
 
     #[test]
     fn for_numbers_that_are_refused_it_is_empty() {
         for (code, w) in [(Code::from_number(0), 1), (Code::C1, 0), (Code::C2, 1025), (Code::C2, usize::MAX / 1024)] {
-            let work = Work::new(code, w);
+            let work = Work::of(Record::new(code, w));
             assert_eq!((work.words.capacity(), work.bytes.capacity()), (0, 0));
         }
     }

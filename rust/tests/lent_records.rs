@@ -21,31 +21,31 @@ mod c {
         pub lsc: usize,
     }
 
+    /// A record of two buffers: `lipvezor_buffers`, and `lipvezor_work`, whose first are words.
+    #[repr(C)]
+    #[derive(Clone, Copy, Debug, PartialEq)]
+    pub struct Buffers<T> {
+        pub first: *mut T,
+        pub first_length: usize,
+        pub second: *mut u8,
+        pub second_length: usize,
+    }
+
     extern "C" {
         pub fn lipvezor_read(unit: *const u8, unit_length: usize, parts: *mut [usize; 10]) -> u8;
         pub fn lipvezor_take(
             block: *const Block,
-            symbols: *mut u8,
-            symbols_length: usize,
-            marks: *mut u8,
-            marks_length: usize,
+            buffers: *mut Buffers<u8>,
             unit: *const u8,
             unit_length: usize,
             taken: *mut [usize; 1],
         ) -> u8;
-        pub fn lipvezor_close(
-            block: *const Block,
-            symbols: *mut u8,
-            symbols_length: usize,
-            marks: *mut u8,
-            marks_length: usize,
-            work_words: *mut u64,
-            work_words_length: usize,
-            work_bytes: *mut u8,
-            work_bytes_length: usize,
-            report: *mut [usize; 4],
-        ) -> u8;
+        pub fn lipvezor_close(block: *const Block, buffers: *mut Buffers<u8>, work: *mut Buffers<u64>, report: *mut [usize; 4]) -> u8;
     }
+}
+
+fn buffers<T>(first: &mut [T], second: &mut [u8]) -> c::Buffers<T> {
+    c::Buffers { first: first.as_mut_ptr(), first_length: first.len(), second: second.as_mut_ptr(), second_length: second.len() }
 }
 
 fn block(record: Record) -> c::Block {
@@ -137,20 +137,11 @@ fn take(taking: &Taking, filling: usize, label: &str) -> Result<[usize; 1], u8> 
         Taken::Repeated => [2],
     });
 
-    let (symbols_length, marks_length) = (symbols.len(), marks.len());
-    let answer = lend(filling, label, |taken| unsafe {
-        c::lipvezor_take(
-            &block(taking.record),
-            symbols.as_mut_ptr(),
-            symbols_length,
-            marks.as_mut_ptr(),
-            marks_length,
-            unit.as_ptr(),
-            unit.len(),
-            taken,
-        )
-    });
-    assert_eq!(answer, answer_due, "{label}");
+    let lent = buffers(&mut symbols, &mut marks);
+    let mut after = lent;
+    let answer =
+        lend(filling, label, |taken| unsafe { c::lipvezor_take(&block(taking.record), &mut after, unit.as_ptr(), unit.len(), taken) });
+    assert_eq!((answer, after), (answer_due, lent), "{label}");
     assert!((symbols, marks) == due, "{label}: buffers");
     answer
 }
@@ -225,22 +216,10 @@ fn close(closing: &Closing, code: &Code, filling: usize, label: &str) -> Result<
         [verdict, heard, filled, left]
     });
 
-    let lengths = [symbols.len(), marks.len(), words.len(), bytes.len()];
-    let answer = lend(filling, label, |report| unsafe {
-        c::lipvezor_close(
-            &block(closing.record),
-            symbols.as_mut_ptr(),
-            lengths[0],
-            marks.as_mut_ptr(),
-            lengths[1],
-            words.as_mut_ptr(),
-            lengths[2],
-            bytes.as_mut_ptr(),
-            lengths[3],
-            report,
-        )
-    });
-    assert_eq!(answer, answer_due, "{label}");
+    let lent = (buffers(&mut symbols, &mut marks), buffers(&mut words, &mut bytes));
+    let mut after = lent;
+    let answer = lend(filling, label, |report| unsafe { c::lipvezor_close(&block(closing.record), &mut after.0, &mut after.1, report) });
+    assert_eq!((answer, after), (answer_due, lent), "{label}");
     assert!((symbols, marks, words, bytes) == due, "{label}: buffers");
     answer
 }

@@ -47,6 +47,7 @@ fn sent(code: &Code, record: Record, information: &[u8]) {
 
     let mut following = own.units().unwrap();
     assert_eq!(following.len(), code.n);
+    assert!(own.lwcs().eq(1..=code.n) && lent.lwcs().eq(1..=code.n));
     for (lwc, symbol) in (1..).zip(word.chunks_exact(w)) {
         let unit = units::write(code, w, record.protocol, record.lsc, lwc, symbol);
         let (mut copied, mut written) = (vec![0xA5; w], vec![0x5A; unit.len()]);
@@ -110,24 +111,9 @@ fn labels_of_units() {
 }
 
 #[test]
-fn sizes() {
+fn largest_sizes() {
     let longest = codes::BOTH.iter().flat_map(|code| (1..=1024).map(|w| units::write(code, w, 1, 1, 1, &vec![0; w]).len())).max();
     assert_eq!((lipvezor::MAX_WIDTH, Some(lipvezor::MAX_UNIT_BYTES)), (1024, longest));
-    for code in codes::BOTH {
-        for w in [1, 2, 127, 128, 1023, 1024] {
-            let record = ours::record(Record { code: code.number, w, protocol: 9, lsc: 0 });
-            let sizes = [record.information_bytes(), record.parity_bytes(), record.symbol_bytes(), record.work_bytes()];
-            assert_eq!(sizes, [code.k, code.m, code.n, code.m].map(|symbols| symbols * w));
-            assert_eq!(record.unit_bytes(), units::write(code, w, 1, 1, 1, &vec![0; w]).len());
-            assert_eq!([record.n(), record.k(), record.m(), record.work_words()], [code.n, code.k, code.m, code.work_words()]);
-        }
-        for w in [0, 1025, usize::MAX] {
-            let record = ours::record(Record { code: code.number, w, protocol: 0, lsc: 1 });
-            let sizes =
-                [record.information_bytes(), record.parity_bytes(), record.symbol_bytes(), record.unit_bytes(), record.work_bytes()];
-            assert_eq!(sizes, [0; 5]);
-        }
-    }
 }
 
 /// What a unit says by itself.
@@ -175,10 +161,16 @@ trait NoBytes {
     fn symbol(&self, _position: usize) -> Absent {
         Absent
     }
+    fn symbol_at(&self, _position: usize) -> Absent {
+        Absent
+    }
     fn bytes(&self) -> Absent {
         Absent
     }
     fn buffers(&self) -> Absent {
+        Absent
+    }
+    fn raw_buffers(&self) -> Absent {
         Absent
     }
 }
@@ -196,12 +188,15 @@ trait NoParts {
     fn buffers(&self) -> Absent {
         Absent
     }
+    fn raw_buffers(&self) -> Absent {
+        Absent
+    }
 }
 
 impl NoParts for Ambiguous<'_> {}
 
-/// For a block, which must not give out what is filled.
-trait NoFilled {
+/// For a block, which gives out bytes by no name but that of its raw buffers.
+trait NoRecovered {
     fn information(&self) -> Absent {
         Absent
     }
@@ -214,9 +209,18 @@ trait NoFilled {
     fn symbol(&self, _position: usize) -> Absent {
         Absent
     }
+    fn symbol_at(&self, _position: usize) -> Absent {
+        Absent
+    }
+    fn heard(&self, _position: usize) -> Absent {
+        Absent
+    }
+    fn buffers(&self) -> Absent {
+        Absent
+    }
 }
 
-impl<B> NoFilled for Block<B> {}
+impl<S, M> NoRecovered for Block<S, M> {}
 
 /// A closed block gives out just what the model has and the verdict allows.
 fn gives_out(closed: Closed<'_>, report: Report, model: &blocks::Block, w: usize, label: &str) {
@@ -225,6 +229,7 @@ fn gives_out(closed: Closed<'_>, report: Report, model: &blocks::Block, w: usize
     let symbol = |position: usize| &symbols[position * w..][..w];
     assert_eq!(ours::report(closed.report()), report, "{label}");
     assert_eq!(ours::verdict(closed.verdict()), report.verdict, "{label}");
+    assert_eq!((closed.record().n(), closed.record().w()), (n, w), "{label}");
     let word = match report.verdict {
         Verdict::Whole => "whole",
         Verdict::Ambiguous => "ambiguous",
@@ -238,25 +243,27 @@ fn gives_out(closed: Closed<'_>, report: Report, model: &blocks::Block, w: usize
             let (information, parity) = symbols.split_at(code_of_n(n).k * w);
             assert!(closed.information() == Some(information), "{label}");
             assert!(whole.information() == information && whole.parity() == parity, "{label}");
-            assert!((0..n).all(|position| whole.symbol(position) == Some(symbol(position))), "{label}");
-            assert!(BEYOND.into_iter().chain([n]).all(|position| whole.symbol(position).is_none()), "{label}");
+            assert!((0..n).all(|position| whole.symbol_at(position) == Some(symbol(position))), "{label}");
+            assert!(BEYOND.into_iter().chain([n]).all(|position| whole.symbol_at(position).is_none()), "{label}");
         }
         Closed::Ambiguous(ambiguous) => {
             assert_eq!(report.verdict, Verdict::Ambiguous, "{label}");
             assert!(closed.information().is_none(), "{label}");
-            let [Absent, Absent, Absent] = [ambiguous.information(), ambiguous.parity(), ambiguous.buffers()];
+            let [Absent, Absent] = [ambiguous.information(), ambiguous.parity()];
+            let [Absent, Absent] = [ambiguous.buffers(), ambiguous.raw_buffers()];
             let given = |symbol: Symbol<'_>| (symbol.position, ours::mark(symbol.mark), symbol.bytes.to_vec());
             let due = |position: usize| (marks[position] != 0).then(|| (position, marks[position], symbol(position).to_vec()));
             assert!(ambiguous.symbols().map(given).eq((0..n).filter_map(due)), "{label}");
-            assert!((0..n).all(|position| ambiguous.symbol(position).map(given) == due(position)), "{label}");
+            assert!((0..n).all(|position| ambiguous.symbol_at(position).map(given) == due(position)), "{label}");
             assert!(ambiguous.missing().eq((0..n).filter(|&position| marks[position] == 0)), "{label}");
-            assert!(BEYOND.into_iter().chain([n]).all(|position| ambiguous.symbol(position).is_none()), "{label}");
+            assert!(BEYOND.into_iter().chain([n]).all(|position| ambiguous.symbol_at(position).is_none()), "{label}");
         }
         Closed::Inconsistent(inconsistent) => {
             assert_eq!(report.verdict, Verdict::Inconsistent, "{label}");
             assert!(closed.information().is_none(), "{label}");
             let [Absent, Absent, Absent] = [inconsistent.information(), inconsistent.parity(), inconsistent.symbols()];
-            let [Absent, Absent, Absent] = [inconsistent.symbol(0), inconsistent.bytes(), inconsistent.buffers()];
+            let [Absent, Absent, Absent] = [inconsistent.symbol(0), inconsistent.symbol_at(0), inconsistent.bytes()];
+            let [Absent, Absent] = [inconsistent.buffers(), inconsistent.raw_buffers()];
         }
         other => panic!("{label}: {other:?}"),
     }
@@ -266,24 +273,20 @@ fn code_of_n(n: usize) -> &'static Code {
     codes::BOTH.into_iter().find(|code| code.n == n).unwrap()
 }
 
-/// A block shows what was heard, and no more.
-fn shows<B: AsRef<[u8]> + AsMut<[u8]>>(block: &Block<B>, model: &blocks::Block, label: &str) {
-    let w = block.record().w;
+/// A block shows its marks and its raw buffers, and no more.
+fn shows<S: AsRef<[u8]> + AsMut<[u8]>, M: AsRef<[u8]> + AsMut<[u8]>>(block: &Block<S, M>, model: &blocks::Block, label: &str) {
     let (symbols, marks) = (model.symbols(), model.marks());
     let n = marks.len();
-    assert!(block.buffers() == (symbols, marks), "{label}");
+    assert!(block.raw_buffers() == (symbols, marks), "{label}");
     assert!((0..n).all(|position| block.mark(position).map(ours::mark) == Some(marks[position])), "{label}");
     assert!(block.missing().eq((0..n).filter(|&position| marks[position] == 0)), "{label}");
-    let heard = |position: usize| (marks[position] == 1).then(|| &symbols[position * w..][..w]);
-    assert!((0..n).all(|position| block.heard(position) == heard(position)), "{label}");
-    for position in BEYOND.into_iter().chain([n]) {
-        assert!(block.mark(position).is_none() && block.heard(position).is_none(), "{label}");
-    }
-    let [Absent, Absent, Absent, Absent] = [block.information(), block.parity(), block.symbols(), block.symbol(0)];
+    assert!(BEYOND.into_iter().chain([n]).all(|position| block.mark(position).is_none()), "{label}");
+    let [Absent, Absent, Absent] = [block.information(), block.parity(), block.symbols()];
+    let [Absent, Absent, Absent, Absent] = [block.symbol(0), block.symbol_at(0), block.heard(0), block.buffers()];
 }
 
 /// Makes all calls of a list on a block of the crate and one of the model.
-fn follow<B: AsRef<[u8]> + AsMut<[u8]>>(mut block: Block<B>, list: &List) -> Stats {
+fn follow<S: AsRef<[u8]> + AsMut<[u8]>, M: AsRef<[u8]> + AsMut<[u8]>>(mut block: Block<S, M>, list: &List) -> Stats {
     let mut stats = Stats::default();
     let mut model = blocks::Block::open(list.record, Fault::None).unwrap();
     let mut work = Work::of(block.record());
@@ -349,7 +352,7 @@ fn nothing_of_an_inconsistent_block() {
         let word = Codeword::encode(ours::record(record), &information).unwrap();
         let mut block = Block::open(ours::record(record)).unwrap();
         let mut model = blocks::Block::open(record, Fault::None).unwrap();
-        for lwc in 1..=code.n {
+        for lwc in word.lwcs() {
             let mut unit = word.unit(lwc).unwrap();
             if lwc == code.k {
                 *unit.last_mut().unwrap() ^= 1;
@@ -480,7 +483,7 @@ impl Receivers {
         match (self.ours.remove(lsc), self.plain.blocks.remove(&lsc)) {
             (Some(block), Some((record, model))) => {
                 assert_eq!(block.record(), ours::record(record));
-                assert!(block.into_buffers() == (model.symbols().to_vec(), model.marks().to_vec()), "LSC {lsc}");
+                assert!(block.into_raw_buffers() == (model.symbols().to_vec(), model.marks().to_vec()), "LSC {lsc}");
             }
             (block, model) => assert!(block.is_none() && model.is_none(), "LSC {lsc}"),
         }

@@ -4,7 +4,7 @@ mod model;
 mod programs;
 
 use compare::ours;
-use lipvezor::Refusal;
+use lipvezor::{Mark, Refusal};
 use std::fs;
 
 fn header() -> String {
@@ -34,11 +34,14 @@ fn texts_of_refusals() {
         let text = line.strip_prefix(&format!("{number} ")).unwrap_or_else(|| panic!("{line}"));
         match Refusal::try_from(number) {
             Ok(refusal) => {
-                assert_eq!(refusal.number(), number);
+                assert_eq!((refusal.number(), u8::from(refusal), Refusal::from_number(number)), (number, number, Some(refusal)));
                 assert_eq!(refusal.to_string(), format!("refused {number}, {text}"));
                 refusals += 1;
             }
-            Err(_) => assert_eq!(text, if number == 0 { "done" } else { "not a number of this version" }),
+            Err(unknown) => {
+                assert_eq!((unknown.number(), Refusal::from_number(number)), (number, None));
+                assert_eq!(text, if number == 0 { "done" } else { "not a number of this version" });
+            }
         }
     }
     assert_eq!(refusals, Refusal::ALL.len());
@@ -66,20 +69,35 @@ fn versions() {
     assert_eq!(ours::version(), number);
 }
 
-/// The numbers of the header's enum, in the order in which they stand there.
-#[test]
-fn order_of_refusals() {
+/// The members of an enum of the header, in the order in which they stand there, without the start of their names.
+fn members(name: &str, start: &str) -> Vec<(String, u8)> {
     let header = header();
-    let (_, rest) = header.split_once("enum lipvezor_refusal {\n").expect("the header has the enum of refusals");
+    let (_, rest) = header.split_once(&format!("enum {name} {{\n")).unwrap_or_else(|| panic!("the header has no enum {name}"));
     let (members, _) = rest.split_once("};").unwrap();
-    let numbers: Vec<u8> = members
-        .lines()
-        .map(|line| {
-            let (_, number) = line.split_once(" = ").unwrap_or_else(|| panic!("not a member: {line}"));
-            let digits: String = number.chars().take_while(char::is_ascii_digit).collect();
-            digits.parse().unwrap()
-        })
-        .collect();
-    assert_eq!(numbers[0], 0, "not refused comes first");
-    assert_eq!(numbers[1..], Refusal::ALL.map(Refusal::number));
+    let member = |line: &str| {
+        let (name, number) = line.trim().split_once(" = ").unwrap_or_else(|| panic!("not a member: {line}"));
+        let digits: String = number.chars().take_while(char::is_ascii_digit).collect();
+        (name.strip_prefix(start).unwrap_or_else(|| panic!("another name: {line}")).to_owned(), digits.parse().unwrap())
+    };
+    members.lines().map(member).collect()
+}
+
+/// A name of the crate as the header writes it: ExtensionKind is EXTENSION_KIND.
+fn upper(name: &str) -> String {
+    let letter = |(i, c): (usize, char)| (i > 0 && c.is_uppercase()).then_some('_').into_iter().chain([c.to_ascii_uppercase()]);
+    name.chars().enumerate().flat_map(letter).collect()
+}
+
+/// Names and numbers of the header's refusals, in the order in which they are tried.
+#[test]
+fn names_and_order_of_refusals() {
+    let due = Refusal::ALL.iter().map(|refusal| (format!("REFUSED_{}", upper(&format!("{refusal:?}"))), refusal.number()));
+    assert_eq!(members("lipvezor_refusal", "LIPVEZOR_"), [("DONE".to_owned(), 0)].into_iter().chain(due).collect::<Vec<_>>());
+}
+
+/// Names and numbers of the header's marks. A byte that is none of them is refused.
+#[test]
+fn names_of_marks() {
+    let marks = (0..=255).filter_map(|byte| Some((upper(&format!("{:?}", Mark::try_from(byte).ok()?)), byte)));
+    assert_eq!(members("lipvezor_mark", "LIPVEZOR_MARK_"), marks.collect::<Vec<_>>());
 }

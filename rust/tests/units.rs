@@ -5,6 +5,7 @@ mod model;
 use compare::{all_strings, ours, unit_forms, units, Difference, Stats};
 use lipvezor::Code;
 use model::answers::Parameters;
+use model::refusals::Record;
 use model::{byte_reader, codes, Fault};
 
 fn report(name: &str, result: Result<Stats, Difference>) -> Stats {
@@ -298,26 +299,28 @@ fn sample_sdnvs() {
     assert_eq!(read_seed(&[0x80, 0x01]), Err(19));
 }
 
+/// Those of a record that depend on W.
+fn sizes_of(code: usize, w: usize) -> [usize; 5] {
+    let record = ours::record(Record { code, w, protocol: 0, lsc: 1 });
+    [record.information_bytes(), record.parity_bytes(), record.symbol_bytes(), record.work_bytes(), record.unit_bytes()]
+}
+
 #[test]
 fn sizes() {
     for code in codes::BOTH {
         let ours = Code::from_number(code.number);
         assert_eq!([ours.n(), ours.k(), ours.m(), ours.work_words()], [code.n, code.k, code.m, code.work_words()]);
         for w in 1..=1024 {
-            let blocks = [ours.information_bytes(w), ours.parity_bytes(w), ours.symbol_bytes(w), ours.work_bytes(w)];
-            assert_eq!(blocks, [code.k, code.m, code.n, code.m].map(|symbols| symbols * w));
-            assert_eq!(ours.unit_bytes(w), model::units::write(code, w, 1, 1, 1, &vec![0; w]).len());
+            let unit = model::units::write(code, w, 1, 1, 1, &vec![0; w]).len();
+            assert_eq!(sizes_of(code.number, w), [code.k * w, code.m * w, code.n * w, code.m * w, unit]);
+        }
+        for w in [0, 1025, usize::MAX] {
+            assert_eq!(sizes_of(code.number, w), [0; 5]);
         }
     }
-    for none in [0, 3, 257, usize::MAX].map(Code::from_number) {
-        assert_eq!([none.n(), none.k(), none.m(), none.work_words()], [0; 4]);
-        let bytes = [none.information_bytes(1), none.parity_bytes(1), none.symbol_bytes(1), none.work_bytes(1), none.unit_bytes(1)];
-        assert_eq!(bytes, [0; 5]);
-    }
-    for w in [0, 1025, usize::MAX] {
-        for code in [Code::C1, Code::C2] {
-            let bytes = [code.information_bytes(w), code.parity_bytes(w), code.symbol_bytes(w), code.work_bytes(w), code.unit_bytes(w)];
-            assert_eq!(bytes, [0; 5]);
-        }
+    for none in [0, 3, 257, usize::MAX] {
+        let code = Code::from_number(none);
+        assert_eq!([code.n(), code.k(), code.m(), code.work_words()], [0; 4]);
+        assert_eq!(sizes_of(none, 1), [0; 5]);
     }
 }

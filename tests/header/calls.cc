@@ -21,7 +21,16 @@ void expect(bool holds, const char *what)
 
 // a block's numbers, each of them another one
 const size_t W = 16;
-const lipvezor_block block = {LIPVEZOR_C1, W, 5, 1234};
+lipvezor_block numbers()
+{
+    lipvezor_block all = {};
+    all.code = LIPVEZOR_C1;
+    all.w = W;
+    all.protocol = 5;
+    all.lsc = 1234;
+    return all;
+}
+const lipvezor_block block = numbers();
 
 struct Sizes {
     size_t n, k, m, information, parity, symbols, unit, work_words, work_bytes;
@@ -39,19 +48,22 @@ std::vector<Bytes> send(const Sizes &size, const Bytes &information, Bytes &pari
 {
     std::vector<Bytes> units(size.n, Bytes(size.unit));
     Bytes symbol(W);
-    expect(lipvezor_encode(&block, information.data(), information.size(), parity.data(), parity.size()) == LIPVEZOR_DONE, "encode is done");
+    lipvezor_codeword codeword = {};
+    codeword.information = information.data();
+    codeword.information_length = information.size();
+    codeword.parity = parity.data();
+    codeword.parity_length = parity.size();
+    expect(lipvezor_encode(&block, &codeword) == LIPVEZOR_DONE, "encode is done");
     for (size_t lwc = 1; lwc <= size.n; lwc++) {
         Bytes &unit = units[lwc - 1];
-        expect(lipvezor_show(&block, information.data(), information.size(), parity.data(), parity.size(), lwc, symbol.data(), symbol.size())
-                   == LIPVEZOR_DONE, "show is done");
+        expect(lipvezor_show(&block, &codeword, lwc, symbol.data(), symbol.size()) == LIPVEZOR_DONE, "show is done");
         const uint8_t *sent = lwc <= size.k ? &information[(lwc - 1) * W] : &parity[(lwc - 1 - size.k) * W];
         expect(std::memcmp(symbol.data(), sent, W) == 0, "the symbol of an LWC");
         expect(lipvezor_write(&block, lwc, symbol.data(), symbol.size(), unit.data(), unit.size()) == LIPVEZOR_DONE, "write is done");
     }
-    expect(lipvezor_show(&block, information.data(), information.size(), parity.data(), parity.size(), size.n + 1, symbol.data(), symbol.size())
-               == LIPVEZOR_REFUSED_POSITION, "show refuses a position");
-    expect(lipvezor_encode(&block, information.data(), information.size(), parity.data(), parity.size() - 1) == LIPVEZOR_REFUSED_LENGTH,
-           "encode refuses a length");
+    expect(lipvezor_show(&block, &codeword, size.n + 1, symbol.data(), symbol.size()) == LIPVEZOR_REFUSED_POSITION, "show refuses a position");
+    codeword.parity_length--;
+    expect(lipvezor_encode(&block, &codeword) == LIPVEZOR_REFUSED_LENGTH, "encode refuses a length");
     return units;
 }
 
@@ -73,17 +85,37 @@ struct Received {
     {
     }
 
-    uint8_t open() { return lipvezor_open(&block, symbols.data(), symbols.size(), marks.data(), marks.size()); }
+    lipvezor_buffers buffers()
+    {
+        lipvezor_buffers all = {};
+        all.symbols = symbols.data();
+        all.symbols_length = symbols.size();
+        all.marks = marks.data();
+        all.marks_length = marks.size();
+        return all;
+    }
+
+    uint8_t open()
+    {
+        const lipvezor_buffers lent = buffers();
+        return lipvezor_open(&block, &lent);
+    }
 
     uint8_t take(const lipvezor_block &of, const Bytes &unit, lipvezor_taken *taken)
     {
-        return lipvezor_take(&of, symbols.data(), symbols.size(), marks.data(), marks.size(), unit.data(), unit.size(), taken);
+        const lipvezor_buffers lent = buffers();
+        return lipvezor_take(&of, &lent, unit.data(), unit.size(), taken);
     }
 
     uint8_t close(size_t words_length, lipvezor_report *report)
     {
-        return lipvezor_close(&block, symbols.data(), symbols.size(), marks.data(), marks.size(), words.data(), words_length, bytes.data(),
-                              bytes.size(), report);
+        const lipvezor_buffers lent = buffers();
+        lipvezor_work work = {};
+        work.words = words.data();
+        work.words_length = words_length;
+        work.bytes = bytes.data();
+        work.bytes_length = bytes.size();
+        return lipvezor_close(&block, &lent, &work, report);
     }
 };
 

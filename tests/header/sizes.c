@@ -8,22 +8,24 @@
 #include <string.h>
 
 /* the macros are constants */
-static uint8_t information[LIPVEZOR_INFORMATION_BYTES(C1, 16)];
-static uint8_t parity[LIPVEZOR_PARITY_BYTES(C1, 16)];
-static uint8_t symbols[LIPVEZOR_SYMBOL_BYTES(C2, LIPVEZOR_MAX_WIDTH)];
-static uint8_t marks[LIPVEZOR_N(C2)];
-static uint8_t unit[LIPVEZOR_UNIT_BYTES(C2, LIPVEZOR_MAX_WIDTH)];
-static uint64_t work_words[LIPVEZOR_WORK_WORDS(C2)];
-static uint8_t work_bytes[LIPVEZOR_WORK_BYTES(C2, LIPVEZOR_MAX_WIDTH)];
+static uint8_t information[LIPVEZOR_INFORMATION_BYTES(LIPVEZOR_C1, 16)];
+static uint8_t parity[LIPVEZOR_PARITY_BYTES(LIPVEZOR_C1, 16)];
+static uint8_t symbols[LIPVEZOR_SYMBOL_BYTES(LIPVEZOR_C2, LIPVEZOR_MAX_WIDTH)];
+static uint8_t marks[LIPVEZOR_N(LIPVEZOR_C2)];
+static uint8_t unit[LIPVEZOR_UNIT_BYTES(LIPVEZOR_C2, LIPVEZOR_MAX_WIDTH)];
+static uint64_t work_words[LIPVEZOR_WORK_WORDS(LIPVEZOR_C2)];
+static uint8_t work_bytes[LIPVEZOR_WORK_BYTES(LIPVEZOR_C2, LIPVEZOR_MAX_WIDTH)];
 _Static_assert(sizeof information == 8192 && sizeof parity == 4096, "C1's information and parity of 16 bytes a symbol");
 _Static_assert(sizeof symbols == 3145728 && sizeof marks == 3072, "the largest block");
-_Static_assert(sizeof unit == 1039 && LIPVEZOR_UNIT_BYTES(C1, 127) == 141 && LIPVEZOR_UNIT_BYTES(C1, 128) == 143, "units");
+_Static_assert(sizeof unit == 1039 && LIPVEZOR_UNIT_BYTES(LIPVEZOR_C1, 127) == 141 && LIPVEZOR_UNIT_BYTES(LIPVEZOR_C1, 128) == 143, "units");
 _Static_assert(sizeof work_words == 401408 && sizeof work_bytes == 1048576, "the largest work buffers");
-_Static_assert(LIPVEZOR_SYMBOL_BYTES(C1, 8 + 8) == 12288 && LIPVEZOR_UNIT_BYTES(C1, 100 + 28) == 143, "a sum as W");
-_Static_assert(LIPVEZOR_K(C1) + LIPVEZOR_M(C1) == LIPVEZOR_N(C1) && LIPVEZOR_K(C2) + LIPVEZOR_M(C2) == LIPVEZOR_N(C2), "n = k + m");
+_Static_assert(LIPVEZOR_SYMBOL_BYTES(LIPVEZOR_C1, 8 + 8) == 12288 && LIPVEZOR_UNIT_BYTES(LIPVEZOR_C1, 100 + 28) == 143, "a sum as W");
+_Static_assert(LIPVEZOR_K(LIPVEZOR_C1) + LIPVEZOR_M(LIPVEZOR_C1) == LIPVEZOR_N(LIPVEZOR_C1), "n = k + m of C1");
+_Static_assert(LIPVEZOR_K(LIPVEZOR_C2) + LIPVEZOR_M(LIPVEZOR_C2) == LIPVEZOR_N(LIPVEZOR_C2), "n = k + m of C2");
+_Static_assert(LIPVEZOR_N(3) == 0 && LIPVEZOR_SYMBOL_BYTES(0, 16) == 0 && LIPVEZOR_UNIT_BYTES(3, 16) == 0, "no code's sizes");
 _Static_assert(LIPVEZOR_VERSION > 0 && LIPVEZOR_STACK > 0 && LIPVEZOR_CLOSE_STACK > LIPVEZOR_STACK, "other constants");
 
-/* the archive has a record as an array of size_t, in this order */
+/* the archive has a record as words of 64 bits, numbers or a pointer and its length, in this order */
 #define MEMBER(record, member, index) _Static_assert(offsetof(record, member) == (index) * sizeof(size_t), #record "." #member)
 #define MEMBERS(record, count) _Static_assert(sizeof(record) == (count) * sizeof(size_t) && _Alignof(record) == _Alignof(size_t), #record)
 MEMBERS(lipvezor_block, 4);
@@ -31,6 +33,21 @@ MEMBER(lipvezor_block, code, 0);
 MEMBER(lipvezor_block, w, 1);
 MEMBER(lipvezor_block, protocol, 2);
 MEMBER(lipvezor_block, lsc, 3);
+MEMBERS(lipvezor_codeword, 4);
+MEMBER(lipvezor_codeword, information, 0);
+MEMBER(lipvezor_codeword, information_length, 1);
+MEMBER(lipvezor_codeword, parity, 2);
+MEMBER(lipvezor_codeword, parity_length, 3);
+MEMBERS(lipvezor_buffers, 4);
+MEMBER(lipvezor_buffers, symbols, 0);
+MEMBER(lipvezor_buffers, symbols_length, 1);
+MEMBER(lipvezor_buffers, marks, 2);
+MEMBER(lipvezor_buffers, marks_length, 3);
+MEMBERS(lipvezor_work, 4);
+MEMBER(lipvezor_work, words, 0);
+MEMBER(lipvezor_work, words_length, 1);
+MEMBER(lipvezor_work, bytes, 2);
+MEMBER(lipvezor_work, bytes_length, 3);
 MEMBERS(lipvezor_parts, 10);
 MEMBER(lipvezor_parts, protocol, 0);
 MEMBER(lipvezor_parts, count, 1);
@@ -68,17 +85,17 @@ static void expect(int holds, const char *what)
     }
 }
 
-#define SAME_SIZES(code, number, w) \
+#define SAME_SIZES(code, w) \
     do { \
-        same(#code " n", w, LIPVEZOR_N(code), lipvezor_n(number)); \
-        same(#code " k", w, LIPVEZOR_K(code), lipvezor_k(number)); \
-        same(#code " m", w, LIPVEZOR_M(code), lipvezor_m(number)); \
-        same(#code " information", w, LIPVEZOR_INFORMATION_BYTES(code, w), lipvezor_information_bytes(number, w)); \
-        same(#code " parity", w, LIPVEZOR_PARITY_BYTES(code, w), lipvezor_parity_bytes(number, w)); \
-        same(#code " symbols", w, LIPVEZOR_SYMBOL_BYTES(code, w), lipvezor_symbol_bytes(number, w)); \
-        same(#code " unit", w, LIPVEZOR_UNIT_BYTES(code, w), lipvezor_unit_bytes(number, w)); \
-        same(#code " work words", w, LIPVEZOR_WORK_WORDS(code), lipvezor_work_words(number)); \
-        same(#code " work bytes", w, LIPVEZOR_WORK_BYTES(code, w), lipvezor_work_bytes(number, w)); \
+        same(#code " n", w, LIPVEZOR_N(code), lipvezor_n(code)); \
+        same(#code " k", w, LIPVEZOR_K(code), lipvezor_k(code)); \
+        same(#code " m", w, LIPVEZOR_M(code), lipvezor_m(code)); \
+        same(#code " information", w, LIPVEZOR_INFORMATION_BYTES(code, w), lipvezor_information_bytes(code, w)); \
+        same(#code " parity", w, LIPVEZOR_PARITY_BYTES(code, w), lipvezor_parity_bytes(code, w)); \
+        same(#code " symbols", w, LIPVEZOR_SYMBOL_BYTES(code, w), lipvezor_symbol_bytes(code, w)); \
+        same(#code " unit", w, LIPVEZOR_UNIT_BYTES(code, w), lipvezor_unit_bytes(code, w)); \
+        same(#code " work words", w, LIPVEZOR_WORK_WORDS(code), lipvezor_work_words(code)); \
+        same(#code " work bytes", w, LIPVEZOR_WORK_BYTES(code, w), lipvezor_work_bytes(code, w)); \
     } while (0)
 
 /* 0 for numbers that are refused */
@@ -103,8 +120,8 @@ static void no_code(size_t code)
 static void compare_sizes(void)
 {
     for (size_t w = 1; w <= LIPVEZOR_MAX_WIDTH; w++) {
-        SAME_SIZES(C1, LIPVEZOR_C1, w);
-        SAME_SIZES(C2, LIPVEZOR_C2, w);
+        SAME_SIZES(LIPVEZOR_C1, w);
+        SAME_SIZES(LIPVEZOR_C2, w);
     }
     const size_t codes[] = {0, 3, 256 + 1, SIZE_MAX}, widths[] = {0, LIPVEZOR_MAX_WIDTH + 1, SIZE_MAX};
     for (size_t i = 0; i < sizeof codes / sizeof *codes; i++)

@@ -7,7 +7,7 @@ source=tests/header/unused.c
 calls=$(grep -c '^    lipvezor_[a-z]*(' $source)
 marked=$(grep -c '^LIPVEZOR_CHECKED$' $header)
 answers=$(grep -c '^uint8_t lipvezor_' $header)
-if [ "$calls" -ne "$answers" ] || [ "$marked" -ne "$answers" ]; then
+if [ "${calls:-0}" -eq 0 ] || [ "$calls" -ne "$answers" ] || [ "$marked" -ne "$answers" ]; then
     echo "unused: $answers calls in $header that return a refusal, $marked of them marked, $calls in $source"
     exit 1
 fi

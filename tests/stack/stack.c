@@ -5,7 +5,7 @@
  * Exit status 0 and a line for each call, or 1 and which call takes more. With two numbers as arguments, those are the sizes for close and
  * for the others.
  *
- * To be linked with -z now: else the C library's loader takes some KB of the caller's stack when memset or memcpy is called first.
+ * Linked without -z now the first call of memset and memcpy runs the C library's loader on the caller's stack, so the test is run both ways.
  */
 #define _DEFAULT_SOURCE
 #include "lipvezor.h"
@@ -17,9 +17,8 @@
 #include <sys/mman.h>
 #include <unistd.h>
 
-/* Bytes above those that the header says, for the function here that makes the call: its return address (8), the arguments that lie on the
-   stack (32 of the record, 24 more of close) and alignment (16). */
-enum { SWITCH = 80 };
+/* Bytes above those that the header says, for the function here that makes the call: its return address and alignment. */
+enum { SWITCH = 16 };
 
 /* below each stack: no frame is so large that it reaches past it */
 enum { GUARD = 1 << 20 };
@@ -95,10 +94,11 @@ static void on_stack(const char *name, size_t bytes, void (*call)(void))
 /* ---- a block, all that is lent for it, and what the last call said */
 
 static lipvezor_block block;
-static size_t n, k, m, lwc;
-static uint8_t *information, *parity, *symbols, *marks, *work_bytes, *unit;
-static uint64_t *work_words;
-static size_t information_length, parity_length, symbols_length, work_words_length, work_bytes_length, unit_length, out_length;
+static lipvezor_codeword codeword;
+static lipvezor_buffers buffers;
+static lipvezor_work work;
+static size_t n, k, m, lwc, unit_length, out_length;
+static uint8_t *information, *unit;
 static uint8_t symbol[LIPVEZOR_MAX_WIDTH];
 static lipvezor_parts parts;
 static lipvezor_taken taken;
@@ -122,12 +122,12 @@ static void make_sizes(void)
 
 static void make_encode(void)
 {
-    answer = lipvezor_encode(&block, information, information_length, parity, parity_length);
+    answer = lipvezor_encode(&block, &codeword);
 }
 
 static void make_show(void)
 {
-    answer = lipvezor_show(&block, information, information_length, parity, parity_length, lwc, symbol, out_length);
+    answer = lipvezor_show(&block, &codeword, lwc, symbol, out_length);
 }
 
 static void make_write(void)
@@ -142,17 +142,17 @@ static void make_read(void)
 
 static void make_open(void)
 {
-    answer = lipvezor_open(&block, symbols, symbols_length, marks, n);
+    answer = lipvezor_open(&block, &buffers);
 }
 
 static void make_take(void)
 {
-    answer = lipvezor_take(&block, symbols, symbols_length, marks, n, unit, unit_length, &taken);
+    answer = lipvezor_take(&block, &buffers, unit, unit_length, &taken);
 }
 
 static void make_close(void)
 {
-    answer = lipvezor_close(&block, symbols, symbols_length, marks, n, work_words, work_words_length, work_bytes, work_bytes_length, &report);
+    answer = lipvezor_close(&block, &buffers, &work, &report);
 }
 
 struct call {
@@ -212,21 +212,24 @@ static void new_block(size_t code, size_t w)
 {
     block = (lipvezor_block){.code = code, .w = w, .protocol = PROTOCOL, .lsc = LSC};
     n = lipvezor_n(code), k = lipvezor_k(code), m = lipvezor_m(code);
-    information = allocate(information_length = lipvezor_information_bytes(code, w), 1);
-    parity = allocate(parity_length = lipvezor_parity_bytes(code, w), 1);
-    symbols = allocate(symbols_length = lipvezor_symbol_bytes(code, w), 1);
-    marks = allocate(n, 1);
-    work_words = allocate(work_words_length = lipvezor_work_words(code), sizeof *work_words);
-    work_bytes = allocate(work_bytes_length = lipvezor_work_bytes(code, w), 1);
+    codeword.information_length = lipvezor_information_bytes(code, w), codeword.parity_length = lipvezor_parity_bytes(code, w);
+    codeword.information = information = allocate(codeword.information_length, 1);
+    codeword.parity = allocate(codeword.parity_length, 1);
+    buffers.symbols_length = lipvezor_symbol_bytes(code, w), buffers.marks_length = n;
+    buffers.symbols = allocate(buffers.symbols_length, 1);
+    buffers.marks = allocate(buffers.marks_length, 1);
+    work.words_length = lipvezor_work_words(code), work.bytes_length = lipvezor_work_bytes(code, w);
+    work.words = allocate(work.words_length, sizeof *work.words);
+    work.bytes = allocate(work.bytes_length, 1);
     unit = allocate(UNIT_ROOM, 1);
     out_length = w;
-    for (size_t i = 0; i < information_length; i++)
+    for (size_t i = 0; i < codeword.information_length; i++)
         information[i] = (uint8_t)next_number();
 }
 
 static void free_block(void)
 {
-    free(information), free(parity), free(symbols), free(marks), free(work_words), free(work_bytes), free(unit);
+    free(information), free(codeword.parity), free(buffers.symbols), free(buffers.marks), free(work.words), free(work.bytes), free(unit);
 }
 
 /* each refusal that the block's numbers and lengths can cause, in a call that tests these */
@@ -247,9 +250,9 @@ static void run_encode(void)
 {
     run(ENCODE, LIPVEZOR_DONE);
     run_refused(ENCODE, 0);
-    parity_length++;
+    codeword.parity_length++;
     run(ENCODE, LIPVEZOR_REFUSED_LENGTH);
-    parity_length--;
+    codeword.parity_length--;
 }
 
 static void write_unit(size_t number)
@@ -328,15 +331,15 @@ static void run_bad_units(void)
     run_unit_with(5, LSC + 1, LIPVEZOR_DONE, LIPVEZOR_REFUSED_FOREIGN);
     run_unit_with(2, 0xFF, LIPVEZOR_DONE, LIPVEZOR_REFUSED_POSITION);
     run_unit_of_length(unit_length + 1, LIPVEZOR_DONE, LIPVEZOR_REFUSED_SYMBOL);
-    marks[lwc - 1] = 3;
+    buffers.marks[lwc - 1] = 3;
     run(TAKE, LIPVEZOR_REFUSED_MARK);
-    marks[lwc - 1] = LIPVEZOR_MARK_LEFT;
+    buffers.marks[lwc - 1] = LIPVEZOR_MARK_MISSING;
 }
 
 /* kept, repeated, contradicted; on both of take's ways */
 static void run_unit_thrice(void)
 {
-    marks[lwc - 1] = LIPVEZOR_MARK_LEFT;
+    buffers.marks[lwc - 1] = LIPVEZOR_MARK_MISSING;
     run_unit(LIPVEZOR_DONE, LIPVEZOR_DONE);
     run_unit(LIPVEZOR_DONE, LIPVEZOR_DONE);
     run_unit_with(unit_length - 1, unit[unit_length - 1] ^ 1, LIPVEZOR_DONE, LIPVEZOR_REFUSED_CONFLICT);
@@ -357,13 +360,13 @@ static void run_take(void)
 /* the block as sent, without so many symbols */
 static void lose(size_t missing)
 {
-    memcpy(symbols, information, information_length);
-    memcpy(symbols + information_length, parity, parity_length);
-    memset(marks, LIPVEZOR_MARK_HEARD, n);
+    memcpy(buffers.symbols, codeword.information, codeword.information_length);
+    memcpy(buffers.symbols + codeword.information_length, codeword.parity, codeword.parity_length);
+    memset(buffers.marks, LIPVEZOR_MARK_HEARD, n);
     while (missing > 0) {
         size_t i = next_number() % n;
-        if (marks[i] == LIPVEZOR_MARK_HEARD) {
-            marks[i] = LIPVEZOR_MARK_LEFT;
+        if (buffers.marks[i] == LIPVEZOR_MARK_HEARD) {
+            buffers.marks[i] = LIPVEZOR_MARK_MISSING;
             missing--;
         }
     }
@@ -377,14 +380,14 @@ static void run_close(void)
         for (size_t flipped = 0; flipped < 3; flipped++) {
             lose((m * percents[i] + 99) / 100);
             for (size_t x = 0; x < flipped; x++)
-                symbols[next_number() % symbols_length] ^= 1;
+                buffers.symbols[next_number() % buffers.symbols_length] ^= 1;
             run(CLOSE, LIPVEZOR_DONE);
             verdicts[report.verdict % 4]++;
         }
     if (!verdicts[LIPVEZOR_WHOLE] || !verdicts[LIPVEZOR_AMBIGUOUS] || !verdicts[LIPVEZOR_INCONSISTENT])
         fail("a verdict that close never came to");
     run_refused(CLOSE, 1);
-    marks[n - 1] = 3;
+    buffers.marks[n - 1] = 3;
     run(CLOSE, LIPVEZOR_REFUSED_MARK);
 }
 

@@ -27,12 +27,9 @@ pub told : {A C : Type 0} (say : A → Outcome C) (values : C → List ℕ) (old
 told say values old e h = (by-case say numberOf e h, by-case say (recordAfter values old) e h)
 
 -- a refusal's number, 0 for none
-number-by : {A : Type 0} (n : ℕ) (a : A) → numberOf (outcome n a) ≡ n
+pub number-by : {A : Type 0} (n : ℕ) (a : A) → numberOf (outcome n a) ≡ n
 number-by zero a = refl
 number-by (suc n) a = refl
-
-pub number-told : {A : Type 0} (say : A → Outcome Unit) {a b : A} {n : ℕ} → say a ≡ outcome n tt → a ≡ b → numberOf (say b) ≡ n
-number-told say {n = n} e h = by-case say numberOf e h ∙ number-by n tt
 
 -- ---- read: with coding parameters, and without
 

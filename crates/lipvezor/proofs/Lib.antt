@@ -1,2 +1,4 @@
+pub mod Relending
 pub mod Answers
 pub mod Copying
+pub mod Lending

@@ -1,4 +1,4 @@
--- Encode, show and write on a block's record, for C and Rust: the number that each answers, and its output afterwards.
+-- Encode, show and write on a block's record, for C and Rust: what each answers, and its output afterwards.
 -- Assumes nothing.
 use mathlib.Core.List.{List, [], _∷_, _++_}
 use Prim.Native.Nat.{ℕ}
@@ -7,27 +7,27 @@ use denote.Ref.{RefT, now}
 use Rattle.ccsds.specs.Codes.{nOf, encodeOf}
 use Rattle.ccsds.specs.Tables.{codeOf}
 use Rattle.ccsds.specs.RefusalTable as refusal
-use Rattle.ccsds.specs.Refusals.{firstOf, encoderConditions, wrongLength, wrongPosition, afterwards}
+use Rattle.ccsds.specs.Refusals.{Outcome, outcome, firstOf, encoderConditions, wrongLength, wrongPosition, afterwards}
 use Rattle.ccsds.specs.Show.{showOf}
 use Rattle.ccsds.specs.Writer.{unitOf, writeRefusal}
 use Rattle.encoder.specs.Encode.{encodeRefusal}
 use Rattle.block.specs.declared.Block.{Block}
 
 pub record Sending : Type 0 where
-  pub number : ℕ
+  pub answer : Outcome Unit
   pub output : List ℕ
 
 -- by the number of the refusal, or 0: a refused call leaves the output as it was
 abbrev pub sendingBy : ℕ → List ℕ → List ℕ → Sending
-sendingBy number new old = record { number = number; output = afterwards number new old }
+sendingBy number new old = record { answer = outcome number tt; output = afterwards number new old }
 
 -- of the information and the parity buffer
 abbrev pub encoding : Block → List ℕ → List ℕ → Sending
 encoding b info parity =
     sendingBy (encodeRefusal (b .code) (b .w) (length info) (length parity)) (encodeOf (codeOf (b .code)) (b .w) info) parity
 
--- The number of show's refusal, or 0: where 1, 2, 4 or 9 would apply show has the empty part; here its number is answered, and an output
--- that is not W bytes is 4.
+-- The number of show's refusal, or 0: where 1, 2, 4 or 9 would apply show has the empty part; here that is refused, and an output that is
+-- not W bytes is 4.
 unfoldable pub copyRefusal : ℕ → ℕ → ℕ → ℕ → ℕ → ℕ → ℕ
 copyRefusal number w infoLength parityLength lwc outLength =
     firstOf (

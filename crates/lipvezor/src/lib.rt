@@ -1,6 +1,7 @@
 // The calls for C and Rust (include/lipvezor.h). Numbers pass as themselves, a slice as a pointer and then a length in elements, a record
-// (a block's numbers; what a call has to say beside done or refused) as a pointer to an array of its values. Each call answers 0, or the
-// number of its refusal; the values of records are those of specs/Numbers.antt.
+// (a block's numbers; what a call has to say beside done or refused) as a pointer to an array of its values. Slices that belong together
+// pass as a pointer to a record of their pointers and lengths; no call writes to that record. Each call answers 0, or the number of its
+// refusal; the values of records are those of specs/Numbers.antt.
 use block::Block;
 use block::close::Closed;
 use block::close::Verdict;
@@ -24,6 +25,35 @@ ghost use Rattle.block.specs.Take.{takeOf};
 ghost use Rattle.block.specs.Close.{closeOf, verdictAs};
 ghost use Rattle.lipvezor.specs.Numbers.{version, blockOf, numberOf, recordAfter, partsValues, resultValues, verdictNumber, reportValues};
 ghost use Rattle.lipvezor.specs.Sending.{encoding, copyRefusal, showing, writing};
+ghost use Rattle.lipvezor.specs.Lent.{codewordAfter, buffersAfter, workAfter, encodingLent, opening, taking, closing};
+
+// A block's buffers on board: the information symbols, and the parity symbols that encode makes of them. In C, lipvezor_codeword.
+#[repr(C)]
+pub struct Codeword<'a> {
+    pub information: &'a [u8],
+    pub parity: &'a mut [u8],
+}
+
+// What is sent: the same two buffers, once encode has made the parity symbols. In C, lipvezor_codeword too.
+#[repr(C)]
+pub struct Sent<'a> {
+    pub information: &'a [u8],
+    pub parity: &'a [u8],
+}
+
+// A block's buffers on the ground. In C, lipvezor_buffers.
+#[repr(C)]
+pub struct Buffers<'a> {
+    pub symbols: &'a mut [u8],
+    pub marks: &'a mut [u8],
+}
+
+// Close's work memory. In C, lipvezor_work.
+#[repr(C)]
+pub struct Work<'a> {
+    pub words: &'a mut [u64],
+    pub bytes: &'a mut [u8],
+}
 
 // The version of this library, as the header's LIPVEZOR_VERSION.
 #[no_mangle]
@@ -126,10 +156,9 @@ fn block_of(numbers: &[usize; 4]) -> Block
     }
 }
 
-// Encode.
-#[no_mangle]
-pub extern "C" fn lipvezor_encode(numbers: &[usize; 4], info: &[u8], parity: &mut [u8]) -> u8
-    ensures answer { λ r. ⌜ r ≡ encoding (blockOf (now (numbers .entry))) (now (info .entry)) (now (parity .entry)) .number ⌝ }
+// Encode on plain slices.
+fn encode_in(numbers: &[usize; 4], info: &[u8], parity: &mut [u8]) -> u8
+    ensures answer { λ r. ⌜ r ≡ numberOf (encoding (blockOf (now (numbers .entry))) (now (info .entry)) (now (parity .entry)) .answer) ⌝ }
     ensures parity { λ _. ⌜ now (parity .exit) ≡ encoding (blockOf (now (numbers .entry))) (now (info .entry)) (now (parity .entry)) .output ⌝ }
 {
     let b = block_of(numbers);
@@ -137,6 +166,15 @@ pub extern "C" fn lipvezor_encode(numbers: &[usize; 4], info: &[u8], parity: &mu
         Encoded::Done => 0,
         Encoded::Refused(number) => number,
     }
+}
+
+// Encode.
+#[no_mangle]
+pub extern "C" fn lipvezor_encode(numbers: &[usize; 4], codeword: &mut Codeword) -> u8
+    ensures answer { λ r. ⌜ r ≡ numberOf (encodingLent (now (numbers .entry)) (now (codeword .entry)) .answer) ⌝ }
+    ensures codeword { λ _. ⌜ now (codeword .exit) ≡ codewordAfter (now (codeword .entry)) (encodingLent (now (numbers .entry)) (now (codeword .entry)) .output) ⌝ }
+{
+    encode_in(numbers, codeword.information, &mut *codeword.parity)
 }
 
 // The number of show's refusal with an output of so many bytes, or 0.
@@ -164,16 +202,15 @@ fn check_copy(
     0
 }
 
-// Show, copied to an output of W bytes.
-#[no_mangle]
-pub extern "C" fn lipvezor_show<'a, 'b, 'c>(
+// Show on plain slices.
+fn show_in<'a, 'b, 'c>(
     numbers: &'c [usize; 4],
     info: &'a [u8],
     parity: &'a [u8],
     lwc: usize,
     out: &'b mut [u8],
 ) -> u8
-    ensures answer { λ r. ⌜ r ≡ showing (blockOf (now (numbers .entry))) (info .entry) (parity .entry) lwc (now (out .entry)) .number ⌝ }
+    ensures answer { λ r. ⌜ r ≡ numberOf (showing (blockOf (now (numbers .entry))) (info .entry) (parity .entry) lwc (now (out .entry)) .answer) ⌝ }
     ensures output { λ _. ⌜ now (out .exit) ≡ showing (blockOf (now (numbers .entry))) (info .entry) (parity .entry) lwc (now (out .entry)) .output ⌝ }
 {
     let b = block_of(numbers);
@@ -186,6 +223,15 @@ pub extern "C" fn lipvezor_show<'a, 'b, 'c>(
     0
 }
 
+// Show, copied to an output of W bytes.
+#[no_mangle]
+pub extern "C" fn lipvezor_show(numbers: &[usize; 4], sent: &Sent, lwc: usize, out: &mut [u8]) -> u8
+    ensures answer { λ r. ⌜ r ≡ numberOf (showing (blockOf (now (numbers .entry))) (now (sent .entry) .information) (now (sent .entry) .parity) lwc (now (out .entry)) .answer) ⌝ }
+    ensures output { λ _. ⌜ now (out .exit) ≡ showing (blockOf (now (numbers .entry))) (now (sent .entry) .information) (now (sent .entry) .parity) lwc (now (out .entry)) .output ⌝ }
+{
+    show_in(numbers, sent.information, sent.parity, lwc, out)
+}
+
 // Write.
 #[no_mangle]
 pub extern "C" fn lipvezor_write(
@@ -194,7 +240,7 @@ pub extern "C" fn lipvezor_write(
     symbol: &[u8],
     out: &mut [u8],
 ) -> u8
-    ensures answer { λ r. ⌜ r ≡ writing (blockOf (now (numbers .entry))) lwc (now (symbol .entry)) (now (out .entry)) .number ⌝ }
+    ensures answer { λ r. ⌜ r ≡ numberOf (writing (blockOf (now (numbers .entry))) lwc (now (symbol .entry)) (now (out .entry)) .answer) ⌝ }
     ensures output { λ _. ⌜ now (out .exit) ≡ writing (blockOf (now (numbers .entry))) lwc (now (symbol .entry)) (now (out .entry)) .output ⌝ }
 {
     let b = block_of(numbers);
@@ -239,9 +285,8 @@ pub extern "C" fn lipvezor_read(unit: &[u8], parts: &mut [usize; 10]) -> u8
     }
 }
 
-// Open. The record that open returns is the one it was given.
-#[no_mangle]
-pub extern "C" fn lipvezor_open(numbers: &[usize; 4], symbols: &mut [u8], marks: &mut [u8]) -> u8
+// Open on plain slices. The record that open returns is the one it was given.
+fn open_in(numbers: &[usize; 4], symbols: &mut [u8], marks: &mut [u8]) -> u8
     ensures answer { λ r. ⌜ r ≡ numberOf (openOf (blockOf (now (numbers .entry))) (now (symbols .entry)) (now (marks .entry)) .answer) ⌝ }
     ensures symbols { λ _. ⌜ now (symbols .exit) ≡ openOf (blockOf (now (numbers .entry))) (now (symbols .entry)) (now (marks .entry)) .symbols ⌝ }
     ensures marks { λ _. ⌜ now (marks .exit) ≡ openOf (blockOf (now (numbers .entry))) (now (symbols .entry)) (now (marks .entry)) .marks ⌝ }
@@ -253,9 +298,17 @@ pub extern "C" fn lipvezor_open(numbers: &[usize; 4], symbols: &mut [u8], marks:
     }
 }
 
-// Take, with what it did in the lent record (lipvezor_taken).
+// Open.
 #[no_mangle]
-pub extern "C" fn lipvezor_take(
+pub extern "C" fn lipvezor_open(numbers: &[usize; 4], buffers: &mut Buffers) -> u8
+    ensures answer { λ r. ⌜ r ≡ numberOf (opening (now (numbers .entry)) (now (buffers .entry)) .answer) ⌝ }
+    ensures buffers { λ _. ⌜ now (buffers .exit) ≡ buffersAfter (now (buffers .entry)) (opening (now (numbers .entry)) (now (buffers .entry)) .symbols) (opening (now (numbers .entry)) (now (buffers .entry)) .marks) ⌝ }
+{
+    open_in(numbers, &mut *buffers.symbols, &mut *buffers.marks)
+}
+
+// Take on plain slices.
+fn take_in(
     numbers: &[usize; 4],
     symbols: &mut [u8],
     marks: &mut [u8],
@@ -281,6 +334,27 @@ pub extern "C" fn lipvezor_take(
     }
 }
 
+// Take, with what it did in the lent record (lipvezor_taken).
+#[no_mangle]
+pub extern "C" fn lipvezor_take(
+    numbers: &[usize; 4],
+    buffers: &mut Buffers,
+    unit: &[u8],
+    taken: &mut [usize; 1],
+) -> u8
+    ensures answer { λ r. ⌜ r ≡ numberOf (taking (now (numbers .entry)) (now (buffers .entry)) (now (unit .entry)) .answer) ⌝ }
+    ensures buffers { λ _. ⌜ now (buffers .exit) ≡ buffersAfter (now (buffers .entry)) (taking (now (numbers .entry)) (now (buffers .entry)) (now (unit .entry)) .symbols) (taking (now (numbers .entry)) (now (buffers .entry)) (now (unit .entry)) .marks) ⌝ }
+    ensures taken { λ _. ⌜ now (taken .exit) ≡ recordAfter resultValues (now (taken .entry)) (taking (now (numbers .entry)) (now (buffers .entry)) (now (unit .entry)) .answer) ⌝ }
+{
+    take_in(
+        numbers,
+        &mut *buffers.symbols,
+        &mut *buffers.marks,
+        unit,
+        taken,
+    )
+}
+
 // A verdict's number.
 fn verdict_number(v: Verdict) -> usize
     ensures { λ r. ⌜ r ≡ verdictNumber (verdictAs v) ⌝ }
@@ -292,9 +366,8 @@ fn verdict_number(v: Verdict) -> usize
     }
 }
 
-// Close, with the verdict and the counts of heard, filled and left positions in the lent record (lipvezor_report).
-#[no_mangle]
-pub extern "C" fn lipvezor_close(
+// Close on plain slices.
+fn close_in(
     numbers: &[usize; 4],
     symbols: &mut [u8],
     marks: &mut [u8],
@@ -319,4 +392,27 @@ pub extern "C" fn lipvezor_close(
             0
         }
     }
+}
+
+// Close, with the verdict and the counts of heard, filled and left positions in the lent record (lipvezor_report).
+#[no_mangle]
+pub extern "C" fn lipvezor_close(
+    numbers: &[usize; 4],
+    buffers: &mut Buffers,
+    work: &mut Work,
+    report: &mut [usize; 4],
+) -> u8
+    ensures answer { λ r. ⌜ r ≡ numberOf (closing (now (numbers .entry)) (now (buffers .entry)) (now (work .entry)) .answer) ⌝ }
+    ensures buffers { λ _. ⌜ now (buffers .exit) ≡ buffersAfter (now (buffers .entry)) (closing (now (numbers .entry)) (now (buffers .entry)) (now (work .entry)) .symbols) (closing (now (numbers .entry)) (now (buffers .entry)) (now (work .entry)) .marks) ⌝ }
+    ensures work { λ _. ⌜ now (work .exit) ≡ workAfter (now (work .entry)) (closing (now (numbers .entry)) (now (buffers .entry)) (now (work .entry)) .workWords) (closing (now (numbers .entry)) (now (buffers .entry)) (now (work .entry)) .workBytes) ⌝ }
+    ensures report { λ _. ⌜ now (report .exit) ≡ recordAfter reportValues (now (report .entry)) (closing (now (numbers .entry)) (now (buffers .entry)) (now (work .entry)) .answer) ⌝ }
+{
+    close_in(
+        numbers,
+        &mut *buffers.symbols,
+        &mut *buffers.marks,
+        &mut *work.words,
+        &mut *work.bytes,
+        report,
+    )
 }

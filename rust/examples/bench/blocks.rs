@@ -12,7 +12,7 @@ pub fn record(code: Code, w: usize) -> Record {
 
 /// A seed for what is random of them.
 pub fn seed(record: Record) -> u64 {
-    (record.code.number() * 2048 + record.w) as u64
+    (record.code().number() * 2048 + record.w()) as u64
 }
 
 /// What is sent of one block.
@@ -33,7 +33,7 @@ impl Sending {
     }
 
     fn symbol(&self, i: usize) -> &[u8] {
-        let w = self.record.w;
+        let w = self.record.w();
         let k = self.information.len() / w;
         if i < k {
             &self.information[i * w..(i + 1) * w]
@@ -115,7 +115,7 @@ impl Receiving {
         self.bytes.fill(0xA5);
         self.symbols.copy_from_slice(word);
         self.marks.fill(1);
-        let w = self.record.w;
+        let w = self.record.w();
         for &i in lost {
             self.symbols[i * w..(i + 1) * w].fill(0);
             self.marks[i] = 0;
@@ -147,14 +147,15 @@ impl Taking {
 
 pub fn open(t: &mut Taking) {
     let b = &mut t.block;
-    calls::open(&b.record, &mut b.symbols, &mut b.marks).unwrap();
+    calls::open(&b.record, &mut calls::Buffers::new(&mut b.symbols, &mut b.marks)).unwrap();
 }
 
 pub fn take<L: Layer>(t: &mut Taking) {
     let b = &mut t.block;
     let record = black_box(&b.record);
+    let mut lent = L::lend(&mut b.symbols, &mut b.marks);
     for unit in t.units.bytes.chunks_exact(t.units.stride) {
         // not assert_eq!, for which the compiler may store each answer
-        assert!(L::take(record, &mut b.symbols, &mut b.marks, unit) == Ok(Taken::Kept));
+        assert!(L::take(record, &mut lent, unit) == Ok(Taken::Kept));
     }
 }

@@ -1,7 +1,7 @@
 //! The calls of an earlier version's archive, which build.rs links under these names where LIPVEZOR_EARLIER names its folder. These are the
 //! declarations of 0.2, to compare 0.3.0 with 0.2.4; a comparison with a version from 0.3.0 on needs those of the crate's `ffi` in their place.
 //! The same holds of each call as there: it hands over a slice's own pointer and length.
-use crate::layers::{Closing, Found, Layer};
+use crate::layers::{Closing, Found, Layer, Slices};
 use lipvezor::{Record, Refusal, Taken, Verdict};
 use std::path::Path;
 
@@ -72,10 +72,10 @@ impl Closing for Earlier {
         let mut counts = [0; 3];
         let answer = unsafe {
             earlier_close(
-                record.code.number(),
-                record.w,
-                record.protocol,
-                record.lsc,
+                record.code().number(),
+                record.w(),
+                record.protocol(),
+                record.lsc(),
                 symbols.as_mut_ptr(),
                 symbols.len(),
                 marks.as_mut_ptr(),
@@ -98,9 +98,16 @@ impl Closing for Earlier {
 }
 
 impl Layer for Earlier {
+    type Lent<'a> = Slices<'a>;
+
+    #[inline]
+    fn lend<'a>(symbols: &'a mut [u8], marks: &'a mut [u8]) -> Slices<'a> {
+        (symbols, marks)
+    }
+
     #[inline]
     fn encode(record: &Record, information: &[u8], parity: &mut [u8]) -> Result<(), Refusal> {
-        let (code, w) = (record.code.number(), record.w);
+        let (code, w) = (record.code().number(), record.w());
         match unsafe { earlier_encode(code, w, information.as_ptr(), information.len(), parity.as_mut_ptr(), parity.len()) } {
             0 => Ok(()),
             number => Err(refusal(number)),
@@ -111,10 +118,10 @@ impl Layer for Earlier {
     fn write(record: &Record, lwc: usize, symbol: &[u8], out: &mut [u8]) -> Result<(), Refusal> {
         let answer = unsafe {
             earlier_write(
-                record.code.number(),
-                record.w,
-                record.protocol,
-                record.lsc,
+                record.code().number(),
+                record.w(),
+                record.protocol(),
+                record.lsc(),
                 lwc,
                 symbol.as_ptr(),
                 symbol.len(),
@@ -129,13 +136,13 @@ impl Layer for Earlier {
     }
 
     #[inline]
-    fn take(record: &Record, symbols: &mut [u8], marks: &mut [u8], unit: &[u8]) -> Result<Taken, Refusal> {
+    fn take(record: &Record, (symbols, marks): &mut Slices<'_>, unit: &[u8]) -> Result<Taken, Refusal> {
         let answer = unsafe {
             earlier_take(
-                record.code.number(),
-                record.w,
-                record.protocol,
-                record.lsc,
+                record.code().number(),
+                record.w(),
+                record.protocol(),
+                record.lsc(),
                 symbols.as_mut_ptr(),
                 symbols.len(),
                 marks.as_mut_ptr(),

@@ -135,7 +135,7 @@ impl Bench {
     }
 
     fn encoding(&mut self, sent: &mut Sending) {
-        let name = format!("encode/{}/W{}", sent.record.code, sent.record.w);
+        let name = format!("encode/{}/W{}", sent.record.code(), sent.record.w());
         if !self.wants(&name) {
             return;
         }
@@ -148,7 +148,7 @@ impl Bench {
     /// Units one after the other, or each on a border of so many bytes.
     fn writing(&mut self, record: Record, border: usize) {
         let place = if border > 1 { format!("/on{border}") } else { String::new() };
-        let name = format!("write/{}/W{}{place}", record.code, record.w);
+        let name = format!("write/{}/W{}{place}", record.code(), record.w());
         if !self.wants(&name) {
             return;
         }
@@ -160,7 +160,7 @@ impl Bench {
     }
 
     fn taking(&mut self, sent: &Sending) {
-        let name = format!("take/{}/W{}", sent.record.code, sent.record.w);
+        let name = format!("take/{}/W{}", sent.record.code(), sent.record.w());
         if !self.wants(&name) {
             return;
         }
@@ -174,7 +174,7 @@ impl Bench {
     /// Each round has a loss pattern that none had before, and every side closes it once.
     fn closing(&mut self, sent: &Sending, percent: usize) {
         let (record, word) = (sent.record, sent.word());
-        let (code, w) = (record.code, record.w);
+        let (code, w) = (record.code(), record.w());
         let name = format!("close/{code}/W{w}/{percent}%");
         if !self.wants(&name) {
             return;
@@ -221,7 +221,7 @@ impl Bench {
     }
 
     fn encoding_cold(&mut self, sent: &Sending) {
-        let name = format!("cold/encode/{}/W{}", sent.record.code, sent.record.w);
+        let name = format!("cold/encode/{}/W{}", sent.record.code(), sent.record.w());
         if !self.wants(&name) {
             return;
         }
@@ -236,8 +236,8 @@ impl Bench {
 
     fn closing_cold(&mut self, sent: &Sending) {
         let (record, word) = (sent.record, sent.word());
-        let code = record.code;
-        let name = |percent: usize| format!("cold/close/{code}/W{}/{percent}%", record.w);
+        let code = record.code();
+        let name = |percent: usize| format!("cold/close/{code}/W{}/{percent}%", record.w());
         if !MISSING.iter().any(|&percent| self.wants(&name(percent))) {
             return;
         }

@@ -310,7 +310,7 @@ fn finish(ok: bool, w: usize, symbols: &mut [u8], marks: &mut [u8]) -> bool {
 pub fn check_close(record: Record, symbols: &[u8], marks: &[u8], words: &[u64], bytes: &[u8]) -> Result<&'static Layout, Refusal> {
     let layout = check_block(record, symbols, marks)?;
     check_length(words.len(), layout.m * (layout.n() / 64 + 1))?;
-    check_length(bytes.len(), layout.m * record.w)?;
+    check_length(bytes.len(), layout.m * record.w())?;
     if marks.iter().any(|&mark| mark > 2) {
         return Err(Refusal::Mark);
     }
@@ -339,7 +339,7 @@ pub fn close<T: Tally>(
     tally: &mut T,
 ) -> Result<Found, Refusal> {
     let layout = check_close(record, symbols, marks, words, bytes)?;
-    let w = record.w;
+    let w = record.w();
     let mut plan = Plan::new(layout, w, marks);
     plan.peel(symbols, marks);
     let ok =

@@ -6,7 +6,7 @@ use lipvezor::{Record, Refusal};
 #[inline(never)]
 pub fn encode(record: Record, information: &[u8], parity: &mut [u8]) -> Result<(), Refusal> {
     let layout = check_code(record)?;
-    let w = record.w;
+    let w = record.w();
     check_length(information.len(), layout.k * w)?;
     check_length(parity.len(), layout.m * w)?;
     let positions = Positions::lay(layout);

@@ -114,8 +114,8 @@ impl Positions {
 
 /// Refusals 1 and 2.
 pub fn check_code(record: Record) -> Result<&'static Layout, Refusal> {
-    let layout = Layout::of(record.code).ok_or(Refusal::Code)?;
-    if record.w == 0 || record.w > 1024 {
+    let layout = Layout::of(record.code()).ok_or(Refusal::Code)?;
+    if record.w() == 0 || record.w() > 1024 {
         return Err(Refusal::Width);
     }
     Ok(layout)
@@ -123,7 +123,7 @@ pub fn check_code(record: Record) -> Result<&'static Layout, Refusal> {
 
 /// Refusal 3.
 pub fn check_label(record: Record) -> Result<(), Refusal> {
-    if record.lsc == 0 || record.lsc > 65534 || record.protocol > 7 {
+    if record.lsc() == 0 || record.lsc() > 65534 || record.protocol() > 7 {
         return Err(Refusal::Label);
     }
     Ok(())
@@ -141,7 +141,7 @@ pub fn check_length(is: usize, asked: usize) -> Result<(), Refusal> {
 pub fn check_block(record: Record, symbols: &[u8], marks: &[u8]) -> Result<&'static Layout, Refusal> {
     let layout = check_code(record)?;
     check_label(record)?;
-    check_length(symbols.len(), layout.n() * record.w)?;
+    check_length(symbols.len(), layout.n() * record.w())?;
     check_length(marks.len(), layout.n())?;
     Ok(layout)
 }

@@ -39,7 +39,7 @@ impl Output<'_> {
 pub fn write(record: Record, lwc: usize, symbol: &[u8], out: &mut [u8]) -> Result<(), Refusal> {
     let layout = check_code(record)?;
     check_label(record)?;
-    let (k, n, w) = (layout.k, layout.n(), record.w);
+    let (k, n, w) = (layout.k, layout.n(), record.w());
     let value = if w >= 128 { 7 } else { 6 };
     check_length(out.len(), 8 + value + w)?;
     if lwc == 0 || lwc > n {
@@ -49,10 +49,10 @@ pub fn write(record: Record, lwc: usize, symbol: &[u8], out: &mut [u8]) -> Resul
         return Err(Refusal::Symbol);
     }
     let mut out = Output { bytes: out, at: 0 };
-    out.byte(16 + record.protocol * 2);
+    out.byte(16 + record.protocol() * 2);
     out.byte(1);
     out.pair(lwc);
-    out.pair(record.lsc);
+    out.pair(record.lsc());
     out.byte(1);
     out.byte(value);
     out.sdnv(w);
@@ -169,7 +169,7 @@ fn sdnv_2(v: usize) -> [u8; 2] {
 
 /// What a unit says whose bytes before its symbol are those that `write` makes for these numbers, whatever its LWC.
 fn read_expected(layout: &Layout, record: Record, s: &[u8]) -> Option<Parts> {
-    let Record { w, protocol, lsc, .. } = record;
+    let (w, protocol, lsc) = (record.w(), record.protocol(), record.lsc());
     let (k, n) = (layout.k, layout.n());
     let [first, count, w1, w0, c1, c0, a, b, c, d, e, f, g, h, i, ..] = *s else {
         return None;
@@ -196,16 +196,16 @@ fn read_expected(layout: &Layout, record: Record, s: &[u8]) -> Option<Parts> {
 
 /// The position of a unit of `len` bytes that says these parts.
 fn admit(layout: &Layout, record: Record, parts: Parts, len: usize) -> Result<usize, Refusal> {
-    if parts.coding != Some(Parameters { w: record.w, k: layout.k, n: layout.n(), seed: 0 }) {
+    if parts.coding != Some(Parameters { w: record.w(), k: layout.k, n: layout.n(), seed: 0 }) {
         return Err(Refusal::Parameters);
     }
-    if parts.lsc != record.lsc || parts.protocol != record.protocol {
+    if parts.lsc != record.lsc() || parts.protocol != record.protocol() {
         return Err(Refusal::Foreign);
     }
     if parts.lwc == 0 || parts.lwc > layout.n() {
         return Err(Refusal::Position);
     }
-    if len - parts.symbol != record.w {
+    if len - parts.symbol != record.w() {
         return Err(Refusal::Symbol);
     }
     Ok(parts.lwc - 1)
@@ -218,7 +218,7 @@ pub fn take(record: Record, symbols: &mut [u8], marks: &mut [u8], unit: &[u8]) -
         Some(parts) => admit(layout, record, parts, unit.len())?,
         None => admit(layout, record, read(unit)?, unit.len())?,
     };
-    let w = record.w;
+    let w = record.w();
     let symbol = &unit[unit.len() - w..];
     let place = &mut symbols[position * w..(position + 1) * w];
     match marks[position] {

@@ -127,7 +127,7 @@ pub fn close<T: Tally>(
     tally: &mut T,
 ) -> Result<Found, Refusal> {
     let layout = check_close(record, symbols, marks, words, bytes)?;
-    let w = record.w;
+    let w = record.w();
     let packed = layout.n() / 64;
     let mut system = System { rows: &mut words[..layout.m * (packed + 1)], rhs: &mut bytes[..], words: packed, w };
     build(&mut system, layout, symbols, marks);

@@ -1,7 +1,8 @@
 //! The crate's calls, handed the model's record; what they answer, in the model's types. Nothing else in the tests calls `lipvezor::calls`.
 use crate::model::answers::{Parameters, Report, Taken, UnitParts, Verdict};
 use crate::model::refusals::Record;
-use lipvezor::{calls, Refusal};
+use lipvezor::calls::{self, Buffers};
+use lipvezor::Refusal;
 
 const UNKNOWN: &str = "an answer that the tests don't know";
 
@@ -34,7 +35,7 @@ pub fn report(report: lipvezor::Report) -> Report {
 /// A mark as the byte that stands for it.
 pub fn mark(mark: lipvezor::Mark) -> u8 {
     match mark {
-        lipvezor::Mark::Left => 0,
+        lipvezor::Mark::Missing => 0,
         lipvezor::Mark::Heard => 1,
         lipvezor::Mark::Filled => 2,
         _ => panic!("{UNKNOWN}: {mark:?}"),
@@ -70,13 +71,13 @@ pub fn read(unit: &[u8]) -> Result<UnitParts, u8> {
 }
 
 pub fn open(of: Record, symbols: &mut [u8], marks: &mut [u8]) -> Result<(), u8> {
-    calls::open(&record(of), symbols, marks).map_err(Refusal::number)
+    calls::open(&record(of), &mut Buffers::new(symbols, marks)).map_err(Refusal::number)
 }
 
 pub fn take(of: Record, symbols: &mut [u8], marks: &mut [u8], unit: &[u8]) -> Result<Taken, u8> {
-    calls::take(&record(of), symbols, marks, unit).map(taken).map_err(Refusal::number)
+    calls::take(&record(of), &mut Buffers::new(symbols, marks), unit).map(taken).map_err(Refusal::number)
 }
 
 pub fn close(of: Record, symbols: &mut [u8], marks: &mut [u8], words: &mut [u64], bytes: &mut [u8]) -> Result<Report, u8> {
-    calls::close(&record(of), symbols, marks, words, bytes).map(report).map_err(Refusal::number)
+    calls::close(&record(of), &mut Buffers::new(symbols, marks), words, bytes).map(report).map_err(Refusal::number)
 }

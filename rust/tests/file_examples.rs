@@ -1,0 +1,128 @@
+//! The examples that send a file, in C and in Rust: the same lines, the same exit status.
+mod programs;
+
+use std::fs;
+use std::path::{Path, PathBuf};
+use std::process::Command;
+use std::sync::OnceLock;
+
+/// The two programs.
+fn examples() -> &'static [PathBuf; 2] {
+    static BUILT: OnceLock<[PathBuf; 2]> = OnceLock::new();
+    BUILT.get_or_init(|| {
+        let text = fs::read_to_string(programs::root().join("examples/file.c")).unwrap();
+        [programs::c_program("file_examples", &text), programs::example("file")]
+    })
+}
+
+/// What a program answers: its exit status, and what it says on standard output and error.
+#[derive(Debug, PartialEq)]
+struct Answer {
+    status: Option<i32>,
+    printed: String,
+    errors: String,
+}
+
+fn answer(program: &Path, arguments: &[&str]) -> Answer {
+    let output = Command::new(program).args(arguments).output().unwrap();
+    let text = |bytes: Vec<u8>| String::from_utf8(bytes).unwrap();
+    Answer { status: output.status.code(), printed: text(output.stdout), errors: text(output.stderr) }
+}
+
+/// What both answer, each to its own arguments.
+fn answers(c: &[&str], rust: &[&str]) -> [Answer; 2] {
+    let [c_program, rust_program] = examples();
+    [answer(c_program, c), answer(rust_program, rust)]
+}
+
+/// A file of one test, which both send.
+fn sent(name: &str, length: usize) -> (String, Vec<u8>) {
+    let bytes: Vec<u8> = (0..length).map(|i| (i * i / 7) as u8).collect();
+    let path = examples()[0].with_file_name(name);
+    fs::write(&path, &bytes).unwrap();
+    (path.to_str().unwrap().to_owned(), bytes)
+}
+
+#[test]
+fn all_or_nothing_arrives() {
+    let (file, _) = sent("all", 50_000);
+    let (c2, rust2) = (["-2", "-w", "5", "-l", "0", &file], ["--code", "2", "--w", "5", "--loss", "0", &file]);
+    for (c, rust, status, blocks) in [
+        (&["-l", "0"][..], &["--loss", "0"][..], 0, 10),
+        (&["-l", "100"], &["--loss", "1"], 1, 1),
+        (&c2, &rust2, 0, 5),
+        (&["-l", "0", "-w", "1024", &file], &["--loss", "0", "--w", "1024", &file], 0, 1),
+    ] {
+        let [in_c, in_rust] = answers(c, rust);
+        assert_eq!(in_c, in_rust);
+        assert_eq!((in_c.status, in_c.errors.as_str()), (Some(status), ""));
+        assert_eq!(in_c.printed.lines().filter(|line| line.starts_with("block ")).count(), blocks, "{}", in_c.printed);
+    }
+}
+
+/// Which units are lost is each program's own.
+#[test]
+fn some_units_are_lost() {
+    for (percent, share, due) in [("15", "0.15", Some(0)), ("34", "0.34", Some(1)), ("45", "0.45", Some(1))] {
+        for Answer { status, printed, errors } in answers(&["-l", percent], &["--loss", share]) {
+            let lines: Vec<&str> = printed.lines().collect();
+            let [units, blocks @ .., last] = &lines[..] else { panic!("{printed}") };
+            assert!(units.starts_with("units: 7680 sent, ") && units.ends_with(" kept, 0 repeated, 0 refused"), "{printed}");
+            let not_whole: String =
+                (1..).zip(blocks).filter(|(_, line)| !line.contains(": whole, ")).map(|(lsc, _)| format!(" {lsc}")).collect();
+            assert!((1..).zip(blocks).all(|(lsc, line)| line.starts_with(&format!("block {lsc}: "))), "{printed}");
+            assert_eq!((status, errors.as_str(), blocks.len()), (due, "", 10), "{printed}");
+            match due {
+                Some(0) => assert_eq!(*last, "recovered: 300000 bytes, as sent"),
+                _ => assert_eq!(*last, format!("not recovered; not whole:{not_whole}")),
+            }
+            assert_eq!(not_whole.is_empty(), due == Some(0), "{printed}");
+        }
+    }
+}
+
+#[test]
+fn a_file_is_written_if_all_is_whole() {
+    // with the length, 32,760 bytes fill one block; one more begins a second
+    for (length, blocks) in [(0, 1), (1, 1), (32_760, 1), (32_761, 2)] {
+        let (file, bytes) = sent("small", length);
+        let outs = ["c", "rust"].map(|name| format!("{file}.{name}"));
+        for (percent, share, due) in [("10", "0.1", Some(0)), ("60", "0.6", Some(1))] {
+            outs.iter().for_each(|out| fs::write(out, "before").unwrap());
+            let both = answers(&["-l", percent, &file, &outs[0]], &["--loss", share, "--out", &outs[1], &file]);
+            for (Answer { status, printed, errors }, out) in both.into_iter().zip(&outs) {
+                assert_eq!((status, printed.lines().count(), errors.as_str()), (due, 1 + blocks + 1, ""), "{printed}");
+                assert!(fs::read(out).unwrap() == if due == Some(0) { &bytes[..] } else { b"before" });
+            }
+        }
+    }
+}
+
+#[test]
+fn what_else_goes_wrong() {
+    let (file, _) = sent("wrong", 10);
+    for (c, rust, said) in [
+        (&["-l", "101"][..], &["--loss", "1.01"][..], "--loss 1.01: not a number from 0 to 1"),
+        (&["-l", "-1"], &["--loss", "-1"], "--loss -1: not a number from 0 to 1"),
+        (&["-l", "x"], &["--loss", "NaN"], "--loss NaN: not a number from 0 to 1"),
+        (&["-l"], &["--loss"], "--loss needs a value"),
+        (&["-w", "0"], &["--w", "0"], "refused 2, width: W is 0 or above 1024"),
+        (&["-w", "1025"], &["--w", "1025"], "refused 2, width: W is 0 or above 1024"),
+        (&["-w", "two"], &["--w", "two"], "--w two: "),
+        (&["-x"], &["-x"], "-x is no option"),
+        (&[&file, &file, &file], &[&file, &file], "one FILE only"),
+        (&["/nothing/there"], &["/nothing/there"], "/nothing/there: "),
+    ] {
+        for Answer { status, printed, errors } in answers(c, rust) {
+            assert_eq!((status, printed.as_str(), errors.lines().count()), (Some(2), "", 1), "{errors}");
+            assert!(errors.starts_with("file: "), "{errors}");
+        }
+        let [_, in_rust] = answers(c, rust);
+        assert!(in_rust.errors.contains(said), "{}", in_rust.errors);
+    }
+    // nowhere to write
+    for Answer { status, printed, errors } in answers(&[&file, "/nothing/there"], &["--out", "/nothing/there", &file]) {
+        assert_eq!((status, errors.lines().count()), (Some(2), 1), "{errors}");
+        assert!(printed.starts_with("units: ") && !printed.contains("recovered"), "{printed}");
+    }
+}
