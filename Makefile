@@ -58,10 +58,12 @@ test-c: need-test-c $(archive) ## C examples, plainly and under valgrind; the he
 	$(CXX) $(CXXFLAGS) -Iinclude tests/header/calls.cc $(archive) -o target/calls
 	target/calls
 	$(valgrind) target/calls
-	sh tests/header/unused.sh $(CC)
+	sh tests/header/unused.sh '$(CC)'
 	sh tests/header/symbols.sh $(archive)
-# bound at the start: binding at the first call takes 2.7 KB of the caller's stack
+# memset bound at the start, and at its first call
 	$(compile) -Wl,-z,now tests/stack/stack.c $(archive) -o target/stack
+	target/stack
+	$(compile) -Wl,-z,lazy tests/stack/stack.c $(archive) -o target/stack
 	target/stack
 	$(compile) tests/stack/bound.c -o target/bound
 	objdump -dr --no-show-raw-insn $(archive) | target/bound
@@ -71,6 +73,8 @@ test-dist: need-test-dist $(archive) ## the tar of make dist, unpacked, installe
 
 test-rust: need-test-rust $(archive) target/bin/gather ## Rust tests
 	$(cargo_test)
+	$(cargo_test) --lib --no-default-features
+	$(cargo_test) --lib --no-default-features --features alloc
 
 archive: $(archive) ## the proved library for C and Rust, target/staticlib/liblipvezor.a: minutes at first, then only after a change
 	@echo "$(archive), proved by $$(cat $(archive).kit)"
@@ -82,12 +86,9 @@ soak: need-soak $(archive) target/bin/gather ## Rust tests for SECONDS (3600) wi
 bench: need-bench $(given) ## speeds, from Rust; LIPVEZOR_EARLIER=FOLDER with an earlier version's archive measures that too
 	$(cargo_given) run --offline --release --manifest-path rust/Cargo.toml --example bench
 
-bench-peers: need-bench-peers $(given) ## encode and close beside Reed-Solomon codes of ISA-L and cm256cc, where these are installed
-	@for need in isa-l.h:libisal-dev cm256cc/cm256.h:libcm256cc-dev; do \
-	    echo "#include <$${need%:*}>" | $(CXX) $(PEERFLAGS) -x c++ -E - >/dev/null 2>&1 || missing="$$missing $${need#*:}"; \
-	done; if [ -n "$$missing" ]; then echo "make bench-peers needs the Debian packages:$$missing" >&2; exit 1; fi
+bench-peers: need-bench-peers need-peers $(given) ## encode and close beside ISA-L and cm256cc (Reed-Solomon) and lcrq (RaptorQ), where these are installed
 	@mkdir -p target
-	$(CXX) $(PEERFLAGS) -Iinclude bench/peers.cc $(given) -lisal -lcm256cc -o target/peers
+	$(CXX) $(PEERFLAGS) -Iinclude bench/peers.cc $(given) -lisal -lcm256cc -llcrq -o target/peers
 	target/peers
 
 curves: need-curves $(given) ## how often a block closes whole, by how much is lost: docs/curves.csv and two figures
@@ -96,7 +97,7 @@ curves: need-curves $(given) ## how often a block closes whole, by how much is l
 dist: need-dist $(archive) ## dist/lipvezor-VERSION-x86_64-linux.tar.gz: library, header, Rust crate and examples, for use without the prover
 	@tools/pack $(archive)
 
-install: $(archive) ## library, header and pkg-config file to PREFIX (/usr/local), below DESTDIR if given
+install: need-prefix $(archive) ## library, header and pkg-config file to PREFIX (/usr/local), below DESTDIR if given
 	@$(MAKE) --no-print-directory -f tools/packed/Makefile install ARCHIVE=$(archive) PC=include/lipvezor.pc.in
 
 uninstall: ## removes what install put there
@@ -107,38 +108,52 @@ clean: ## removes all that was built: target/, rust/target/, dist/
 
 # What the targets need besides make and rt: said in one line before anything is done. Who needs rt is told when there is something to prove.
 need_format = $(firstword $(CARGO)) rustfmt
-need_clippy = $(firstword $(CARGO)) clippy
+need_clippy = $(firstword $(CARGO)) clippy cc
 need_test-c = $(firstword $(CC)) $(firstword $(CXX)) valgrind objdump
-need_test-rust = rt $(firstword $(CARGO))
+need_test-rust = rt $(firstword $(CARGO)) cc ar
 need_test-dist = $(need_dist) $(firstword $(CARGO)) $(firstword $(CC))
 need_test = $(sort $(need_format) $(need_clippy) $(need_test-c) $(need_test-rust) $(need_test-dist))
 need_soak = $(need_test-rust)
-need_bench = $(firstword $(CARGO)) $(if $(LIPVEZOR_EARLIER),objcopy)
+need_bench = $(firstword $(CARGO)) cc $(if $(LIPVEZOR_EARLIER),objcopy)
 need_bench-peers = $(firstword $(CXX))
-need_curves = $(firstword $(CARGO))
+need_curves = $(firstword $(CARGO)) cc
 need_dist = tar gzip sha256sum
 needs = $(addprefix need-,test format clippy test-c test-rust test-dist soak bench bench-peers curves dist)
-.PHONY: $(needs)
+.PHONY: $(needs) need-peers need-prefix
 $(needs): need-%:
 	@tools/need 'make $*' $(need_$*)
+
+need-peers: need-bench-peers
+	@for need in isa-l.h:libisal-dev cm256cc/cm256.h:libcm256cc-dev lcrq.h:liblcrq-dev; do \
+	    echo "#include <$${need%:*}>" | $(CXX) $(PEERFLAGS) -x c++ -E - >/dev/null 2>&1 || missing="$$missing $${need#*:}"; \
+	done; if [ -n "$$missing" ]; then echo "make bench-peers needs the Debian packages:$$missing" >&2; exit 1; fi
+
+need-prefix:
+	@$(MAKE) --no-print-directory -f tools/packed/Makefile need-prefix
+
+# an archive that LIPVEZOR_LIB_DIR names is taken as it is
+ifneq ($(LIPVEZOR_LIB_DIR),)
+$(given):
+	@echo 'LIPVEZOR_LIB_DIR is $(LIPVEZOR_LIB_DIR), and no liblipvezor.a is there (the path has no spaces)' >&2; exit 1
+endif
 
 # rt is asked only if a source is newer than what stands there, or if another kit built it; the file beside it with .kit has that kit's identity.
 # What rt builds gets the time of the start, so that an edit made meanwhile is not passed over.
 sources = $(shell tools/crates --files $(1)) $(shell ! command -v rt >/dev/null || rt version 2>&1 | cmp -s - $(2).kit || echo FORCE)
 crates = $(shell tools/crates $(1))
-begin = @tools/need '$(1)' rt && mkdir -p target && touch target/began
+begin = @tools/need 'make $(firstword $(MAKECMDGOALS))' rt && mkdir -p target && touch target/began
 end = @touch -r target/began $@ && rt version >$@.kit
 
 # rt check proves side by side what rt staticlib would prove one by one
 $(archive): $(call sources,lipvezor,$(archive))
-	$(call begin,make archive)
-	@tools/quietly archive proving $(words $(call crates,lipvezor)) \
+	$(begin)
+	@tools/quietly archive $(words $(call crates,lipvezor)) \
 	    sh -c 'rt check $(filter-out lipvezor,$(call crates,lipvezor)) && rt staticlib lipvezor'
 	$(end)
 
 target/bin/demo: $(call sources,demo,target/bin/demo)
 target/bin/gather: $(call sources,gather,target/bin/gather)
 target/bin/demo target/bin/gather:
-	$(call begin,$@)
-	@tools/quietly $(@F) proving $(words $(call crates,$(@F))) rt check $(@F)
+	$(begin)
+	@tools/quietly $(@F) $(words $(call crates,$(@F))) rt check $(@F)
 	$(end)
