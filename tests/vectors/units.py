@@ -3,7 +3,8 @@
 Run: python3 tests/vectors/units.py crates/unit_vectors/stdin crates/unit_vectors/stdout"""
 import sys
 
-CODES = {1: (768, 512, 256), 2: (3072, 2048, 1024)}          # n, k, m
+# n, k, m
+CODES = {1: (768, 512, 256), 2: (3072, 2048, 1024), 4: (640, 512, 128), 5: (2560, 2048, 512), 7: (576, 512, 64), 8: (2304, 2048, 256)}
 
 
 class Refused(Exception):
@@ -256,10 +257,10 @@ for _ in range(400):
     reads(bytes(data))
 
 # writes: what is admitted, and each refusal at its border
-for code in (0, 1, 2, 3, 4, 65536):
+for code in (*range(11), 65536):
     for w in (0, 1, 2, 127, 128, 1023, 1024, 1025, 65536):
         sizes(code, w)
-for code in (1, 2):
+for code in CODES:
     n, k, m = CODES[code]
     for w in (1, 2, 16, 127, 128, 129, 1024):
         for lwc in (1, k, k + 1, n):
@@ -277,21 +278,22 @@ for code in (1, 2):
         writes(code, 16, 1, 7, 1, symbols, good)
     for w in (0, 1024, 1025):
         writes(code, w, 1, 7, 1, w, unit_bytes(code, w))
-for code in (0, 3, 4, 65537):
+for code in (0, 3, 6, 9, 10, 65537, 65540):
     writes(code, 16, 1, 7, 1, 16, 30)
 # several at once: the first of the table
-for wrong in range(64):
-    writes(3 if wrong & 1 else 1, 1025 if wrong & 2 else 16, 8 if wrong & 4 else 1, 7, 769 if wrong & 16 else 1,
-           15 if wrong & 32 else 16, 29 if wrong & 8 else 30)
+for none, code in ((3, 1), (6, 7)):
+    for wrong in range(64):
+        writes(none if wrong & 1 else code, 1025 if wrong & 2 else 16, 8 if wrong & 4 else 1, 7, CODES[code][0] + 1 if wrong & 16 else 1,
+               15 if wrong & 32 else 16, 29 if wrong & 8 else 30)
 
 # show: the ends of both buffers, and each refusal at its border
-for code, w in ((1, 1), (1, 2), (1, 5), (2, 1)):
+for code, w in ((1, 1), (1, 2), (2, 1), (4, 5), (5, 1), (7, 2), (8, 1)):
     n, k, m = CODES[code]
     for lwc in (0, 1, 2, k - 1, k, k + 1, k + 2, n - 1, n, n + 1, 65536):
         shows(code, w, k * w, m * w, lwc)
     for infos, parities in ((k * w - 1, m * w), (k * w + 1, m * w), (k * w, m * w - 1), (k * w, m * w + 1), (0, 0), (k * w + 1, m * w - 1)):
         shows(code, w, infos, parities, 1)
-for code, w in ((0, 1), (3, 1), (1, 0), (1, 1025), (65537, 1)):
+for code, w in ((0, 1), (3, 1), (6, 1), (9, 1), (1, 0), (1, 1025), (65537, 1)):
     shows(code, w, 512, 256, 1)
 
 with open(sys.argv[1], "wb") as f:

@@ -3,16 +3,19 @@
 use mathlib.Core.Path.{_≡_, refl, sym, ap, ap₂, _∙_}
 use mathlib.Core.Bool.{Bool, false, _||_}
 use mathlib.Core.List.{List, [], _∷_}
-use Prim.Native.Nat.{ℕ, zero, suc, _*_, _≤_}
+use Prim.Native.Nat.{ℕ, zero, suc, _+_, _*_, _≤_}
 use lib.ListN.{getD}
 use borrow.Author.Tests.{le-ltb}
 use Rattle.algebra.specs.Staircase.{staircase}
 use Rattle.ccsds.specs.Codes.{nOf}
 use Rattle.ccsds.specs.Tables.{codeOf}
 use Rattle.ccsds.specs.RefusalTable as refusal
-use Rattle.ccsds.specs.Refusals.{applies, firstIn, firstOf, labelConditions, wrongCode, wrongWidth, wrongLabel, wrongLength, bytesOf}
+use Rattle.ccsds.specs.Refusals.{applies, firstIn, firstOf, labelConditions, wrongCode, wrongWidth, wrongLabel, wrongLength}
+use Rattle.ccsds.specs.inner.Layout.{LayoutOf}
+use Rattle.ccsds.specs.declared.tables.Layout.{Layout}
 use Rattle.ccsds.proofs.RefusalOrder.{chain, in-order, part-refuses, part-passed, parts-none, first-is, first-on, first-end, first-none}
-use Rattle.ccsds.proofs.Refusals.{or-false, length-right, length-same, length-wrong, bytes-right, label-none}
+use Rattle.ccsds.proofs.Refusals.{or-false, length-right, length-same, length-wrong, label-none}
+use Rattle.ccsds.proofs.UnitLaws.{n-of}
 use Rattle.block.specs.Block.{checks, wrongBuffers, blockRefusal}
 use Rattle.block.specs.Status.{wrongMark}
 use Rattle.block.specs.Close.{wrongMarks}
@@ -23,41 +26,43 @@ pub checks-n : (b : Block) → checks b .n ≡ nOf (codeOf (b .code))
 unfolding checks staircase
 checks-n b = refl
 
+-- by its layout
+pub checks-of : (b : Block) {l : Layout} → LayoutOf (codeOf (b .code)) l → l .k + l .m ≡ checks b .n
+checks-of b g = n-of g ∙ sym (checks-n b)
+
 pub buffers-right : (b : Block) (symbols marks : ℕ) → symbols ≡ checks b .n * b .w → marks ≡ checks b .n → wrongBuffers b symbols marks ≡ false
 unfolding wrongBuffers
 buffers-right b symbols marks e f = ap₂ _||_ (length-same symbols _ e) (length-same marks _ f)
 
 -- ---- by what a check of the label's conditions answered
 
-module _ (b : Block) (symbols marks n : ℕ) (e : n ≡ firstOf (labelConditions (b .code) (b .w) (b .protocol) (b .lsc))) where
-  pub label-refused : (n ≡ 0 → ⊥) → n ≡ blockRefusal b symbols marks
+module _ (b : Block) (symbols marks r : ℕ) (e : r ≡ firstOf (labelConditions (b .code) (b .w) (b .protocol) (b .lsc))) where
+  pub label-refused : (r ≡ 0 → ⊥) → r ≡ blockRefusal b symbols marks
   unfolding blockRefusal
-  label-refused h = part-refuses (labelConditions (b .code) (b .w) (b .protocol) (b .lsc)) _ refl refl n e h
+  label-refused h = part-refuses (labelConditions (b .code) (b .w) (b .protocol) (b .lsc)) _ refl refl r e h
 
-  module _ (z : n ≡ 0) where
+  -- the buffers, by the n that the code computes
+  module _ (z : r ≡ 0) {n : ℕ} (q : n ≡ checks b .n) where
     on : blockRefusal b symbols marks ≡ chain ((refusal.length, wrongBuffers b symbols marks) ∷ [])
     unfolding blockRefusal
-    on = part-passed (labelConditions (b .code) (b .w) (b .protocol) (b .lsc)) _ refl refl n e z
+    on = part-passed (labelConditions (b .code) (b .w) (b .protocol) (b .lsc)) _ refl refl r e z
 
-    -- the buffers, by the lengths that the code computes
-    size : bytesOf (nOf (codeOf (b .code))) (b .w) ≡ checks b .n * b .w
-    size =
-        bytes-right (nOf (codeOf (b .code))) (b .w) (label-none (b .code) (b .w) (b .protocol) (b .lsc) (sym (in-order _ refl) ∙ sym e ∙ z) .1)
-        ∙ ap (λ (n : ℕ). n * b .w) (sym (checks-n b))
+    size : n * b .w ≡ checks b .n * b .w
+    size = ap (λ (n : ℕ). n * b .w) q
 
-    pub symbols-refused : (symbols ≡ bytesOf (nOf (codeOf (b .code))) (b .w) → ⊥) → 4 ≡ blockRefusal b symbols marks
+    pub symbols-refused : (symbols ≡ n * b .w → ⊥) → 4 ≡ blockRefusal b symbols marks
     unfolding wrongBuffers
     symbols-refused h =
-        sym (on ∙ first-is _ _ _ (ap (λ (t : Bool). t || wrongLength marks (checks b .n)) (length-wrong symbols _ (λ q. h (q ∙ sym size)))))
+        sym (on ∙ first-is _ _ _ (ap (λ (t : Bool). t || wrongLength marks (checks b .n)) (length-wrong symbols _ (λ i. h (i ∙ sym size)))))
 
-    module _ (right : symbols ≡ bytesOf (nOf (codeOf (b .code))) (b .w)) where
-      pub marks-refused : (marks ≡ nOf (codeOf (b .code)) → ⊥) → 4 ≡ blockRefusal b symbols marks
+    module _ (right : symbols ≡ n * b .w) where
+      pub marks-refused : (marks ≡ n → ⊥) → 4 ≡ blockRefusal b symbols marks
       unfolding wrongBuffers
       marks-refused h =
-          sym (on ∙ first-is _ _ _ (ap₂ _||_ (length-same symbols _ (right ∙ size)) (length-wrong marks (checks b .n) (λ q. h (q ∙ checks-n b)))))
+          sym (on ∙ first-is _ _ _ (ap₂ _||_ (length-same symbols _ (right ∙ size)) (length-wrong marks (checks b .n) (λ i. h (i ∙ sym q)))))
 
-      pub none-refused : marks ≡ nOf (codeOf (b .code)) → 0 ≡ blockRefusal b symbols marks
-      none-refused h = sym (on ∙ first-on _ _ _ (buffers-right b symbols marks (right ∙ size) (h ∙ sym (checks-n b))) ∙ first-end)
+      pub none-refused : marks ≡ n → 0 ≡ blockRefusal b symbols marks
+      none-refused h = sym (on ∙ first-on _ _ _ (buffers-right b symbols marks (right ∙ size) (h ∙ q)) ∙ first-end)
 
 -- ---- where none applies
 

@@ -6,8 +6,6 @@ use mathlib.Core.List.{List}
 use Prim.Native.Nat.{ℕ, zero, suc, _-_, _≤_, _<_}
 use native.Mathlib.Omega.{arith}
 use lib.ListN.{length, getD, drop, length-drop}
-use Rattle.ccsds.specs.Codes.{nOf}
-use Rattle.ccsds.specs.Tables.{codeOf}
 use Rattle.ccsds.specs.RefusalTable as refusal
 use Rattle.ccsds.specs.Refusals.{wrongLength, wrongPosition, Outcome, refused, answered, outcome, _⟫_}
 use Rattle.ccsds.specs.Reader.{Parts, readUnit}
@@ -17,7 +15,6 @@ use Rattle.block.specs.Block.{checks, blockRefusal}
 use Rattle.block.specs.Status.{wrongMark, Status, statusOf}
 use Rattle.block.specs.Take.{wrongParameters, foreign, unitRefusal, AdmittedUnit, admission, TakeResult, Take, unchanged, takeAt, takeSymbol, takeAdmitted, takeBy, takeOf}
 use Rattle.block.specs.declared.Block.{Block}
-use Rattle.block.proofs.BlockRefusal.{checks-n}
 
 -- ---- the refusals of a unit, row by row
 
@@ -32,15 +29,11 @@ module _ (b : Block) (p : Parts) (len : ℕ) where
     foreign-refused h = sym (in-order _ refl ∙ first-on _ _ _ parameters ∙ first-is _ _ _ h)
 
     module _ (own : foreign b p ≡ false) where
-      pub position-refused : wrongPosition (nOf (codeOf (b .code))) (p .lwc) ≡ true → 9 ≡ unitRefusal b p len
+      pub position-refused : wrongPosition (checks b .n) (p .lwc) ≡ true → 9 ≡ unitRefusal b p len
       unfolding unitRefusal
-      position-refused h =
-          sym (in-order _ refl ∙ first-on _ _ _ parameters ∙ first-on _ _ _ own ∙ first-is _ _ _ (ap (λ (n : ℕ). wrongPosition n (p .lwc)) (checks-n b) ∙ h))
+      position-refused h = sym (in-order _ refl ∙ first-on _ _ _ parameters ∙ first-on _ _ _ own ∙ first-is _ _ _ h)
 
-      module _ (position : wrongPosition (nOf (codeOf (b .code))) (p .lwc) ≡ false) where
-        inside : wrongPosition (checks b .n) (p .lwc) ≡ false
-        inside = ap (λ (n : ℕ). wrongPosition n (p .lwc)) (checks-n b) ∙ position
-
+      module _ (inside : wrongPosition (checks b .n) (p .lwc) ≡ false) where
         pub symbol-refused : (len - p .symbol ≡ b .w → ⊥) → 10 ≡ unitRefusal b p len
         unfolding unitRefusal
         symbol-refused h =

@@ -3,15 +3,19 @@ use crate::Block;
 use ccsds::checks;
 use ccsds::code::Code;
 use ccsds::refusal;
+use ccsds::tables;
+use ccsds::tables::Layout;
 ghost use mathlib.Core.Path.{_≡_};
+ghost use Rattle.ccsds.specs.Tables.{codeOf};
+ghost use Rattle.ccsds.specs.inner.Layout.{LayoutOf};
 ghost use Rattle.block.specs.Block.{blockRefusal};
 
-// 1 to 4, or 0: of a record and the lengths of its buffers.
-pub fn check_block(b: Block, symbolsLength: usize, marksLength: usize) -> u8
+// 1 to 4, or 0: of a record, its code's numbers and the lengths of its buffers.
+pub fn check_block(b: Block, l: Layout, symbolsLength: usize, marksLength: usize) -> u8
+    requires { ⌜ LayoutOf (codeOf (b .code)) l ⌝ }
     ensures { λ r. ⌜ r ≡ blockRefusal b symbolsLength marksLength ⌝ }
 {
-    let code = Code { number: b.code };
-    if !code.known() {
+    if !tables::is_code(b.code, l) {
         return refusal::CODE;
     }
     if Code::wrong_width(b.w) {
@@ -20,10 +24,11 @@ pub fn check_block(b: Block, symbolsLength: usize, marksLength: usize) -> u8
     if checks::wrong_label(b.protocol, b.lsc) {
         return refusal::LABEL;
     }
-    if symbolsLength != code.block_bytes(b.w) {
+    let n = l.k + l.m;
+    if symbolsLength != n * b.w {
         return refusal::LENGTH;
     }
-    if marksLength != code.n() {
+    if marksLength != n {
         return refusal::LENGTH;
     }
     0

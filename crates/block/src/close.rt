@@ -4,6 +4,7 @@ use crate::checks;
 use crate::status;
 use ccsds::code::Code;
 use ccsds::refusal;
+use ccsds::tables;
 ghost use mathlib.Core.Path.{_≡_};
 ghost use Prim.Native.Nat.{ℕ, _<_, _≤_};
 ghost use lib.ListN.{length, getD};
@@ -13,6 +14,7 @@ ghost use Rattle.decoder.specs.Outcome.{verdictBy};
 ghost use Rattle.block.specs.Status.{missingMark, heardMark, filledMark};
 ghost use Rattle.block.specs.Close.{wrongMarks, reportOf, agreeingWords, symbolsAfter, marksAfter, closeRefusal, closeOf, verdictAs, reportAs, closedAs};
 ghost use Rattle.block.specs.inner.Ready.{Ready};
+ghost use Rattle.ccsds.specs.inner.Layout.{maxN};
 
 pub enum Verdict {
     Whole,
@@ -55,7 +57,8 @@ fn check_close(b: Block, symbols: &[u8], marks: &[u8], work_words: &[u64], work_
     ensures { λ r. ⌜ r ≡ closeRefusal b (now (symbols .entry)) (now (marks .entry)) (now («work_words» .entry)) (now («work_bytes» .entry)) ⌝ }
 {
     let code = Code { number: b.code };
-    let earlier = checks::check_block(b, symbols.len(), marks.len());
+    let l = tables::layout_of(b.code);
+    let earlier = checks::check_block(b, l, symbols.len(), marks.len());
     if earlier != 0 {
         return earlier;
     }
@@ -79,7 +82,7 @@ struct Counts {
 
 // In 16 bits, so that eight are counted at a time.
 fn count_marks(marks: &[u8]) -> Counts
-    requires { ⌜ length (now marks) ≤ 3072 ⌝ }
+    requires { ⌜ length (now marks) ≤ maxN ⌝ }
     ensures { λ r. ⌜ (r .heard ≡ count heardMark (now (marks .entry))) × (r .filled ≡ count filledMark (now (marks .entry))) ⌝ }
 {
     let mut heard: u16 = 0;
@@ -114,7 +117,7 @@ fn verdict_by(ok: bool, left: usize) -> Verdict
 
 // The report, from the marks afterwards.
 fn make_report(ok: bool, marks: &[u8]) -> Report
-    requires { ⌜ (length (now marks) ≤ 3072) × ((i : ℕ) → i < length (now marks) → getD (now marks) i 0 ≤ 2) ⌝ }
+    requires { ⌜ (length (now marks) ≤ maxN) × ((i : ℕ) → i < length (now marks) → getD (now marks) i 0 ≤ 2) ⌝ }
     ensures { λ r. ⌜ reportAs r ≡ reportOf (verdictBy ok (count missingMark (now (marks .entry)))) (now (marks .entry)) ⌝ }
 {
     let counts = count_marks(marks);
@@ -152,10 +155,10 @@ fn decode(
 }
 
 // What the decoder is told of each position, before anything is told.
-fn blank() -> [u8; 3072]
-    ensures { λ r. ⌜ length r ≡ 3072 ⌝ }
+fn blank() -> [u8; Code::MAX_N]
+    ensures { λ r. ⌜ length r ≡ maxN ⌝ }
 {
-    [0u8; 3072]
+    [0u8; Code::MAX_N]
 }
 
 // Closes the block: the verdict with its counts, or a refusal, which changes nothing. The work buffers may hold anything.

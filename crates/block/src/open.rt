@@ -1,6 +1,7 @@
 // Open.
 use crate::Block;
 use crate::checks;
+use ccsds::tables;
 ghost use mathlib.Core.Path.{_≡_};
 ghost use Rattle.block.specs.Open.{openOf, openedAs};
 
@@ -16,7 +17,8 @@ pub fn open(b: Block, symbols: &mut [u8], marks: &mut [u8]) -> Opened
     ensures symbols { λ _. ⌜ now (symbols .exit) ≡ openOf b (now (symbols .entry)) (now (marks .entry)) .symbols ⌝ }
     ensures marks { λ _. ⌜ now (marks .exit) ≡ openOf b (now (symbols .entry)) (now (marks .entry)) .marks ⌝ }
 {
-    let refusal = checks::check_block(b, symbols.len(), marks.len());
+    let l = tables::layout_of(b.code);
+    let refusal = checks::check_block(b, l, symbols.len(), marks.len());
     if refusal != 0 {
         return Opened::Refused(refusal);
     }

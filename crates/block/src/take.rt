@@ -3,17 +3,21 @@ use crate::Block;
 use crate::checks;
 use crate::status;
 use crate::status::Status;
-use ccsds::code::Code;
 use ccsds::reader::Extension;
 use ccsds::reader::UnitParts;
 use ccsds::reader::UnitRead;
 use ccsds::refusal;
+use ccsds::tables;
+use ccsds::tables::Layout;
 use unit_claims::expected::Expected;
 ghost use mathlib.Core.Path.{_≡_};
 ghost use Prim.Native.Nat.{_<_, _≤_, _+_, _*_};
 ghost use lib.ListN.{length};
+ghost use Rattle.ccsds.specs.Tables.{codeOf};
 ghost use Rattle.ccsds.specs.Refusals.{answered};
 ghost use Rattle.ccsds.specs.Reader.{extensionAs, readUnit};
+ghost use Rattle.ccsds.specs.inner.Compact.{Compact};
+ghost use Rattle.ccsds.specs.inner.Layout.{LayoutOf};
 ghost use Rattle.block.specs.Take.{wrongParameters, foreign, unitRefusal, admission, takeSymbol, takeOf, takenAs};
 ghost use Rattle.block.specs.inner.Steps.{partsAs, admittedAs};
 
@@ -25,20 +29,20 @@ pub enum Taken {
 }
 
 // 7, parameters.
-fn wrong_parameters(b: Block, x: Extension) -> bool
+fn wrong_parameters(b: Block, l: Layout, x: Extension) -> bool
+    requires { ⌜ LayoutOf (codeOf (b .code)) l ⌝ }
     ensures { λ r. ⌜ r ≡ wrongParameters b (extensionAs x) ⌝ }
 {
     let Extension::Coding(p) = x else {
         return true;
     };
-    let code = Code { number: b.code };
     if p.w != b.w {
         return true;
     }
-    if p.k != code.k() {
+    if p.k != l.k {
         return true;
     }
-    if p.n != code.n() {
+    if p.n != l.k + l.m {
         return true;
     }
     p.seed != 0
@@ -55,19 +59,19 @@ fn is_foreign(b: Block, p: UnitParts) -> bool
 }
 
 // 7 to 10, or 0: of a unit of `len` bytes.
-fn check_unit(b: Block, p: UnitParts, len: usize) -> u8
+fn check_unit(b: Block, l: Layout, p: UnitParts, len: usize) -> u8
+    requires { ⌜ LayoutOf (codeOf (b .code)) l ⌝ }
     requires { ⌜ p .symbol ≤ len ⌝ }
     ensures { λ r. ⌜ r ≡ unitRefusal b (partsAs p) len ⌝ }
 {
     let x = p.coding;
-    let code = Code { number: b.code };
-    if wrong_parameters(b, x) {
+    if wrong_parameters(b, l, x) {
         return refusal::PARAMETERS;
     }
     if is_foreign(b, p) {
         return refusal::FOREIGN;
     }
-    if code.wrong_position(p.lwc) {
+    if ccsds::checks::wrong_position(l.k + l.m, p.lwc) {
         return refusal::POSITION;
     }
     if len - p.symbol != b.w {
@@ -83,11 +87,12 @@ enum Admitted {
 }
 
 // Whether the block admits a unit that says p.
-fn admit_parts(b: Block, p: UnitParts, unit: &[u8]) -> Admitted
+fn admit_parts(b: Block, l: Layout, p: UnitParts, unit: &[u8]) -> Admitted
+    requires { ⌜ LayoutOf (codeOf (b .code)) l ⌝ }
     requires { ⌜ readUnit (now unit) ≡ answered (partsAs p) ⌝ }
     ensures { λ r. ⌜ admittedAs (now (unit .entry)) r ≡ admission b (now (unit .entry)) ⌝ }
 {
-    let refusal = check_unit(b, p, unit.len());
+    let refusal = check_unit(b, l, p, unit.len());
     if refusal != 0 {
         return Admitted::Refused(refusal);
     }
@@ -95,15 +100,17 @@ fn admit_parts(b: Block, p: UnitParts, unit: &[u8]) -> Admitted
 }
 
 // Whether the block admits a unit. One that is as the block's sender writes it is read the quick way.
-fn admit(b: Block, unit: &[u8]) -> Admitted
+fn admit(b: Block, l: Layout, unit: &[u8]) -> Admitted
+    requires { ⌜ LayoutOf (codeOf (b .code)) l ⌝ }
+    requires { ⌜ Compact (b .w) (l .k) (l .k + l .m) × (b .protocol ≤ 7) ⌝ }
     ensures { λ r. ⌜ admittedAs (now (unit .entry)) r ≡ admission b (now (unit .entry)) ⌝ }
 {
-    if let Expected::Parts(p) = unit_claims::expected::read(b.code, b.w, b.protocol, b.lsc, unit) {
-        return admit_parts(b, p, unit);
+    if let Expected::Parts(p) = unit_claims::expected::read(l, b.w, b.protocol, b.lsc, unit) {
+        return admit_parts(b, l, p, unit);
     }
     match ccsds::reader::read_unit(unit) {
         UnitRead::Refused(number) => Admitted::Refused(number),
-        UnitRead::Read(p) => admit_parts(b, p, unit),
+        UnitRead::Read(p) => admit_parts(b, l, p, unit),
     }
 }
 
@@ -149,11 +156,12 @@ pub fn take(b: Block, symbols: &mut [u8], marks: &mut [u8], unit: &[u8]) -> Take
     ensures symbols { λ _. ⌜ now (symbols .exit) ≡ takeOf b (now (symbols .entry)) (now (marks .entry)) (now (unit .entry)) .symbols ⌝ }
     ensures marks { λ _. ⌜ now (marks .exit) ≡ takeOf b (now (symbols .entry)) (now (marks .entry)) (now (unit .entry)) .marks ⌝ }
 {
-    let refusal = checks::check_block(b, symbols.len(), marks.len());
+    let l = tables::layout_of(b.code);
+    let refusal = checks::check_block(b, l, symbols.len(), marks.len());
     if refusal != 0 {
         return Taken::Refused(refusal);
     }
-    match admit(b, unit) {
+    match admit(b, l, unit) {
         Admitted::Refused(number) => Taken::Refused(number),
         Admitted::At(position, start) => take_symbol(b, symbols, marks, position, &unit[start..]),
     }

@@ -1,6 +1,6 @@
 -- The lengths of a unit and its parts, and what is known where a unit can be written.
 -- Assumes nothing.
-use mathlib.Core.Path.{_≡_, ap, refl, sym, _∙_}
+use mathlib.Core.Path.{_≡_, ap, ap₂, refl, sym, _∙_}
 use mathlib.Core.Bool.{false}
 use mathlib.Core.List.{List}
 use Prim.Native.Nat.{ℕ, _+_, _≤_, _<_}
@@ -12,6 +12,8 @@ use Rattle.ccsds.specs.RefusalTable as refusal
 use Rattle.ccsds.specs.Refusals.{labelConditions, wrongCode, wrongWidth, wrongLength, wrongPosition}
 use Rattle.wire.specs.Sdnv.{sdnvBytes}
 use Rattle.ccsds.specs.inner.Compact.{Compact}
+use Rattle.ccsds.specs.inner.Layout.{LayoutOf}
+use Rattle.ccsds.specs.declared.tables.Layout.{Layout}
 use Rattle.ccsds.specs.Writer.{headerOf, valueBytes, extensionOf, unitOf, symbolStart, unitLength, unitBytes, writeRefusal}
 use Rattle.ccsds.proofs.RefusalOrder.{in-order, parts-none, first-none}
 use Rattle.ccsds.proofs.Refusals.{code-known, width-right, label-right, length-right, position-right, label-none}
@@ -28,10 +30,10 @@ value-compact w k n c =
     omega (arith, value-length w k n, two-long k (c .two-k), two-long n (c .two-n), ap length (in-one 0 (omega arith)))
 
 -- as they are in every code
-pub compact-of : (number w : ℕ) → Known number → w ≤ 1024 → Compact w (codeOf number .k) (nOf (codeOf number))
-compact-of number w h l =
+pub compact-of : (number w : ℕ) {l : Layout} → LayoutOf (codeOf number) l → Known number → w ≤ 1024 → Compact w (l .k) (l .k + l .m)
+compact-of number w g h q =
     let v = valid-of number h in
-    record { few-w = omega arith; two-k = (v .large-k, omega (arith, v .few)); two-n = (omega (arith, v .large-k), omega (arith, v .few)) }
+    record { few-w = omega arith; two-k = (omega (arith, v .large-k, g .k), omega (arith, g .few)); two-n = (omega (arith, v .large-k, g .k), omega (arith, g .few)) }
 
 pub value-most : (w k n : ℕ) → length (valueBytes w k n) ≤ 20
 value-most w k n = omega (arith, value-length w k n, most-five w, most-five k, most-five n, most-five 0)
@@ -47,6 +49,18 @@ header-length protocol lsc lwc = refl
 pub unit-length : (c : Params) (w protocol lsc lwc : ℕ) (symbol : List ℕ) → length (unitOf c w protocol lsc lwc symbol) ≡ symbolStart c w + length symbol
 unfolding unitOf
 unit-length c w protocol lsc lwc symbol = simp length-append (omega (arith, header-length protocol lsc lwc))
+
+-- a code's n and the extension of its units, by its layout
+module _ {c : Params} {l : Layout} (g : LayoutOf c l) where
+  pub n-of : l .k + l .m ≡ nOf c
+  n-of = ap₂ _+_ (g .k) (g .m)
+
+  pub extension-of : (w : ℕ) → extensionOf w (l .k) (l .k + l .m) ≡ extensionOf w (c .k) (nOf c)
+  extension-of w = ap₂ (extensionOf w) (g .k) n-of
+
+  pub length-of : (w : ℕ) → 6 + length (extensionOf w (l .k) (l .k + l .m)) + w ≡ unitLength c w
+  unfolding unitLength
+  length-of w = ap (λ (x : List ℕ). 6 + length x + w) (extension-of w)
 
 -- the size of the output, for a code and a width that are not refused
 pub unit-right : (number w : ℕ) → wrongCode number ≡ false → wrongWidth w ≡ false → unitBytes number w ≡ unitLength (codeOf number) w

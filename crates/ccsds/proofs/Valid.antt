@@ -13,7 +13,7 @@ use lib.Dec.{T, lit<, lit≤, eqb, eqb→eq, ltb, ltb→lt, leb, leb→le, leb·
 use lib.ListN.{length, getD}
 use borrow.Author.Tests.{eq-eqb, ne-eqb, eqb-true, lt-ltb, le-ltb}
 use Rattle.ccsds.specs.Codes.{Params, nOf, rowOf, checkRowOf, hits, touches}
-use Rattle.ccsds.specs.Tables.{codeOf, codeIn, codes, isCode, numberIn, Known, c0, c1, c2, rows1, rows2}
+use Rattle.ccsds.specs.Tables.{codeOf, codeIn, codes, isCode, numberIn, Known, c0, c1, c2, c4, c5, c7, c8, rows1, rows2, rows4, rows5, rows7, rows8}
 use Rattle.ccsds.proofs.Table.{every, at, both-left, both-right}
 use Rattle.algebra.proofs.Sums.{odd, odd-ext, odd-none, odd-xor}
 
@@ -73,7 +73,7 @@ valid c t =
 
 -- every code passes
 all-pass : T (every (λ i p. passes (p .1)) 0 codes)
-unfolding codes c1 c2 rows1 rows2 hits
+unfolding codes c1 c2 c4 c5 c7 c8 rows1 rows2 rows4 rows5 rows7 rows8 hits
 all-pass = tt
 
 -- a test that every code passes
@@ -111,6 +111,20 @@ few-in (p ∷ ps) i n t =
 pub few-of : (n : ℕ) → nOf (codeOf n) ≤ 3072
 unfolding codeOf
 few-of n = few-in codes 0 n all-pass
+
+-- a number that is no code's has none
+none-in : (ps : List (ℕ × Params)) (n : ℕ) → numberIn ps n ≡ false → nOf (codeIn ps n) ≡ 0
+unfolding numberIn codeIn c0
+none-in [] n h = refl
+none-in (p ∷ ps) n h = go (eqb n (p .0)) h (none-in ps n)
+  where
+    go : (b : Bool) → (b || numberIn ps n) ≡ false → (numberIn ps n ≡ false → nOf (codeIn ps n) ≡ 0) → nOf (cond b (p .1) (codeIn ps n)) ≡ 0
+    go true h r = absurd (false≢true (sym h))
+    go false h r = r h
+
+pub none-of : (n : ℕ) → isCode n ≡ false → nOf (codeOf n) ≡ 0
+unfolding codeOf isCode
+none-of n h = none-in codes n h
 
 -- a is not 0, since q * a is m
 pub some-a : (c : Params) → Valid c → 0 < c .a

@@ -2,7 +2,7 @@
 use crate::code::Code;
 use crate::refusal;
 ghost use mathlib.Core.Path.{_≡_};
-ghost use Rattle.ccsds.specs.Refusals.{firstOf, codeConditions, encoderConditions, wrongLabel};
+ghost use Rattle.ccsds.specs.Refusals.{firstOf, codeConditions, encoderConditions, wrongLabel, wrongPosition};
 
 pub fn wrong_label(protocol: usize, lsc: usize) -> bool
     ensures { λ r. ⌜ r ≡ wrongLabel protocol lsc ⌝ }
@@ -14,6 +14,16 @@ pub fn wrong_label(protocol: usize, lsc: usize) -> bool
         return true;
     }
     protocol > 7
+}
+
+// Of n.
+pub fn wrong_position(n: usize, lwc: usize) -> bool
+    ensures { λ r. ⌜ r ≡ wrongPosition n lwc ⌝ }
+{
+    if lwc == 0 {
+        return true;
+    }
+    lwc > n
 }
 
 // 1 or 2, or 0.

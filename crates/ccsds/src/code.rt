@@ -1,11 +1,13 @@
 // A code by its number: table 4-1's numbers, the sizes of the buffers, and the checks of a caller's numbers. For a number that is no
 // code's every number and size is 0, and so is a size for a width that is refused.
+use crate::checks;
 use crate::tables;
 ghost use mathlib.Core.Path.{_≡_};
 ghost use Prim.Native.Nat.{_+_, _*_, _/_, _≤_};
 ghost use Rattle.ccsds.specs.Codes.{nOf};
 ghost use Rattle.ccsds.specs.Tables.{codeOf, isCode};
 ghost use Rattle.ccsds.specs.Refusals.{wrongWidth, wrongPosition, bytesOf};
+ghost use Rattle.ccsds.specs.inner.Layout.{maxN};
 
 pub struct Code {
     pub number: usize,
@@ -15,6 +17,14 @@ impl Code {
     pub const C1: Code = Code { number: 1 };
 
     pub const C2: Code = Code { number: 2 };
+
+    pub const C4: Code = Code { number: 4 };
+
+    pub const C5: Code = Code { number: 5 };
+
+    pub const C7: Code = Code { number: 7 };
+
+    pub const C8: Code = Code { number: 8 };
 
     pub const MAX_WIDTH: usize = 1024;
 
@@ -35,6 +45,27 @@ impl Code {
 
     pub const C2_WORDS: usize = Self::C2_M * (Self::C2_N / 64 + 1);
 
+    pub const C4_K: usize = 512;
+
+    pub const C4_M: usize = 128;
+
+    pub const C5_K: usize = 2048;
+
+    pub const C5_M: usize = 512;
+
+    pub const C7_K: usize = 512;
+
+    pub const C7_M: usize = 64;
+
+    pub const C8_K: usize = 2048;
+
+    pub const C8_M: usize = 256;
+
+    // The most symbols and the most parity symbols of a block: those of C2.
+    pub const MAX_N: usize = Self::C2_N;
+
+    pub const MAX_M: usize = Self::C2_M;
+
     // The number is a code's.
     pub fn known(self) -> bool
         ensures { λ r. ⌜ r ≡ isCode (self .number) ⌝ }
@@ -43,6 +74,10 @@ impl Code {
         match number {
             1 => true,
             2 => true,
+            4 => true,
+            5 => true,
+            7 => true,
+            8 => true,
             _ => false,
         }
     }
@@ -97,11 +132,7 @@ impl Code {
     pub fn wrong_position(self, lwc: usize) -> bool
         ensures { λ r. ⌜ r ≡ wrongPosition (nOf (codeOf (self .number))) lwc ⌝ }
     {
-        let n = self.n();
-        if lwc == 0 {
-            return true;
-        }
-        lwc > n
+        checks::wrong_position(self.n(), lwc)
     }
 
     // Bytes of the information buffer.
@@ -135,7 +166,7 @@ impl Code {
 
 // Bytes of so many symbols.
 fn bytes(symbols: usize, w: usize) -> usize
-    requires { ⌜ symbols ≤ 3072 ⌝ }
+    requires { ⌜ symbols ≤ maxN ⌝ }
     ensures { λ r. ⌜ r ≡ bytesOf symbols w ⌝ }
 {
     if Code::wrong_width(w) {

@@ -2,6 +2,8 @@
 use crate::checks;
 use crate::code::Code;
 use crate::refusal;
+use crate::tables;
+use crate::tables::Layout;
 use wire::copy;
 use wire::put;
 ghost use mathlib.Core.Path.{_≡_};
@@ -12,6 +14,7 @@ ghost use Rattle.ccsds.specs.Refusals.{outcome, afterwards};
 ghost use Rattle.ccsds.specs.Writer.{headerOf, valueBytes, extensionOf, unitOf, unitBytes, writeRefusal, writtenAs};
 ghost use Rattle.wire.specs.inner.Appended.{Appended};
 ghost use Rattle.ccsds.specs.inner.Compact.{Compact};
+ghost use Rattle.ccsds.specs.inner.Layout.{LayoutOf};
 
 // The length of the coding parameters' value: k and n have two bytes each in every code, and the seed has one.
 fn value_bytes(w: usize, k: usize, n: usize) -> usize
@@ -19,6 +22,15 @@ fn value_bytes(w: usize, k: usize, n: usize) -> usize
     ensures { λ r. ⌜ r ≡ length (valueBytes w k n) ⌝ }
 {
     put::sdnv_bytes(w) + 5
+}
+
+// The length of a unit with these parameters.
+fn unit_length(w: usize, k: usize, n: usize) -> usize
+    requires { ⌜ Compact w k n ⌝ }
+    ensures { λ r. ⌜ r ≡ 6 + length (extensionOf w k n) + w ⌝ }
+{
+    let value = value_bytes(w, k, n);
+    7 + put::sdnv_bytes(value) + value + w
 }
 
 impl Code {
@@ -32,8 +44,8 @@ impl Code {
         if Code::wrong_width(w) {
             return 0;
         }
-        let value = value_bytes(w, self.k(), self.n());
-        7 + put::sdnv_bytes(value) + value + w
+        let l = tables::layout_of(self.number);
+        unit_length(w, l.k, l.k + l.m)
     }
 }
 
@@ -46,6 +58,7 @@ pub enum Written {
 // The number of write's refusal, or 0.
 fn check_write(
     number: usize,
+    l: Layout,
     w: usize,
     protocol: usize,
     lsc: usize,
@@ -53,10 +66,10 @@ fn check_write(
     symbolLength: usize,
     outLength: usize,
 ) -> u8
+    requires { ⌜ LayoutOf (codeOf number) l ⌝ }
     ensures { λ r. ⌜ r ≡ writeRefusal number w protocol lsc lwc symbolLength outLength ⌝ }
 {
-    let code = Code { number };
-    if !code.known() {
+    if !tables::is_code(number, l) {
         return refusal::CODE;
     }
     if Code::wrong_width(w) {
@@ -65,11 +78,12 @@ fn check_write(
     if checks::wrong_label(protocol, lsc) {
         return refusal::LABEL;
     }
-    let size = code.unit_bytes(w);
+    let n = l.k + l.m;
+    let size = unit_length(w, l.k, n);
     if outLength != size {
         return refusal::LENGTH;
     }
-    if code.wrong_position(lwc) {
+    if checks::wrong_position(n, lwc) {
         return refusal::POSITION;
     }
     if symbolLength != w {
@@ -122,13 +136,13 @@ pub fn write(
     ensures answer { λ r. ⌜ writtenAs r ≡ outcome (writeRefusal code w protocol lsc lwc (length (now (symbol .entry))) (length (now (out .entry)))) tt ⌝ }
     ensures output { λ _. ⌜ now (out .exit) ≡ afterwards (writeRefusal code w protocol lsc lwc (length (now (symbol .entry))) (length (now (out .entry)))) (unitOf (codeOf code) w protocol lsc lwc (now (symbol .entry))) (now (out .entry)) ⌝ }
 {
-    let refusal = check_write(code, w, protocol, lsc, lwc, symbol.len(), out.len());
+    let l = tables::layout_of(code);
+    let refusal = check_write(code, l, w, protocol, lsc, lwc, symbol.len(), out.len());
     if refusal != 0 {
         return Written::Refused(refusal);
     }
-    let c = Code { number: code };
     let a = put_header(out, protocol, lsc, lwc);
-    let b = put_extension(out, a, w, c.k(), c.n());
+    let b = put_extension(out, a, w, l.k, l.k + l.m);
     copy::symbol(out, b, symbol);
     Written::Done
 }

@@ -9,9 +9,10 @@ use lib.Dec.{ltb}
 use lib.ListN.{length, getD}
 use Rattle.algebra.specs.Codeword.{byteAt}
 use Rattle.peeling.specs.States.{isKnown}
-use Rattle.peeling.specs.Plan.{kindOf}
+use Rattle.peeling.specs.Plan.{kindOf, planSize}
 use Rattle.decoder.specs.Pivots.{DeterminedIs}
 use Rattle.decoder.specs.Outcome.{Leaves}
+use Rattle.ccsds.specs.inner.Layout.{maxN}
 
 -- position i is not known, and below k
 abbrev pub missing : List ℕ → ℕ → ℕ → Bool
@@ -63,5 +64,5 @@ pub record FilledDetermined (w early words : ℕ) (l plan symbols states symbols
 pub record FillRoom (words rows plan l states : ℕ) : Type 0 where
   pub few : words ≤ 48
   pub fit : rows * (words + 1) ≤ l
-  pub plan-size : plan ≡ 9216
-  pub positions : states ≤ 3072
+  pub plan-size : plan ≡ planSize
+  pub positions : states ≤ maxN

@@ -11,15 +11,16 @@ use Rattle.algebra.specs.Codeword.{Checks, byteAt}
 use Rattle.buffers.specs.Parts.{put}
 use Rattle.elimination.specs.Bits.{rowBit}
 use Rattle.elimination.specs.Reduced.{pivotWord}
-use Rattle.peeling.specs.Plan.{kindOf, pivotOf}
+use Rattle.peeling.specs.Plan.{kindOf, pivotOf, planSize, lastPivot, firstSolved}
 use Rattle.pivot_equations.specs.Express.{dependsOn, Reads}
+use Rattle.ccsds.specs.inner.Layout.{maxN, maxM}
 
 -- pivot u is solved: reduced row i has it
 pub record Solved (w words steps rest : ℕ) (l d plan′ symbols′ : List ℕ) (u p : ℕ) : Type 0 where
   pub row : ℕ
   pub below : row < rest
   pub word : pivotWord l words (steps + row) ≡ u + 1
-  pub kind : kindOf plan′ p ≡ 4097 + (steps + row)
+  pub kind : kindOf plan′ p ≡ firstSolved + (steps + row)
   pub bytes : (b : ℕ) → b < w → byteAt w symbols′ b p ≡ getD d (row * w + b) 0
 
 -- or free: no reduced row has it, and it stays as it was
@@ -38,8 +39,8 @@ pub record Put (c : Checks) (w words steps rest pivots : ℕ) (l d plan symbols 
 
 -- r is the answer to: is every pivot solved?
 abbrev pub AllSolvedIs : List ℕ → ℕ → Bool → Type 0
-AllSolvedIs plan pivots true = (u : ℕ) → u < pivots → 4096 < kindOf plan (pivotOf plan u)
-AllSolvedIs plan pivots false = (u : ℕ) × ((u < pivots) × (kindOf plan (pivotOf plan u) ≤ 4096))
+AllSolvedIs plan pivots true = (u : ℕ) → u < pivots → lastPivot < kindOf plan (pivotOf plan u)
+AllSolvedIs plan pivots false = (u : ℕ) × ((u < pivots) × (kindOf plan (pivotOf plan u) ≤ lastPivot))
 
 -- r is the answer to: does a position of this kind depend on no pivot?
 abbrev pub DeterminedIs : List ℕ → ℕ → ℕ → ℕ → Bool → Type 0
@@ -48,17 +49,17 @@ DeterminedIs l words early kind false = (i : ℕ) × ((i < 64 * words) × (depen
 
 -- row steps + i of l, its right-hand side, and its pivot's place in the plan and in the symbols are within the arrays
 pub record PutRoom (w words steps i : ℕ) (l : List ℕ) (bytes : ℕ) (plan : List ℕ) (symbols : ℕ) : Type 0 where
-  pub size : length plan ≡ 9216
-  pub small : steps + i < 1024
+  pub size : length plan ≡ planSize
+  pub small : steps + i < maxM
   pub row : (steps + i) * (words + 1) + words < length l
   pub side : i * w + w ≤ bytes
-  pub pivot : (u : ℕ) → pivotWord l words (steps + i) ≡ u + 1 → (u < 3072) × ((pivotOf plan u < 3072) × (pivotOf plan u * w + w ≤ symbols))
+  pub pivot : (u : ℕ) → pivotWord l words (steps + i) ≡ u + 1 → (u < maxN) × ((pivotOf plan u < maxN) × (pivotOf plan u * w + w ≤ symbols))
 
 -- what row steps + i alone does: nothing, or it solves its pivot
 pub record PutOne (w words steps i : ℕ) (l d plan symbols plan′ symbols′ : List ℕ) : Type 0 where
   pub none : pivotWord l words (steps + i) ≡ 0 → (plan′ ≡ plan) × (symbols′ ≡ symbols)
   pub one : (u : ℕ) → pivotWord l words (steps + i) ≡ u + 1
-      → (plan′ ≡ set plan (pivotOf plan u) (4097 + (steps + i))) × (symbols′ ≡ put symbols (pivotOf plan u * w) d (i * w) w)
+      → (plan′ ≡ set plan (pivotOf plan u) (firstSolved + (steps + i))) × (symbols′ ≡ put symbols (pivotOf plan u * w) d (i * w) w)
 
 -- r is the answer to: does the row of len words at `at` have no pivot?
 abbrev pub NoBitsIs : List ℕ → ℕ → ℕ → Bool → Type 0
@@ -68,4 +69,4 @@ NoBitsIs l at len false = (i : ℕ) × ((i < 64 * len) × (rowBit l at i ≡ tru
 -- the row of position p is among the first `rows` rows, and if p is a solved pivot, its row has it
 pub record Readable (l plan : List ℕ) (words early rows p : ℕ) : Type 0 where
   pub reads : Reads l words early rows rows (kindOf plan p)
-  pub here : 4096 < kindOf plan p → rowBit l ((kindOf plan p - 4097) * (words + 1)) (pivotWord l words (kindOf plan p - 4097) - 1) ≡ true
+  pub here : lastPivot < kindOf plan p → rowBit l ((kindOf plan p - firstSolved) * (words + 1)) (pivotWord l words (kindOf plan p - firstSolved) - 1) ≡ true

@@ -6,8 +6,9 @@ use pivot_equations::express::Rows;
 ghost use mathlib.Core.Path.{_≡_};
 ghost use Prim.Native.Nat.{_+_, _*_, _<_, _≤_};
 ghost use lib.ListN.{length};
-ghost use Rattle.peeling.specs.Plan.{kindOf};
+ghost use Rattle.peeling.specs.Plan.{kindOf, planSize};
 ghost use Rattle.decoder.specs.Pivots.{NoBitsIs, Readable, DeterminedIs};
+ghost use Rattle.ccsds.specs.inner.Layout.{maxN};
 
 // The row of len words at `at` has no pivot.
 fn no_bits(words: &[u64], at: usize, len: usize) -> bool
@@ -27,7 +28,7 @@ fn no_bits(words: &[u64], at: usize, len: usize) -> bool
 // Position p depends on no free pivot.
 pub fn determined(r: Rows, p: usize, plan: &[u16], words: &[u64]) -> bool
     requires { ⌜ (r .packed ≤ 48) × ((r .steps + r .rest) * (r .packed + 1) ≤ length (now words)) ⌝ }
-    requires { ⌜ (p < 3072) × (length (now plan) ≡ 9216) ⌝ }
+    requires { ⌜ (p < maxN) × (length (now plan) ≡ planSize) ⌝ }
     requires { ⌜ Readable (now words) (now plan) (r .packed) (r .early) (r .steps + r .rest) p ⌝ }
     ensures { λ h. ⌜ DeterminedIs (now (words .entry)) (r .packed) (r .early) (kindOf (now (plan .entry)) p) h ⌝ }
 {

@@ -9,9 +9,10 @@ ghost use Prim.Native.Nat.{ℕ, _+_, _*_, _<_, _≤_};
 ghost use lib.ListN.{length};
 ghost use Rattle.elimination.specs.Reduced.{pivotWord};
 ghost use Rattle.encoder.specs.inner.Positions.{checks};
-ghost use Rattle.peeling.specs.Plan.{pivotOf, Unsolved};
+ghost use Rattle.peeling.specs.Plan.{pivotOf, Unsolved, planSize};
 ghost use Rattle.pivot_equations.specs.Express.{Planned};
 ghost use Rattle.decoder.specs.Pivots.{Put, PutRoom, PutOne, AllSolvedIs};
+ghost use Rattle.ccsds.specs.inner.Layout.{maxN, maxM};
 
 // Where row steps + i of the reduced rows has a pivot, its symbol is that row's right-hand side.
 fn put_one(
@@ -42,7 +43,7 @@ fn put_one(
 // The same for each of the reduced rows behind the steps.
 pub fn put(s: Shape, r: Rows, words: &[u64], bytes: &[u8], plan: &mut [u16], symbols: &mut [u8])
     requires { ⌜ Planned (checks s) (now plan) r × Unsolved (now plan) (r .pivots) ⌝ }
-    requires { ⌜ (r .packed ≤ 48) × ((r .steps + r .rest ≤ 1024) × ((r .steps + r .rest) * (r .packed + 1) ≤ length (now words))) ⌝ }
+    requires { ⌜ (r .packed ≤ 48) × ((r .steps + r .rest ≤ maxM) × ((r .steps + r .rest) * (r .packed + 1) ≤ length (now words))) ⌝ }
     requires { ⌜ (length (now symbols) ≡ checks s .n * s .w) × (r .rest * s .w ≤ length (now bytes)) ⌝ }
     requires { ⌜ ((i : ℕ) → i < r .rest → pivotWord (now words) (r .packed) (r .steps + i) ≤ r .pivots) ⌝ }
     ensures { λ _. ⌜ Put (checks s) (s .w) (r .packed) (r .steps) (r .rest) (r .pivots) (now (words .entry)) (now (bytes .entry)) (now (plan .entry)) (now (symbols .entry)) (now (plan .exit)) (now (symbols .exit)) ⌝ }
@@ -57,8 +58,8 @@ pub fn put(s: Shape, r: Rows, words: &[u64], bytes: &[u8], plan: &mut [u16], sym
 
 // Every pivot is solved.
 pub fn all_solved(s: usize, plan: &[u16]) -> bool
-    requires { ⌜ (s ≤ 3072) × (length (now plan) ≡ 9216) ⌝ }
-    requires { ⌜ ((u : ℕ) → u < s → pivotOf (now plan) u < 3072) ⌝ }
+    requires { ⌜ (s ≤ maxN) × (length (now plan) ≡ planSize) ⌝ }
+    requires { ⌜ ((u : ℕ) → u < s → pivotOf (now plan) u < maxN) ⌝ }
     ensures { λ r. ⌜ AllSolvedIs (now (plan .entry)) s r ⌝ }
 {
     let mut u = 0;

@@ -5,8 +5,10 @@ use crate::pivots;
 use ccsds::tables;
 use encoder::positions;
 use encoder::positions::Shape;
+use encoder::positions::TABLE_SIZE;
 use peeling::peel;
 use peeling::peel::Progress;
+use peeling::plan::PLAN_SIZE;
 use pivot_equations::express;
 use pivot_equations::express::Rows;
 use pivot_equations::remaining;
@@ -22,14 +24,14 @@ ghost use Rattle.elimination.specs.System.{SameSolutions};
 ghost use Rattle.elimination.specs.Reduced.{Reduced};
 ghost use Rattle.elimination.specs.Consistency.{Consistent, ConsistentIs};
 ghost use Rattle.encoder.specs.inner.Positions.{checks, Table};
-ghost use Rattle.peeling.specs.Plan.{Unsolved};
+ghost use Rattle.peeling.specs.Plan.{Unsolved, planSize};
 ghost use Rattle.peeling.specs.Values.{Peeled};
 ghost use Rattle.pivot_equations.specs.Express.{StepsExpressed, RestExpressed, Planned, Room};
 ghost use Rattle.decoder.specs.Equations.{behind, RowsRoom, Equations, Solvable, PutIn};
 ghost use Rattle.decoder.specs.Outcome.{Outcome, Decoded};
 
 // Which pivots each step's symbol and each unused check row depends on.
-fn express_all(s: Shape, r: Rows, table: &[u16; 1544], plan: &[u16], words: &mut [u64])
+fn express_all(s: Shape, r: Rows, table: &[u16; TABLE_SIZE], plan: &[u16], words: &mut [u64])
     requires { ⌜ Table s (now table) ⌝ }
     requires { ⌜ Planned (checks s) (now plan) r × Unsolved (now plan) (r .pivots) ⌝ }
     requires { ⌜ Room (checks s) r (length (now words)) ⌝ }
@@ -81,7 +83,7 @@ fn consistent_behind(r: Rows, w: usize, words: &[u64], bytes: &[u8]) -> bool
 fn reduce(
     s: Shape,
     r: Rows,
-    table: &[u16; 1544],
+    table: &[u16; TABLE_SIZE],
     plan: &[u16],
     symbols: &[u8],
     words: &mut [u64],
@@ -102,7 +104,7 @@ fn reduce(
 fn put_in(
     s: Shape,
     r: Rows,
-    table: &[u16; 1544],
+    table: &[u16; TABLE_SIZE],
     words: &[u64],
     bytes: &[u8],
     plan: &mut [u16],
@@ -120,7 +122,7 @@ fn put_in(
 fn fill(
     s: Shape,
     r: Rows,
-    table: &[u16; 1544],
+    table: &[u16; TABLE_SIZE],
     plan: &mut [u16],
     symbols: &mut [u8],
     states: &mut [u8],
@@ -146,7 +148,7 @@ fn fill(
 fn by_pivots(
     s: Shape,
     g: Progress,
-    table: &[u16; 1544],
+    table: &[u16; TABLE_SIZE],
     plan: &mut [u16],
     symbols: &mut [u8],
     states: &mut [u8],
@@ -182,7 +184,7 @@ fn by_pivots(
 fn by_steps(
     s: Shape,
     g: Progress,
-    table: &[u16; 1544],
+    table: &[u16; TABLE_SIZE],
     plan: &[u16],
     symbols: &mut [u8],
     states: &mut [u8],
@@ -201,10 +203,10 @@ fn by_steps(
 }
 
 // The plan before anything is planned.
-fn blank() -> [u16; 9216]
-    ensures { λ r. ⌜ r ≡ replicate 9216 0 ⌝ }
+fn blank() -> [u16; PLAN_SIZE]
+    ensures { λ r. ⌜ r ≡ replicate planSize 0 ⌝ }
 {
-    [0u16; 9216]
+    [0u16; PLAN_SIZE]
 }
 
 // Fills the symbols of a block that its known symbols determine, with state 2, and clears the others that are missing; false where no codeword agrees
@@ -222,6 +224,7 @@ pub fn solve(
     requires { ⌜ (length (now words) ≡ codeOf number .m * (nOf (codeOf number) / 64 + 1)) × (length (now bytes) ≡ codeOf number .m * w) ⌝ }
     ensures { λ ok. ⌜ Decoded (checksOf (codeOf number)) w (now (symbols .entry)) (now (states .entry)) (now (symbols .exit)) (now (states .exit)) ok ⌝ }
 {
+    let mut flat = positions::no_addresses();
     let l = tables::layout_of(number);
     let s = Shape {
         number: number,
@@ -230,7 +233,7 @@ pub fn solve(
     };
     let mut table = positions::blank();
     let mut plan = blank();
-    positions::lay(number, l, &mut table);
+    positions::lay(number, l, &mut flat, &mut table);
     let g = peel::peel(s, &table, states, &mut plan, symbols);
     if g.pivots == 0 {
         return by_steps(s, g, &table, &plan, symbols, states);

@@ -3,10 +3,17 @@
 use Prim.Native.Nat.{ℕ, _+_, _*_, _≤_}
 use Rattle.elimination.specs.declared.Shape.{Shape}
 
+-- the most rows, and the most words of a row without the pivot word
+abbrev pub maxRows : ℕ
+maxRows = 1024
+
+abbrev pub maxWords : ℕ
+maxWords = 48
+
 -- the rows, which are no more and no longer than elimination takes
 pub record FitsRows (s : Shape) (a : ℕ) : Type 0 where
-  pub few : s .rows ≤ 1024
-  pub short : s .words ≤ 48
+  pub few : s .rows ≤ maxRows
+  pub short : s .words ≤ maxWords
   pub within : s .rows * (s .words + 1) ≤ a
 
 -- and the right-hand side

@@ -1,11 +1,12 @@
 // Back substitution: each row gets its pivot, and that column is cleared in the other rows, whatever the order.
+use crate::MAX_ROWS;
 use crate::Shape;
 use crate::bits;
 use crate::bits::Found;
 use crate::column;
 ghost use Prim.Native.Nat.{_+_, _*_, _≤_, _<_};
 ghost use lib.ListN.{length};
-ghost use Rattle.elimination.specs.Fits.{Fits};
+ghost use Rattle.elimination.specs.Fits.{Fits, maxWords};
 ghost use Rattle.elimination.specs.Bits.{rowBit};
 ghost use Rattle.elimination.specs.System.{SameSolutions};
 ghost use Rattle.elimination.specs.Reduced.{Reduced};
@@ -13,7 +14,7 @@ ghost use Rattle.elimination.specs.PivotStep.{PivotStep, PivotIs, Reduce
 
 // A pivot for the row of `words` words at `base`: `guess`, if the row has it, else its lowest unknown.
 fn choose_pivot(rows: &[u64], base: usize, words: usize, guess: usize) -> Found
-    requires { ⌜ (words ≤ 48) × (base + words ≤ length (now rows)) ⌝ }
+    requires { ⌜ (words ≤ maxWords) × (base + words ≤ length (now rows)) ⌝ }
     ensures { λ r. ⌜ PivotIs (rowBit (now (rows .entry)) base) (64 * words) r ⌝ }
 {
     if guess / 64 < words {
@@ -49,7 +50,7 @@ fn pivot_step(rows: &mut [u64], rhs: &mut [u8], s: Shape, r: usize, guess: usize
 fn reduce_row(
     rows: &mut [u64],
     rhs: &mut [u8],
-    done: &mut [u8; 1024],
+    done: &mut [u8; MAX_ROWS],
     s: Shape,
     r: usize,
     guess: usize,
@@ -68,7 +69,7 @@ fn reduce_row(
 }
 
 // The same for a row and a pivot as the forward pass has them in v.
-fn reduce_next(rows: &mut [u64], rhs: &mut [u8], done: &mut [u8; 1024], s: Shape, v: u32)
+fn reduce_next(rows: &mut [u64], rhs: &mut [u8], done: &mut [u8; MAX_ROWS], s: Shape, v: u32)
     requires { ⌜ Fits s (length (now rows)) (length (now rhs)) ⌝ }
     requires { ⌜ ReducedWhere (now done) (now rows) (s .rows) (s .words) ⌝ }
     ensures { λ _. ⌜ SameSolutions (now (rows .entry)) (now (rhs .entry)) (now (rows .exit)) (now (rhs .exit)) (s .rows) (s .words) (s .width) ⌝ }
@@ -84,8 +85,8 @@ fn reduce_next(rows: &mut [u64], rhs: &mut [u8], done: &mut [u8; 1024], s: Shape
 pub fn back_substitute(
     rows: &mut [u64],
     rhs: &mut [u8],
-    done: &mut [u8; 1024],
-    order: &[u32; 1024],
+    done: &mut [u8; MAX_ROWS],
+    order: &[u32; MAX_ROWS],
     s: Shape,
     count: usize,
 )
@@ -103,7 +104,7 @@ pub fn back_substitute(
 }
 
 // Every row that is not reduced yet.
-pub fn reduce_remaining(rows: &mut [u64], rhs: &mut [u8], done: &mut [u8; 1024], s: Shape)
+pub fn reduce_remaining(rows: &mut [u64], rhs: &mut [u8], done: &mut [u8; MAX_ROWS], s: Shape)
     requires { ⌜ Fits s (length (now rows)) (length (now rhs)) ⌝ }
     requires { ⌜ ReducedWhere (now done) (now rows) (s .rows) (s .words) ⌝ }
     ensures { λ _. ⌜ SameSolutions (now (rows .entry)) (now (rhs .entry)) (now (rows .exit)) (now (rhs .exit)) (s .rows) (s .words) (s .width) ⌝ }

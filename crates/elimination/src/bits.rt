@@ -4,6 +4,7 @@ ghost use mathlib.Core.Bool.{true};
 ghost use Prim.Native.Nat.{_+_, _*_, _/_, _≤_, _<_};
 ghost use lib.ListN.{length};
 ghost use Rattle.elimination.specs.Bits.{rowBit, LowestIs, OnlyIs};
+ghost use Rattle.elimination.specs.Fits.{maxWords};
 
 pub enum Found {
     At(usize),
@@ -21,7 +22,7 @@ pub fn bit_at(rows: &[u64], base: usize, p: usize) -> bool
 
 // The lowest unknown of the row of `words` words at `base`.
 pub fn lowest(rows: &[u64], base: usize, words: usize) -> Found
-    requires { ⌜ (words ≤ 48) × (base + words ≤ length (now rows)) ⌝ }
+    requires { ⌜ (words ≤ maxWords) × (base + words ≤ length (now rows)) ⌝ }
     ensures { λ r. ⌜ LowestIs (rowBit (now (rows .entry)) base) (64 * words) r ⌝ }
 {
     let mut i = 0;

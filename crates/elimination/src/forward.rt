@@ -1,5 +1,6 @@
 // The forward pass: each row in turn is added to the other active rows that have its pivot. It chooses rows and pivots so that few additions are
 // needed in all. Nothing is proved of how well that goes: each addition keeps the solutions.
+use crate::MAX_ROWS;
 use crate::Shape;
 use crate::active::list_active;
 use crate::active::next_active;
@@ -13,14 +14,14 @@ use crate::weights::row_weights;
 use crate::weights::sum_weight;
 ghost use Prim.Native.Nat.{_/_, _≤_, _<_};
 ghost use lib.ListN.{length};
-ghost use Rattle.elimination.specs.Fits.{Fits};
+ghost use Rattle.elimination.specs.Fits.{Fits, maxRows};
 ghost use Rattle.elimination.specs.System.{SameSolutions};
 
 // Adds row r to row v, which stands at place i of the list. Returns the place of row r, as far as it is known: i where v is r, else `place`.
 fn add_to_active(
     rows: &mut [u64],
     rhs: &mut [u8],
-    weights: &mut [u16; 1024],
+    weights: &mut [u16; MAX_ROWS],
     s: Shape,
     r: usize,
     v: u16,
@@ -44,15 +45,15 @@ fn add_to_active(
 fn clear_active(
     rows: &mut [u64],
     rhs: &mut [u8],
-    weights: &mut [u16; 1024],
-    active: &mut [u16; 1024],
+    weights: &mut [u16; MAX_ROWS],
+    active: &mut [u16; MAX_ROWS],
     count: usize,
     s: Shape,
     r: usize,
     p: usize,
 ) -> usize
     requires { ⌜ Fits s (length (now rows)) (length (now rhs)) ⌝ }
-    requires { ⌜ (p / 64 < s .words) × ((r < s .rows) × (count ≤ 1024)) ⌝ }
+    requires { ⌜ (p / 64 < s .words) × ((r < s .rows) × (count ≤ maxRows)) ⌝ }
     ensures { λ left. ⌜ left ≤ count ⌝ }
     ensures { λ _. ⌜ SameSolutions (now (rows .entry)) (now (rhs .entry)) (now (rows .exit)) (now (rhs .exit)) (s .rows) (s .words) (s .width) ⌝ }
 {
@@ -76,14 +77,14 @@ struct Step {
 fn forward_step(
     rows: &mut [u64],
     rhs: &mut [u8],
-    weights: &mut [u16; 1024],
-    active: &mut [u16; 1024],
+    weights: &mut [u16; MAX_ROWS],
+    active: &mut [u16; MAX_ROWS],
     count: usize,
     s: Shape,
     r: usize,
 ) -> Step
     requires { ⌜ Fits s (length (now rows)) (length (now rhs)) ⌝ }
-    requires { ⌜ (r < s .rows) × (count ≤ 1024) ⌝ }
+    requires { ⌜ (r < s .rows) × (count ≤ maxRows) ⌝ }
     ensures { λ t. ⌜ t .active ≤ count ⌝ }
     ensures { λ _. ⌜ SameSolutions (now (rows .entry)) (now (rhs .entry)) (now (rows .exit)) (now (rhs .exit)) (s .rows) (s .words) (s .width) ⌝ }
 {
@@ -108,15 +109,20 @@ fn forward_step(
 
 // At most one step for each row, each with a row of least weight among the active ones. Returns the number of steps, and in `order` the row and the
 // pivot of each.
-pub fn forward_pass(rows: &mut [u64], rhs: &mut [u8], order: &mut [u32; 1024], s: Shape) -> usize
+pub fn forward_pass(
+    rows: &mut [u64],
+    rhs: &mut [u8],
+    order: &mut [u32; MAX_ROWS],
+    s: Shape,
+) -> usize
     requires { ⌜ Fits s (length (now rows)) (length (now rhs)) ⌝ }
     ensures { λ r. ⌜ r ≤ s .rows ⌝ }
     ensures { λ _. ⌜ SameSolutions (now (rows .entry)) (now (rhs .entry)) (now (rows .exit)) (now (rhs .exit)) (s .rows) (s .words) (s .width) ⌝ }
 {
     let m = s.rows;
-    let mut weights = [0u16; 1024];
+    let mut weights = [0u16; MAX_ROWS];
     row_weights(rows, &mut weights, s);
-    let mut active = [0u16; 1024];
+    let mut active = [0u16; MAX_ROWS];
     let mut count = list_active(&weights, &mut active, m);
     let mut from = 0;
     let mut enough = 1;

@@ -20,6 +20,11 @@ mod forward; // the forward pass
 mod singletons; // pivots that stand in no other row
 mod back_substitution; // every other row
 
+// The most rows, and the most words of a row without the pivot word.
+pub const MAX_ROWS: usize = 1024;
+
+pub const MAX_WORDS: usize = 48;
+
 // How many rows, of how many words without the pivot word, and how many bytes of right-hand side for each.
 pub struct Shape {
     pub rows: usize,
@@ -35,9 +40,9 @@ pub fn eliminate(rows: &mut [u64], rhs: &mut [u8], s: Shape)
     ensures { λ _. ⌜ Reduced (now (rows .exit)) (s .rows) (s .words) (s .rows) ⌝ }
     ensures { λ _. ⌜ SameSolutions (now (rows .entry)) (now (rhs .entry)) (now (rows .exit)) (now (rhs .exit)) (s .rows) (s .words) (s .width) ⌝ }
 {
-    let mut order = [0u32; 1024];
+    let mut order = [0u32; MAX_ROWS];
     let count = forward_pass(rows, rhs, &mut order, s);
-    let mut done = [0u8; 1024];
+    let mut done = [0u8; MAX_ROWS];
     set_singletons(rows, &mut done, &order, s, count);
     back_substitute(rows, rhs, &mut done, &order, s, count);
     reduce_remaining(rows, rhs, &mut done, s);

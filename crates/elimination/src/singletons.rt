@@ -1,9 +1,11 @@
 // Singleton pivots: a pivot from the forward pass that stands in no other row needs no column cleared.
+use crate::MAX_ROWS;
+use crate::MAX_WORDS;
 use crate::Shape;
 use crate::bits;
 ghost use Prim.Native.Nat.{_≤_, _<_};
 ghost use lib.ListN.{length};
-ghost use Rattle.elimination.specs.Fits.{FitsRows};
+ghost use Rattle.elimination.specs.Fits.{FitsRows, maxWords};
 ghost use Rattle.elimination.specs.System.{SameCoefficients};
 ghost use Rattle.elimination.specs.PivotStep.{ReducedWhere};
 ghost use Rattle.elimination.specs.SharedUnknowns.{SharedMask, SharedMasks};
@@ -30,9 +32,9 @@ fn shared_digits(rows: &[u64], s: Shape, i: usize) -> u64
 }
 
 // The same for each word.
-fn shared_unknowns(rows: &[u64], masks: &mut [u64; 48], s: Shape)
+fn shared_unknowns(rows: &[u64], masks: &mut [u64; MAX_WORDS], s: Shape)
     requires { ⌜ FitsRows s (length (now rows)) ⌝ }
-    requires { ⌜ 48 ≤ length (now masks) ⌝ }
+    requires { ⌜ maxWords ≤ length (now masks) ⌝ }
     ensures { λ _. ⌜ SharedMasks (now (masks .exit)) (now (rows .entry)) (s .rows) (s .words) (s .words) ⌝ }
 {
     let words = s.words;
@@ -44,7 +46,13 @@ fn shared_unknowns(rows: &[u64], masks: &mut [u64; 48], s: Shape)
 }
 
 // Row and pivot as the forward pass has them in v: it becomes the row's pivot where the row has it and no other row has.
-fn set_singleton(rows: &mut [u64], done: &mut [u8; 1024], masks: &[u64; 48], s: Shape, v: u32)
+fn set_singleton(
+    rows: &mut [u64],
+    done: &mut [u8; MAX_ROWS],
+    masks: &[u64; MAX_WORDS],
+    s: Shape,
+    v: u32,
+)
     requires { ⌜ FitsRows s (length (now rows)) ⌝ }
     requires { ⌜ SharedMasks (now masks) (now rows) (s .rows) (s .words) (s .words) ⌝ }
     requires { ⌜ ReducedWhere (now done) (now rows) (s .rows) (s .words) ⌝ }
@@ -75,8 +83,8 @@ fn set_singleton(rows: &mut [u64], done: &mut [u8; 1024], masks: &[u64; 48], s: 
 // The same for each of the first `count` in `order`.
 pub fn set_singletons(
     rows: &mut [u64],
-    done: &mut [u8; 1024],
-    order: &[u32; 1024],
+    done: &mut [u8; MAX_ROWS],
+    order: &[u32; MAX_ROWS],
     s: Shape,
     count: usize,
 )
@@ -86,7 +94,7 @@ pub fn set_singletons(
     ensures { λ _. ⌜ SameCoefficients (now (rows .entry)) (now (rows .exit)) (s .words) ⌝ }
     ensures { λ _. ⌜ ReducedWhere (now (done .exit)) (now (rows .exit)) (s .rows) (s .words) ⌝ }
 {
-    let mut masks = [0u64; 48];
+    let mut masks = [0u64; MAX_WORDS];
     shared_unknowns(rows, &mut masks, s);
     let mut t = 0;
     while t < count {

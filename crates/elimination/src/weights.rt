@@ -1,15 +1,16 @@
 // The weights of the rows, by which the forward pass chooses. Nothing is proved of them, and they choose only which additions are made: after
 // additions a row's weight is an estimate. A row that is no longer active has RETIRED.
+use crate::MAX_ROWS;
 use crate::Shape;
 ghost use Prim.Native.Nat.{ℕ, _+_, _*_, _≤_};
 ghost use lib.ListN.{length};
-ghost use Rattle.elimination.specs.Fits.{FitsRows};
+ghost use Rattle.elimination.specs.Fits.{FitsRows, maxRows, maxWords};
 
 pub const RETIRED: u16 = 65535;
 
 // The number of unknowns of the row of `words` words at `base`.
 fn row_weight(rows: &[u64], base: usize, words: usize) -> usize
-    requires { ⌜ (words ≤ 48) × (base + words ≤ length (now rows)) ⌝ }
+    requires { ⌜ (words ≤ maxWords) × (base + words ≤ length (now rows)) ⌝ }
     ensures { λ r. ⌜ r ≤ 64 * words ⌝ }
 {
     let mut n = 0;
@@ -27,7 +28,7 @@ fn row_weight(rows: &[u64], base: usize, words: usize) -> usize
 }
 
 // The weight of each row, or RETIRED where it is 0.
-pub fn row_weights(rows: &[u64], weights: &mut [u16; 1024], s: Shape)
+pub fn row_weights(rows: &[u64], weights: &mut [u16; MAX_ROWS], s: Shape)
     requires { ⌜ FitsRows s (length (now rows)) ⌝ }
 {
     let m = s.rows;
@@ -52,13 +53,13 @@ struct Candidate {
 
 // The lighter of `best` and the lightest of the rows from `from` up to `to`. The first of these whose weight is at most `enough` ends the search.
 fn lightest_between(
-    weights: &[u16; 1024],
+    weights: &[u16; MAX_ROWS],
     from: usize,
     to: usize,
     enough: u16,
     best: Candidate,
 ) -> Candidate
-    requires { ⌜ to ≤ 1024 ⌝ }
+    requires { ⌜ to ≤ maxRows ⌝ }
     ensures { λ c. ⌜ ((n : ℕ) → to ≤ n → best .row ≤ n → c .row ≤ n) ⌝ }
 {
     let mut row = best.row;
@@ -82,8 +83,8 @@ fn lightest_between(
 }
 
 // A row of least weight, or the first from row `from` on, round the end, whose weight is at most `enough`; m where all are RETIRED.
-pub fn lightest_row(weights: &[u16; 1024], m: usize, from: usize, enough: u16) -> usize
-    requires { ⌜ (m ≤ 1024) × (from ≤ m) ⌝ }
+pub fn lightest_row(weights: &[u16; MAX_ROWS], m: usize, from: usize, enough: u16) -> usize
+    requires { ⌜ (m ≤ maxRows) × (from ≤ m) ⌝ }
     ensures { λ r. ⌜ r ≤ m ⌝ }
 {
     let above = lightest_between(

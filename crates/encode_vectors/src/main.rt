@@ -34,10 +34,17 @@ fn run(number: usize, w: usize, info: &mut [u8], parity: &mut [u8]) {
     encode(number, w, &mut info[0..n], &mut parity[0..m]);
 }
 
-// One width for both codes.
-fn both(w: usize, info: &mut [u8], parity: &mut [u8]) {
-    run(1, w, info, parity);
-    run(2, w, info, parity);
+// One width for the two codes of one rate.
+fn both(small: usize, large: usize, w: usize, info: &mut [u8], parity: &mut [u8]) {
+    run(small, w, info, parity);
+    run(large, w, info, parity);
+}
+
+// One width for all codes.
+fn all(w: usize, info: &mut [u8], parity: &mut [u8]) {
+    both(1, 2, w, info, parity);
+    both(4, 5, w, info, parity);
+    both(7, 8, w, info, parity);
 }
 
 const INFORMATION: usize = Code::C2_K * Code::MAX_WIDTH;
@@ -56,14 +63,16 @@ fn parity_symbols() -> [u8; PARITY] {
 fn main() {
     let mut info = information();
     let mut parity = parity_symbols();
-    both(1, &mut info, &mut parity);
-    both(2, &mut info, &mut parity);
-    both(3, &mut info, &mut parity);
-    both(16, &mut info, &mut parity);
-    both(333, &mut info, &mut parity);
-    both(1023, &mut info, &mut parity);
-    both(1024, &mut info, &mut parity);
-    both(1025, &mut info, &mut parity);
+    all(1, &mut info, &mut parity);
+    all(2, &mut info, &mut parity);
+    all(3, &mut info, &mut parity);
+    all(16, &mut info, &mut parity);
+    all(333, &mut info, &mut parity);
+    all(1023, &mut info, &mut parity);
+    all(1024, &mut info, &mut parity);
+    all(1025, &mut info, &mut parity);
     run(0, 1, &mut info, &mut parity);
     run(3, 1, &mut info, &mut parity);
+    run(6, 1, &mut info, &mut parity);
+    run(9, 1, &mut info, &mut parity);
 }

@@ -1,21 +1,27 @@
--- The table of a code, laid out by class: the turns of the loops that make it, and that it is right, tested once for each code.
+-- The table of a code, laid out by class: the turns of the loops that make it, and that every class then stands in it, if the classes have
+-- no more entries than there is room for, which is tested once for each code.
 -- Assumes nothing.
-use mathlib.Core.Path.{_≡_, refl, sym, ap, ap₂, _∙_, subst}
-use mathlib.Core.Bool.{Bool, true, false, _&&_, cond}
-use mathlib.Core.List.{List, []}
+use mathlib.Core.Path.{_≡_, refl, sym, ap, ap₂, _∙_, subst, subst⁻¹}
+use mathlib.Core.Bool.{Bool, true, false, _&&_, cond, false≢true}
+use mathlib.Core.Logic.{_≢_}
+use mathlib.Core.List.{List, [], _∷_, _++_, append-nil, append-assoc}
 use Prim.Native.Nat.{ℕ, zero, suc, _+_, _-_, _*_, _/_, _%_, _<_, _≤_}
-use native.Mathlib.Nat.{zero-add}
+use native.Mathlib.Nat.{zero-add, add-zero, add-suc, suc-add, mod-lt, not-suc-le-zero}
+use native.Mathlib.Decide.{decLt}
 use native.Mathlib.Numerals.{add-one}
 use native.Mathlib.Omega.{arith}
-use lib.Dec.{T, eqb, eqb→eq, ltb, leb, leb→le}
-use lib.ListN.{length, getD, set, replicate, length-set}
-use borrow.Author.Tests.{lt-ltb, le-ltb}
+use lib.Dec.{T, eqb, ltb, leb, leb→le}
+use lib.ListN.{length, getD, set, take, replicate, length-set, length-append, length-replicate, getD-replicate, List·getD-append}
+use lib.Seq.{getD-set-same, getD-set-other, getD-append-seam, take-suc, take-length, length-take-le}
+use borrow.Author.Tests.{lt-ltb, le-ltb, eq-eqb, eqb-true}
 use Rattle.algebra.proofs.Codeword.{slot}
 use Rattle.ccsds.specs.Codes.{Params}
-use Rattle.ccsds.specs.Tables.{codeOf, codes, Known, c1, c2, rows1, rows2}
-use Rattle.ccsds.proofs.Table.{every, at, upTo, in-range, both-left, both-right}
-use Rattle.ccsds.proofs.Valid.{Valid, each-of, some-a, address-lt}
-use Rattle.encoder.specs.inner.Positions.{Entry, classIn, classFrom, classOf, firstAt, endAt, countAt, addressAt, entryPut, entryAdded, entered, rowEntered, tableEntered, EntryBounds, Classes}
+use Rattle.symbol_sums.specs.Gather.{maxPositions}
+use Rattle.ccsds.specs.inner.Layout.{maxN}
+use Rattle.ccsds.specs.Tables.{codeOf, codes, Known, c1, c2, c4, c5, c7, c8, rows1, rows2, rows4, rows5, rows7, rows8}
+use Rattle.ccsds.proofs.Table.{every, upTo, in-range, both-left, both-right}
+use Rattle.ccsds.proofs.Valid.{Valid, valid-of, each-of, some-a, address-lt}
+use Rattle.encoder.specs.inner.Positions.{Entry, entryIf, classIn, classFrom, classOf, firstAt, endAt, countAt, addressAt, entryPut, entryAdded, entered, rowEntered, tableEntered, EntryBounds, Classes, maxClasses, tableSize}
 use Rattle.encoder.proofs.Touched.{quotient-lt}
 
 -- ---- one address
@@ -25,7 +31,7 @@ put-size r n first end t =
     length-set (set (set t (firstAt r n) first) (endAt r n) end) (countAt r) (n + 1) ∙ length-set (set t (firstAt r n) first) (endAt r n) end ∙ length-set t (firstAt r n) first
 
 added-size : (q row r y : ℕ) (t : List ℕ) → length (entryAdded q row r y t) ≡ length t
-added-size q row r y t = go (ltb (getD t (countAt r) 0) 64)
+added-size q row r y t = go (ltb (getD t (countAt r) 0) maxPositions)
   where
     go : (b : Bool) → length (cond b (entryPut r (getD t (countAt r) 0) (row * q + q - y) (row * q + q) t) t) ≡ length t
     go true = put-size r (getD t (countAt r) 0) (row * q + q - y) (row * q + q) t
@@ -35,14 +41,19 @@ module _ (q a row i y : ℕ) (t : List ℕ) where
   abbrev written : List ℕ
   written = set t (addressAt row i) y
 
-  module _ (n : ℕ) (e : n ≡ getD written (countAt (y % a)) 0) where
-    pub entered-full : 64 ≤ n → written ≡ entered q a row i y t
-    unfolding entered
-    entered-full h = rw (le-ltb (getD written (countAt (y % a)) 0) 64 (omega arith)) refl
+  module _ (n r d : ℕ) (er : r ≡ y % a) (ed : d ≡ y / a) (e : n ≡ getD written (countAt r) 0) where
+    counted : n ≡ getD written (countAt (y % a)) 0
+    counted = e ∙ ap (λ (k : ℕ). getD written (countAt k) 0) er
 
-    pub entered-room : n < 64 → entryPut (y % a) n (row * q + q - y / a) (row * q + q) written ≡ entered q a row i y t
+    pub entered-full : maxPositions ≤ n → written ≡ entered q a row i y t
     unfolding entered
-    entered-room h = rw (lt-ltb (getD written (countAt (y % a)) 0) 64 (omega arith)) (ap (λ (k : ℕ). entryPut (y % a) k (row * q + q - y / a) (row * q + q) written) e)
+    entered-full h = rw (le-ltb (getD written (countAt (y % a)) 0) maxPositions (omega (arith, counted))) refl
+
+    pub entered-room : n < maxPositions → entryPut r n (row * q + q - d) (row * q + q) written ≡ entered q a row i y t
+    unfolding entered
+    entered-room h =
+        ap₂ (λ (k l : ℕ). entryPut k n (row * q + q - l) (row * q + q) written) er ed
+        ∙ rw (lt-ltb (getD written (countAt (y % a)) 0) maxPositions (omega (arith, counted))) (ap (λ (k : ℕ). entryPut (y % a) k (row * q + q - y / a) (row * q + q) written) counted)
 
   pub entered-size : length (entered q a row i y t) ≡ length t
   unfolding entered
@@ -73,8 +84,8 @@ table-size c t zero = refl
 table-size c t (suc n) = row-size c n (tableEntered c n t) (length (getD (c .rows) n [])) ∙ table-size c t n
 
 -- what `enter` needs of an address
-pub address-fits : (c : Params) (v : Valid c) (row i q a y : ℕ) → c .a ≤ 8 → row < length (c .rows) → i < length (getD (c .rows) row [])
-    → q ≡ c .q → a ≡ c .a → y ≡ getD (getD (c .rows) row []) i 0 → (0 < a) × (a ≤ 8) × (row * q + q ≤ 3072) × (y / a ≤ q) × (y < 65536)
+pub address-fits : (c : Params) (v : Valid c) (row i q a y : ℕ) → c .a ≤ maxClasses → row < length (c .rows) → i < length (getD (c .rows) row [])
+    → q ≡ c .q → a ≡ c .a → y ≡ getD (getD (c .rows) row []) i 0 → (0 < a) × (a ≤ maxClasses) × (row * q + q ≤ maxN) × (y / a ≤ q) × (y < 65536)
 address-fits c v row i q a y few hr hi eq ea ey =
     let z : row * q ≡ row * c .q = ap (λ (k : ℕ). row * k) eq in
     let d : y / a ≡ getD (getD (c .rows) row []) i 0 / c .a = ap₂ _/_ ey ea in
@@ -86,61 +97,193 @@ address-fits c v row i q a y few hr hi eq ea ey =
       omega (arith, v .few-rows),
     )
 
--- ---- the test
+-- ---- what a class holds
 
-abbrev placed : ℕ → ℕ → List ℕ → ℕ → Entry → Bool
-placed q r t i e = eqb (getD t (endAt r i) 0) (e .0 * q + q) && eqb (getD t (firstAt r i) 0 + e .1) (getD t (endAt r i) 0)
+-- class r of the table has the entries l
+record Held (q r : ℕ) (l : List Entry) (t : List ℕ) : Type 0 where
+  count : getD t (countAt r) 0 ≡ length l
+  each : (i : ℕ) → i < length l → EntryBounds q (getD l i (0, 0)) (getD t (firstAt r i) 0) (getD t (endAt r i) 0)
 
-abbrev classed : Params → List ℕ → ℕ → Bool
-classed c t r = leb (length (classOf c r)) 62 && (eqb (getD t (countAt r) 0) (length (classOf c r)) && every (placed (c .q) r t) 0 (classOf c r))
+bounds-kept : {q : ℕ} {e d : Entry} {first end first′ end′ : ℕ} → d ≡ e → first′ ≡ first → end′ ≡ end → EntryBounds q e first end → EntryBounds q d first′ end′
+bounds-kept {q} {e} {d} {first} {end} {first′} {end′} g h k b =
+    record { last = k ∙ b .last ∙ ap (λ (x : Entry). x .0 * q + q) (sym g); start = ap₂ (λ (n : ℕ) (x : Entry). n + x .1) h g ∙ b .start ∙ sym k }
 
-abbrev tested : Params → Bool
-tested c = leb (c .a) 8 && upTo (classed c (tableEntered c (length (c .rows)) (replicate 1544 0))) 0 (c .a)
+-- an entry more, at a place of its own
+module _ (r n first end : ℕ) (t : List ℕ) (size : length t ≡ tableSize) (hr : r < maxClasses) (hn : n < maxPositions) where
+  abbrev put : List ℕ
+  put = entryPut r n first end t
 
-all-pass : T (every (λ i p. tested (p .1)) 0 codes)
-unfolding codes c1 c2 rows1 rows2 classOf classFrom classIn tableEntered rowEntered entered
-all-pass = tt
+  put-other : (p : ℕ) → p ≢ firstAt r n → p ≢ endAt r n → p ≢ countAt r → getD put p 0 ≡ getD t p 0
+  put-other p h₁ h₂ h₃ =
+      getD-set-other (set (set t (firstAt r n) first) (endAt r n) end) (countAt r) p (n + 1) 0 h₃
+      ∙ getD-set-other (set t (firstAt r n) first) (endAt r n) p end 0 h₂ ∙ getD-set-other t (firstAt r n) p first 0 h₁
+
+  put-count : getD put (countAt r) 0 ≡ n + 1
+  put-count = getD-set-same (set (set t (firstAt r n) first) (endAt r n) end) (countAt r) (n + 1) 0 (simp length-set (omega arith))
+
+  put-end : getD put (endAt r n) 0 ≡ end
+  put-end =
+      getD-set-other (set (set t (firstAt r n) first) (endAt r n) end) (countAt r) (endAt r n) (n + 1) 0 (λ e. omega arith)
+      ∙ getD-set-same (set t (firstAt r n) first) (endAt r n) end 0 (simp length-set (omega arith))
+
+  put-first : getD put (firstAt r n) 0 ≡ first
+  put-first =
+      getD-set-other (set (set t (firstAt r n) first) (endAt r n) end) (countAt r) (firstAt r n) (n + 1) 0 (λ e. omega arith)
+      ∙ getD-set-other (set t (firstAt r n) first) (endAt r n) (firstAt r n) end 0 (λ e. omega arith) ∙ getD-set-same t (firstAt r n) first 0 (omega arith)
+
+  put-held : (q : ℕ) (l : List Entry) (e : Entry) → n ≡ length l → Held q r l t → EntryBounds q e first end → Held q r (l ++ (e ∷ [])) put
+  put-held q l e g h b = record { count = put-count ∙ ap (λ (k : ℕ). k + 1) g ∙ sym (length-append l (e ∷ [])); each = λ i k. go i (decLt i (length l)) (subst (λ (m : ℕ). i < m) (length-append l (e ∷ [])) k) }
+    where
+      go : (i : ℕ) → Dec (i < length l) → i < length l + 1 → EntryBounds q (getD (l ++ (e ∷ [])) i (0, 0)) (getD put (firstAt r i) 0) (getD put (endAt r i) 0)
+      go i (yes k) m =
+          bounds-kept (List·getD-append l (e ∷ []) (0, 0) i k) (put-other (firstAt r i) (λ z. omega arith) (λ z. omega arith) (λ z. omega arith))
+          (put-other (endAt r i) (λ z. omega arith) (λ z. omega arith) (λ z. omega arith)) (h .each i k)
+      go i (no k) m =
+          let z : i ≡ length l = omega arith in
+          let w : i ≡ n = z ∙ sym g in
+          bounds-kept (ap (λ (x : ℕ). getD (l ++ (e ∷ [])) x (0, 0)) z ∙ getD-append-seam l e [] (0, 0))
+          (ap (λ (x : ℕ). getD put (firstAt r x) 0) w ∙ put-first) (ap (λ (x : ℕ). getD put (endAt r x) 0) w ∙ put-end) b
+
+-- an address more: its class has an entry more if it has room, and any other class what it had
+module _ (q a row i y : ℕ) (t : List ℕ) (size : length t ≡ tableSize) (class : y % a < maxClasses) (fits : y / a ≤ row * q + q) where
+  apart : (p : ℕ) → p < addressAt 0 0 → getD (written q a row i y t) p 0 ≡ getD t p 0
+  apart p h = getD-set-other t (addressAt row i) p y 0 (λ e. omega arith)
+
+  whole : length (written q a row i y t) ≡ tableSize
+  whole = length-set t (addressAt row i) y ∙ size
+
+  held-apart : (r : ℕ) (l : List Entry) → r < maxClasses → length l ≤ maxPositions → Held q r l t → Held q r l (written q a row i y t)
+  held-apart r l hr hl h =
+      record {
+        count = apart (countAt r) (omega arith) ∙ h .count;
+        each = λ j k. bounds-kept refl (apart (firstAt r j) (omega arith)) (apart (endAt r j) (omega arith)) (h .each j k);
+      }
+
+  own : (l : List Entry) → length l < maxPositions → Held q (y % a) l t → Held q (y % a) (l ++ ((row, y / a) ∷ [])) (entered q a row i y t)
+  own l hl h =
+      let k = held-apart (y % a) l class (omega arith) h in
+      subst (Held q (y % a) (l ++ ((row, y / a) ∷ []))) (entered-room q a row i y t (length l) (y % a) (y / a) refl refl (sym (k .count)) hl)
+      (put-held (y % a) (length l) (row * q + q - y / a) (row * q + q) (written q a row i y t) whole class hl q l (row, y / a) refl k (record { last = refl; start = omega arith }))
+
+  other : (r : ℕ) (l : List Entry) → r < maxClasses → length l ≤ maxPositions → y % a ≢ r → Held q r l t → Held q r l (entered q a row i y t)
+  other r l hr hl ne h = go (decLt n maxPositions)
+    where
+      n : ℕ
+      n = getD (written q a row i y t) (countAt (y % a)) 0
+
+      k : Held q r l (written q a row i y t)
+      k = held-apart r l hr hl h
+
+      go : Dec (n < maxPositions) → Held q r l (entered q a row i y t)
+      go (no f) = subst (Held q r l) (entered-full q a row i y t n (y % a) (y / a) refl refl refl (omega arith)) k
+      go (yes f) =
+          let same = put-other (y % a) n (row * q + q - y / a) (row * q + q) (written q a row i y t) whole class f in
+          subst (Held q r l) (entered-room q a row i y t n (y % a) (y / a) refl refl refl f)
+          (record {
+            count = same (countAt r) (λ e. omega arith) (λ e. omega arith) (λ e. ne (omega arith)) ∙ k .count;
+            each = λ j g. bounds-kept refl (same (firstAt r j) (λ e. ne (omega arith)) (λ e. omega arith) (λ e. omega arith))
+                (same (endAt r j) (λ e. omega arith) (λ e. ne (omega arith)) (λ e. omega arith)) (k .each j g);
+          })
+
+  entered-held : (r : ℕ) (l : List Entry) → r < maxClasses → (length l ≤ maxPositions → Held q r l t)
+      → length (l ++ classIn a r row (y ∷ [])) ≤ maxPositions → Held q r (l ++ classIn a r row (y ∷ [])) (entered q a row i y t)
+  unfolding classIn
+  entered-held r l hr h = go (eqb (y % a) r) refl
+    where
+      go : (b : Bool) → eqb (y % a) r ≡ b → length (l ++ entryIf b (row, y / a) []) ≤ maxPositions → Held q r (l ++ entryIf b (row, y / a) []) (entered q a row i y t)
+      go true e g =
+          let z : length l < maxPositions = omega (arith, length-append l ((row, y / a) ∷ [])) in
+          let d : y % a ≡ r = eqb-true (y % a) r e in
+          subst (λ (s : ℕ). Held q s (l ++ ((row, y / a) ∷ [])) (entered q a row i y t)) d (own l z (subst⁻¹ (λ (s : ℕ). Held q s l t) d (h (omega arith))))
+      go false e g =
+          let z : length l ≤ maxPositions = subst (λ (k : List Entry). length k ≤ maxPositions) (append-nil l) g in
+          subst⁻¹ (λ (k : List Entry). Held q r k (entered q a row i y t)) (append-nil l) (other r l hr z (λ d. false≢true (sym e ∙ eq-eqb (y % a) r d)) (h z))
+
+-- ---- the classes of some addresses and of some table rows
+
+class-join : (a r row : ℕ) (xs ys : List ℕ) → classIn a r row (xs ++ ys) ≡ classIn a r row xs ++ classIn a r row ys
+unfolding classIn
+class-join a r row [] ys = refl
+class-join a r row (x ∷ xs) ys = go (eqb (x % a) r) (class-join a r row xs ys)
+  where
+    go : (b : Bool) → classIn a r row (xs ++ ys) ≡ classIn a r row xs ++ classIn a r row ys
+        → entryIf b (row, x / a) (classIn a r row (xs ++ ys)) ≡ entryIf b (row, x / a) (classIn a r row xs) ++ classIn a r row ys
+    go true e = ap (λ (l : List Entry). (row, x / a) ∷ l) e
+    go false e = e
+
+classes-join : (a r row : ℕ) (xs ys : List (List ℕ)) → classFrom a r row (xs ++ ys) ≡ classFrom a r row xs ++ classFrom a r (row + length xs) ys
+unfolding classFrom
+classes-join a r row [] ys = ap (λ (n : ℕ). classFrom a r n ys) (sym (add-zero row))
+classes-join a r row (x ∷ xs) ys =
+    ap (λ (l : List Entry). classIn a r row x ++ l) (classes-join a r (suc row) xs ys ∙ ap (λ (n : ℕ). classFrom a r (suc row) xs ++ classFrom a r n ys) (suc-add row (length xs) ∙ sym (add-suc row (length xs))))
+    ∙ sym (append-assoc (classIn a r row x) (classFrom a r (suc row) xs) (classFrom a r (row + suc (length xs)) ys))
+
+module _ (c : Params) (v : Valid c) (few : c .a ≤ maxClasses) (r : ℕ) (hr : r < maxClasses) where
+  row-held : (row : ℕ) (t : List ℕ) (l : List Entry) → length t ≡ tableSize → row < length (c .rows) → (length l ≤ maxPositions → Held (c .q) r l t)
+      → (n : ℕ) → n ≤ length (getD (c .rows) row [])
+      → length (l ++ classIn (c .a) r row (take n (getD (c .rows) row []))) ≤ maxPositions
+      → Held (c .q) r (l ++ classIn (c .a) r row (take n (getD (c .rows) row []))) (rowEntered c row n t)
+  unfolding rowEntered classIn
+  row-held row t l size g h zero k = λ m. subst⁻¹ (λ (x : List Entry). Held (c .q) r x t) (append-nil l) (h (subst (λ (x : List Entry). length x ≤ maxPositions) (append-nil l) m))
+  row-held row t l size g h (suc n) k =
+      let ys = getD (c .rows) row [] in
+      let y = getD ys n 0 in
+      let lt : y < c .m = address-lt c v row g n k in
+      let e : l ++ classIn (c .a) r row (take (suc n) ys) ≡ l ++ classIn (c .a) r row (take n ys) ++ classIn (c .a) r row (y ∷ []) =
+      ap (λ (x : List ℕ). l ++ classIn (c .a) r row x) (take-suc ys n 0 k) ∙ ap (λ (x : List Entry). l ++ x) (class-join (c .a) r row (take n ys) (y ∷ []))
+      ∙ sym (append-assoc l (classIn (c .a) r row (take n ys)) (classIn (c .a) r row (y ∷ []))) in
+      let q : y / c .a < c .q = quotient-lt c v y lt in
+      subst⁻¹ (λ (x : List Entry). length x ≤ maxPositions → Held (c .q) r x (rowEntered c row (suc n) t)) e
+      (entered-held (c .q) (c .a) row n y (rowEntered c row n t) (row-size c row t n ∙ size) (omega (arith, mod-lt y (some-a c v))) (omega arith) r (l ++ classIn (c .a) r row (take n ys)) hr
+      (row-held row t l size g h n (omega arith)))
+
+  table-held : (t : List ℕ) → t ≡ replicate tableSize 0 → (n : ℕ) → n ≤ length (c .rows)
+      → length (classFrom (c .a) r 0 (take n (c .rows))) ≤ maxPositions → Held (c .q) r (classFrom (c .a) r 0 (take n (c .rows))) (tableEntered c n t)
+  unfolding tableEntered classFrom
+  table-held t e zero k = λ m. record { count = ap (λ (x : List ℕ). getD x (countAt r) 0) e ∙ getD-replicate tableSize (countAt r) 0 0 (omega arith); each = λ i h. absurd (not-suc-le-zero h) }
+  table-held t e (suc n) k =
+      let ys = getD (c .rows) n [] in
+      let f : classFrom (c .a) r 0 (take (suc n) (c .rows)) ≡ classFrom (c .a) r 0 (take n (c .rows)) ++ classIn (c .a) r n (take (length ys) ys) =
+      ap (classFrom (c .a) r 0) (take-suc (c .rows) n [] k) ∙ classes-join (c .a) r 0 (take n (c .rows)) (ys ∷ [])
+      ∙ ap (λ (i : ℕ). classFrom (c .a) r 0 (take n (c .rows)) ++ (classIn (c .a) r i ys ++ [])) (zero-add (length (take n (c .rows))) ∙ length-take-le n (c .rows) (omega arith))
+      ∙ ap (λ (x : List Entry). classFrom (c .a) r 0 (take n (c .rows)) ++ x) (append-nil (classIn (c .a) r n ys) ∙ ap (classIn (c .a) r n) (sym (take-length ys))) in
+      subst⁻¹ (λ (x : List Entry). length x ≤ maxPositions → Held (c .q) r x (tableEntered c (suc n) t)) f
+      (row-held n (tableEntered c n t) (classFrom (c .a) r 0 (take n (c .rows))) (table-size c t n ∙ ap length e ∙ length-replicate {A = ℕ} tableSize 0) k (table-held t e n (omega arith)) (length ys) (omega arith))
+
+-- ---- every code has room
+
+abbrev roomy : Params → Bool
+roomy c = leb (c .a) maxClasses && upTo (λ r. leb (length (classOf c r) + 2) maxPositions) 0 (c .a)
+
+all-roomy : T (every (λ i p. roomy (p .1)) 0 codes)
+unfolding codes c1 c2 c4 c5 c7 c8 rows1 rows2 rows4 rows5 rows7 rows8 classOf classFrom classIn
+all-roomy = tt
 
 module _ (number : ℕ) (known : Known number) where
   abbrev c : Params
   c = codeOf number
 
-  abbrev laid : List ℕ
-  laid = tableEntered c (length (c .rows)) (replicate 1544 0)
+  sizes : T (roomy c)
+  sizes = each-of roomy all-roomy number known
 
-  passed : T (tested c)
-  passed = each-of tested all-pass number known
+  pub few-classes : c .a ≤ maxClasses
+  few-classes = leb→le (c .a) maxClasses (both-left (leb (c .a) maxClasses) (upTo (λ r. leb (length (classOf c r) + 2) maxPositions) 0 (c .a)) sizes)
 
-  pub few-classes : c .a ≤ 8
-  few-classes = leb→le (c .a) 8 (both-left (leb (c .a) 8) (upTo (classed c laid) 0 (c .a)) passed)
+  few-entries : (r : ℕ) → r < c .a → length (classOf c r) + 2 ≤ maxPositions
+  few-entries r h =
+      leb→le (length (classOf c r) + 2) maxPositions
+      (subst (λ (n : ℕ). T (leb (length (classOf c n) + 2) maxPositions)) (zero-add r)
+      (in-range (λ s. leb (length (classOf c s) + 2) maxPositions) (c .a) 0 (both-right (leb (c .a) maxClasses) (upTo (λ s. leb (length (classOf c s) + 2) maxPositions) 0 (c .a)) sizes) r h))
 
-  record Class (r : ℕ) : Type 0 where
-    few : length (classOf c r) ≤ 62
-    count : getD laid (countAt r) 0 ≡ length (classOf c r)
-    each : (i : ℕ) → i < length (classOf c r) → EntryBounds (c .q) (getD (classOf c r) i (0, 0)) (getD laid (firstAt r i) 0) (getD laid (endAt r i) 0)
+  class : (t : List ℕ) → t ≡ replicate tableSize 0 → (r : ℕ) → r < c .a → Held (c .q) r (classOf c r) (tableEntered c (length (c .rows)) t)
+  unfolding classOf
+  class t e r h =
+      let all : take (length (c .rows)) (c .rows) ≡ c .rows = take-length (c .rows) in
+      let held = table-held c (valid-of number known) few-classes r (omega (arith, few-classes)) t e (length (c .rows)) (omega arith) in
+      (subst (λ (x : List (List ℕ)). length (classFrom (c .a) r 0 x) ≤ maxPositions → Held (c .q) r (classFrom (c .a) r 0 x) (tableEntered c (length (c .rows)) t)) all held) (omega (arith, few-entries r h))
 
-  class : (r : ℕ) → r < c .a → Class r
-  class r h =
-      let l : List Entry = classOf c r in
-      let counted : Bool = eqb (getD laid (countAt r) 0) (length l) in
-      let there : Bool = every (placed (c .q) r laid) 0 l in
-      let t : T (classed c laid r) = subst (λ (n : ℕ). T (classed c laid n)) (zero-add r)
-      (in-range (classed c laid) (c .a) 0 (both-right (leb (c .a) 8) (upTo (classed c laid) 0 (c .a)) passed) r h) in
-      let u : T (counted && there) = both-right (leb (length l) 62) (counted && there) t in
-      record {
-        few = leb→le (length l) 62 (both-left (leb (length l) 62) (counted && there) t);
-        count = eqb→eq (getD laid (countAt r) 0) (length l) (both-left counted there u);
-        each = λ i g.
-            let e = getD l i (0, 0) in
-            let ends = eqb (getD laid (endAt r i) 0) (e .0 * c .q + c .q) in
-            let starts = eqb (getD laid (firstAt r i) 0 + e .1) (getD laid (endAt r i) 0) in
-            let d : T (ends && starts) = at (placed (c .q) r laid) (0, 0) l (both-right counted there u) i g in
-            record { last = eqb→eq _ _ (both-left ends starts d); start = eqb→eq _ _ (both-right ends starts d) };
-      }
-
-  laid-whole : length laid ≡ 1544 → Classes c laid
-  laid-whole h = record { few = record { classes = few-classes; entries = λ r g. class r g .few }; size = h; counts = λ r g. class r g .count; each = λ r g i k. class r g .each i k }
-
-  pub all-laid : (rows : ℕ) {s t : List ℕ} → rows ≡ length (c .rows) → s ≡ replicate 1544 0 → t ≡ tableEntered c rows s → length t ≡ 1544 → Classes c t
+  pub all-laid : (rows : ℕ) {s t : List ℕ} → rows ≡ length (c .rows) → s ≡ replicate tableSize 0 → t ≡ tableEntered c rows s → length t ≡ tableSize → Classes c t
   all-laid rows {s} {t} k hs h size =
-      let e : laid ≡ t = sym (h ∙ ap₂ (λ (i : ℕ) (l : List ℕ). tableEntered c i l) k hs) in subst (Classes c) e (laid-whole (ap length e ∙ size))
+      let e : tableEntered c (length (c .rows)) s ≡ t = sym (h ∙ ap (λ (i : ℕ). tableEntered c i s) k) in
+      let held : (r : ℕ) → r < c .a → Held (c .q) r (classOf c r) t = λ r g. subst (Held (c .q) r (classOf c r)) e (class s hs r g) in
+      record { few = record { classes = few-classes; entries = few-entries }; size = size; counts = λ r g. held r g .count; each = λ r g i j. held r g .each i j }

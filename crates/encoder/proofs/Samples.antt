@@ -13,7 +13,7 @@ use Rattle.algebra.specs.Codeword.{byteAt}
 use Rattle.algebra.proofs.Sums.{odd, sum-tests, sum-terms, sum-pick, sum-alone}
 use Rattle.algebra.proofs.Staircase.{codeword-parity, parity-odd}
 use Rattle.ccsds.specs.Codes.{Params, rowOf, checkRowOf, touches}
-use Rattle.ccsds.specs.Tables.{codeOf, codeIn, codes, isCode, numberIn, c1, c2, rows1, rows2}
+use Rattle.ccsds.specs.Tables.{codeOf, codeIn, codes, isCode, numberIn, c1, c2, c4, c5, c7, c8, rows1, rows2, rows4, rows5, rows7, rows8}
 use Rattle.encoder.specs.Samples.{CodeSample, CodeHolds, inRuns, SdnvHolds, Sample, ofCode, ofSdnv, Each, samples, SingleSymbol}
 use Rattle.wire.specs.Sdnv.{sdnvFrom, group, sdnvBytes}
 use Rattle.ccsds.proofs.Table.{both-left, both-right, upTo as each, between}
@@ -99,9 +99,9 @@ enough (ofCode s ∷ ss) t = (code-holds s (t .0), enough ss (t .1))
 enough (ofSdnv s ∷ ss) t = (t .0, enough ss (t .1))
 
 pub all : Each samples
-unfolding samples codeOf codeIn codes isCode numberIn c1 c2 rows1 rows2 rowOf checkRowOf upTo inRuns xor sdnvFrom sdnvBytes group
+unfolding samples codeOf codeIn codes isCode numberIn c1 c2 c4 c5 c7 c8 rows1 rows2 rows4 rows5 rows7 rows8 rowOf checkRowOf upTo inRuns xor sdnvFrom sdnvBytes group
 all =
-    enough samples (tt, (tt, (tt, (tt, (tt, ((refl, refl), ((refl, refl), ((refl, refl), ((refl, refl), ((refl, tt), ((refl, tt), tt)))))))))))
+    enough samples (tt, (tt, (tt, (tt, (tt, (tt, (tt, (tt, (tt, (tt, (tt, (tt, (tt, (tt, (tt, (tt, (tt, (tt, (tt, (tt, ((refl, refl), ((refl, refl), ((refl, refl), ((refl, refl), ((refl, tt), ((refl, tt), tt))))))))))))))))))))))))))
 
 pub single : SingleSymbol
 single s e l h w x cw out j b g₀ g₁ hb =

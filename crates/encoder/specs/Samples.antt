@@ -1,4 +1,4 @@
--- The starred samples of document 01, with document 02, job 6, as rows of one table under one statement.
+-- The starred samples of document 01, with document 02, jobs 1 and 6, as rows of one table under one statement.
 -- Assumes nothing.
 use mathlib.Core.Path.{_≡_}
 use mathlib.Core.Bool.{Bool, true, false, _&&_, _||_}
@@ -86,6 +86,37 @@ samples =
     ∷ ofCode (record { code = 1; first = 0; last = 511; from = 255; to = 255; runs = (255, 255) ∷ [] })
     -- C2, p_1023 is zero
     ∷ ofCode (record { code = 2; first = 0; last = 2047; from = 1023; to = 1023; runs = [] })
+    -- Document 02, job 1: the same for C4, C5, C7 and C8, of each only u_0, only u_(k - 1), and what p_(m - 1) sums
+    -- C4, only u_0
+    ∷ ofCode (record { code = 4; first = 0; last = 0; from = 0; to = 127; runs = (54, 64) ∷ (72, 115) ∷ (122, 127) ∷ [] })
+    -- C4, only u_511
+    ∷ ofCode (record { code = 4; first = 511; last = 511; from = 0; to = 127; runs = (9, 30) ∷ (75, 101) ∷ (125, 127) ∷ [] })
+    -- C4, p_127 is the sum of all
+    ∷ ofCode (record { code = 4; first = 0; last = 511; from = 127; to = 127; runs = (127, 127) ∷ [] })
+    -- C5, only u_0
+    ∷ ofCode (record { code = 5; first = 0; last = 0; from = 0; to = 511; runs = (10, 48) ∷ (116, 167) ∷ (494, 511) ∷ [] })
+    -- C5, only u_2047
+    ∷ ofCode (record { code = 5; first = 2047; last = 2047; from = 0; to = 511; runs = (165, 274) ∷ (449, 462) ∷ [] })
+    -- C5, p_511 is the sum of u_0 to u_1023
+    ∷ ofCode (record { code = 5; first = 0; last = 1023; from = 511; to = 511; runs = (511, 511) ∷ [] })
+    -- C5, and of no other
+    ∷ ofCode (record { code = 5; first = 1024; last = 2047; from = 511; to = 511; runs = [] })
+    -- C7, only u_0
+    ∷ ofCode (record { code = 7; first = 0; last = 0; from = 0; to = 63; runs = (2, 5) ∷ (9, 18) ∷ (45, 47) ∷ (60, 63) ∷ [] })
+    -- C7, only u_511
+    ∷ ofCode (record { code = 7; first = 511; last = 511; from = 0; to = 63; runs = (15, 20) ∷ (25, 39) ∷ (51, 57) ∷ [] })
+    -- C7, p_63 is the sum of u_0 to u_383
+    ∷ ofCode (record { code = 7; first = 0; last = 383; from = 63; to = 63; runs = (63, 63) ∷ [] })
+    -- C7, and of no other
+    ∷ ofCode (record { code = 7; first = 384; last = 511; from = 63; to = 63; runs = [] })
+    -- C8, only u_0
+    ∷ ofCode (record { code = 8; first = 0; last = 0; from = 0; to = 255; runs = (31, 79) ∷ (100, 137) ∷ (161, 197) ∷ (213, 255) ∷ [] })
+    -- C8, only u_2047
+    ∷ ofCode (record { code = 8; first = 2047; last = 2047; from = 0; to = 255; runs = (55, 57) ∷ (65, 84) ∷ (147, 159) ∷ [] })
+    -- C8, p_255 is the sum of u_0 to u_127
+    ∷ ofCode (record { code = 8; first = 0; last = 127; from = 255; to = 255; runs = (255, 255) ∷ [] })
+    -- C8, and of no other
+    ∷ ofCode (record { code = 8; first = 128; last = 2047; from = 255; to = 255; runs = [] })
     -- SDNV numbers
     ∷ ofSdnv (record { bytes = 0x7F ∷ []; answer = answered 127; shortest = 0x7F ∷ [] })
     ∷ ofSdnv (record { bytes = 0x81 ∷ 0x00 ∷ []; answer = answered 128; shortest = 0x81 ∷ 0x00 ∷ [] })

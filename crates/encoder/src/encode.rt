@@ -1,9 +1,11 @@
 // The encoder: parity bytes from information bytes.
 use crate::positions;
 use crate::positions::Shape;
+use crate::positions::TABLE_SIZE;
 use ccsds::checks;
 use ccsds::code::Code;
 use ccsds::tables;
+use symbol_sums::MAX_POSITIONS;
 ghost use mathlib.Core.Path.{_≡_};
 ghost use Prim.Native.Nat.{_<_, _+_, _*_};
 ghost use lib.ListN.{length};
@@ -13,6 +15,7 @@ ghost use Rattle.ccsds.specs.Refusals.{outcome, afterwards};
 ghost use Rattle.encoder.specs.Encode.{encodeRefusal, encodedAs};
 ghost use Rattle.encoder.specs.inner.Positions.{Table};
 ghost use Rattle.encoder.specs.inner.Steps.{Sized, Done};
+ghost use Rattle.symbol_sums.specs.Gather.{maxPositions};
 
 // What encode answers: that it is done, or the number of the refusal.
 pub enum Encoded {
@@ -23,17 +26,17 @@ pub enum Encoded {
 // Parity symbol i * a + r.
 fn put_row(
     s: Shape,
-    table: &[u16; 1544],
+    table: &[u16; TABLE_SIZE],
     i: usize,
     r: usize,
-    xs: &mut [u16; 64],
+    xs: &mut [u16; MAX_POSITIONS],
     info: &[u8],
     parity: &mut [u8],
 )
-    requires { ⌜ Table s (now table) × (length (now xs) ≡ 64) ⌝ }
+    requires { ⌜ Table s (now table) × (length (now xs) ≡ maxPositions) ⌝ }
     requires { ⌜ (i < codeOf (s .number) .q) × (r < codeOf (s .number) .a) ⌝ }
     requires { ⌜ (length (now info) ≡ codeOf (s .number) .k * s .w) × Done (codeOf (s .number)) (s .w) (now info) (i * codeOf (s .number) .a + r) (now parity) ⌝ }
-    ensures { λ _. ⌜ (length (now (xs .exit)) ≡ 64) × Done (codeOf (s .number)) (s .w) (now (info .entry)) (i * codeOf (s .number) .a + r + 1) (now (parity .exit)) ⌝ }
+    ensures { λ _. ⌜ (length (now (xs .exit)) ≡ maxPositions) × Done (codeOf (s .number)) (s .w) (now (info .entry)) (i * codeOf (s .number) .a + r + 1) (now (parity .exit)) ⌝ }
 {
     let l = s.layout;
     let j = i * l.a + r;
@@ -44,16 +47,16 @@ fn put_row(
 // Parity symbols i * a to i * a + a - 1.
 fn put_rows(
     s: Shape,
-    table: &[u16; 1544],
+    table: &[u16; TABLE_SIZE],
     i: usize,
-    xs: &mut [u16; 64],
+    xs: &mut [u16; MAX_POSITIONS],
     info: &[u8],
     parity: &mut [u8],
 )
-    requires { ⌜ Table s (now table) × (length (now xs) ≡ 64) ⌝ }
+    requires { ⌜ Table s (now table) × (length (now xs) ≡ maxPositions) ⌝ }
     requires { ⌜ i < codeOf (s .number) .q ⌝ }
     requires { ⌜ (length (now info) ≡ codeOf (s .number) .k * s .w) × Done (codeOf (s .number)) (s .w) (now info) (i * codeOf (s .number) .a) (now parity) ⌝ }
-    ensures { λ _. ⌜ (length (now (xs .exit)) ≡ 64) × Done (codeOf (s .number)) (s .w) (now (info .entry)) (i * codeOf (s .number) .a + codeOf (s .number) .a) (now (parity .exit)) ⌝ }
+    ensures { λ _. ⌜ (length (now (xs .exit)) ≡ maxPositions) × Done (codeOf (s .number)) (s .w) (now (info .entry)) (i * codeOf (s .number) .a + codeOf (s .number) .a) (now (parity .exit)) ⌝ }
 {
     let l = s.layout;
     let a = l.a;
@@ -70,6 +73,7 @@ fn encode_sized(number: usize, w: usize, info: &[u8], parity: &mut [u8])
     requires { ⌜ Sized (codeOf number) w (length (now info)) (length (now parity)) ⌝ }
     ensures { λ _. ⌜ now (parity .exit) ≡ encodeOf (codeOf number) w (now (info .entry)) ⌝ }
 {
+    let mut flat = positions::no_addresses();
     let l = tables::layout_of(number);
     let code = Code { number };
     let q = code.q();
@@ -79,8 +83,8 @@ fn encode_sized(number: usize, w: usize, info: &[u8], parity: &mut [u8])
         w: w,
     };
     let mut table = positions::blank();
-    let mut xs = [0u16; 64];
-    positions::lay(number, l, &mut table);
+    let mut xs = [0u16; MAX_POSITIONS];
+    positions::lay(number, l, &mut flat, &mut table);
     let mut i = 0;
     while i < q {
         put_rows(s, &table, i, &mut xs, info, parity);

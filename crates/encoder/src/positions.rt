@@ -3,25 +3,34 @@
 // is here, and a user of the layer has no need to.
 use ccsds::tables;
 use ccsds::tables::Layout;
+use ccsds::tables::MAX_ADDRESSES;
 use std::num;
+use symbol_sums::MAX_POSITIONS;
 ghost use mathlib.Core.Path.{_≡_};
 ghost use mathlib.Core.List.{[]};
 ghost use Prim.Native.Nat.{_+_, _-_, _*_, _/_, _%_, _<_, _≤_};
 ghost use lib.ListN.{length, getD, replicate};
 ghost use Rattle.ccsds.specs.Tables.{codeOf, Known};
-ghost use Rattle.ccsds.specs.inner.Layout.{LayoutOf};
-ghost use Rattle.encoder.specs.inner.Positions.{entered, rowEntered, Classes, WithinRow, checks, Table, Information, RowOf};
+ghost use Rattle.ccsds.specs.inner.Layout.{LayoutOf, FrontIs, joined, maxN, maxRows, maxDegree, maxAddresses};
+ghost use Rattle.encoder.specs.inner.Positions.{entered, rowEntered, Classes, WithinRow, checks, Table, Information, RowOf, maxClasses, tableSize};
+ghost use Rattle.symbol_sums.specs.Gather.{maxPositions};
 
-// What the table by class holds. From 0 on: where the positions of each entry start, 64 places a class.
+// The most classes of a code.
+pub const MAX_CLASSES: usize = 8;
+
+// What the table by class holds. From 0 on: where the positions of each entry start, MAX_POSITIONS places a class.
 
 // Where they end.
-const ENDS: usize = 512;
+const ENDS: usize = MAX_CLASSES * MAX_POSITIONS;
 
 // How many entries each class has.
-const COUNTS: usize = 1024;
+const COUNTS: usize = ENDS + MAX_CLASSES * MAX_POSITIONS;
 
-// The addresses as they stand in the standard's table, 8 places a row.
-pub const ADDRESSES: usize = 1032;
+// The addresses as they stand in the standard's table, MAX_DEGREE places a row.
+pub const ADDRESSES: usize = COUNTS + MAX_CLASSES;
+
+// All of it.
+pub const TABLE_SIZE: usize = ADDRESSES + MAX_ADDRESSES;
 
 // The shape of a block: its code's number and layout, and the bytes of a symbol.
 pub struct Shape {
@@ -31,58 +40,96 @@ pub struct Shape {
 }
 
 // A table before any entry.
-pub fn blank() -> [u16; 1544]
-    ensures { λ r. ⌜ r ≡ replicate 1544 0 ⌝ }
+pub fn blank() -> [u16; TABLE_SIZE]
+    ensures { λ r. ⌜ r ≡ replicate tableSize 0 ⌝ }
 {
-    [0u16; 1544]
+    [0u16; TABLE_SIZE]
+}
+
+// y / a and y % a. Every code has a = MAX_CLASSES, and a division by a constant is a shift.
+fn quotient(y: usize, a: usize) -> usize
+    requires { ⌜ 0 < a ⌝ }
+    ensures { λ r. ⌜ r ≡ y / a ⌝ }
+{
+    if a == MAX_CLASSES {
+        y / MAX_CLASSES
+    } else {
+        y / a
+    }
+}
+
+fn remainder(y: usize, a: usize) -> usize
+    requires { ⌜ 0 < a ⌝ }
+    ensures { λ r. ⌜ r ≡ y % a ⌝ }
+{
+    if a == MAX_CLASSES {
+        y % MAX_CLASSES
+    } else {
+        y % a
+    }
 }
 
 // Enters address y, which stands at place i of a table row, into its class.
-fn enter(q: usize, a: usize, row: usize, i: usize, y: usize, table: &mut [u16; 1544])
-    requires { ⌜ (0 < a) × (a ≤ 8) × (row * q + q ≤ 3072) × (y / a ≤ q) × (y < 65536) ⌝ }
-    requires { ⌜ (row < 64) × (i < 8) × (length (now table) ≡ 1544) ⌝ }
+fn enter(q: usize, a: usize, row: usize, i: usize, y: usize, table: &mut [u16; TABLE_SIZE])
+    requires { ⌜ (0 < a) × (a ≤ maxClasses) × (row * q + q ≤ maxN) × (y / a ≤ q) × (y < 65536) ⌝ }
+    requires { ⌜ (row < maxRows) × (i < maxDegree) × (length (now table) ≡ tableSize) ⌝ }
     ensures { λ _. ⌜ now (table .exit) ≡ entered q a row i y (now (table .entry)) ⌝ }
 {
-    let r = y % a;
-    table[ADDRESSES + row * 8 + i] = y as u16;
+    let r = remainder(y, a);
+    let d = quotient(y, a);
+    table[ADDRESSES + row * tables::MAX_DEGREE + i] = y as u16;
     let n = tables::wide(table[COUNTS + r]);
-    if n >= 64 {
+    if n >= MAX_POSITIONS {
         return;
     }
     let end = row * q + q;
-    table[r * 64 + n] = (end - y / a) as u16;
-    table[ENDS + r * 64 + n] = end as u16;
+    table[r * MAX_POSITIONS + n] = (end - d) as u16;
+    table[ENDS + r * MAX_POSITIONS + n] = end as u16;
     table[COUNTS + r] = (n + 1) as u16;
 }
 
 // Those of one table row.
-fn enter_row(number: usize, l: Layout, row: usize, table: &mut [u16; 1544])
-    requires { ⌜ Known number × LayoutOf (codeOf number) l ⌝ }
-    requires { ⌜ (row < length (codeOf number .rows)) × (codeOf number .a ≤ 8) ⌝ }
-    requires { ⌜ length (now table) ≡ 1544 ⌝ }
+fn enter_row(
+    number: usize,
+    l: Layout,
+    flat: &[u16; MAX_ADDRESSES],
+    row: usize,
+    table: &mut [u16; TABLE_SIZE],
+)
+    requires { ⌜ Known number × LayoutOf (codeOf number) l × FrontIs (joined (codeOf number .rows)) (now flat) ⌝ }
+    requires { ⌜ (row < length (codeOf number .rows)) × (codeOf number .a ≤ maxClasses) ⌝ }
+    requires { ⌜ length (now table) ≡ tableSize ⌝ }
     ensures { λ _. ⌜ now (table .exit) ≡ rowEntered (codeOf number) row (length (getD (codeOf number .rows) row [])) (now (table .entry)) ⌝ }
 {
-    let ys = tables::addresses(number, l, row);
     let n = tables::row_degree(number, l, row);
     let q = l.q;
     let a = l.a;
     let mut i = 0;
     while i < n {
-        enter(q, a, row, i, ys[i], table);
+        let y = tables::address(number, l, flat, row, i);
+        enter(q, a, row, i, y, table);
         i += 1;
     }
 }
 
-// Lays out the table of a code.
-pub fn lay(number: usize, l: Layout, table: &mut [u16; 1544])
+// Room for the addresses of a table.
+pub fn no_addresses() -> [u16; MAX_ADDRESSES]
+    ensures { λ r. ⌜ length r ≡ maxAddresses ⌝ }
+{
+    [0u16; MAX_ADDRESSES]
+}
+
+// Lays out the table of a code. The array for its addresses is the caller's, so that no call stands on two large frames.
+pub fn lay(number: usize, l: Layout, flat: &mut [u16; MAX_ADDRESSES], table: &mut [u16; TABLE_SIZE])
     requires { ⌜ Known number × LayoutOf (codeOf number) l ⌝ }
-    requires { ⌜ now table ≡ replicate 1544 0 ⌝ }
+    requires { ⌜ (length (now flat) ≡ maxAddresses) × (now table ≡ replicate tableSize 0) ⌝ }
     ensures { λ _. ⌜ Classes (codeOf number) (now (table .exit)) ⌝ }
 {
+    tables::put_addresses(number, flat);
     let rows = l.rows;
     let mut row = 0;
     while row < rows {
-        enter_row(number, l, row, table);
+        enter_row(number, l, flat, row, table);
         row += 1;
     }
 }
@@ -101,10 +148,16 @@ fn further(first: u16, end: u16, q: u16, i: u16) -> u16
 
 // The information positions of check row i * a + r, at the front of xs; answers how many. Whole groups of 16 are made, whatever lies behind
 // the entries: the vector instructions that this is compiled to then have no rest, which would be a branch that can't be foreseen.
-pub fn information(s: Shape, table: &[u16; 1544], i: usize, r: usize, xs: &mut [u16; 64]) -> usize
+pub fn information(
+    s: Shape,
+    table: &[u16; TABLE_SIZE],
+    i: usize,
+    r: usize,
+    xs: &mut [u16; MAX_POSITIONS],
+) -> usize
     requires { ⌜ Table s (now table) ⌝ }
     requires { ⌜ (r < codeOf (s .number) .a) × (i < codeOf (s .number) .q) ⌝ }
-    requires { ⌜ length (now xs) ≡ 64 ⌝ }
+    requires { ⌜ length (now xs) ≡ maxPositions ⌝ }
     ensures { λ n. ⌜ Information (codeOf (s .number)) (i * codeOf (s .number) .a + r) n (now (xs .exit)) ⌝ }
 {
     let n = tables::wide(table[COUNTS + r]);
@@ -112,8 +165,8 @@ pub fn information(s: Shape, table: &[u16; 1544], i: usize, r: usize, xs: &mut [
     let mut e = 0;
     while e < full {
         xs[e] = further(
-            table[r * 64 + e],
-            table[ENDS + r * 64 + e],
+            table[r * MAX_POSITIONS + e],
+            table[ENDS + r * MAX_POSITIONS + e],
             s.layout.q as u16,
             i as u16,
         );
@@ -124,14 +177,14 @@ pub fn information(s: Shape, table: &[u16; 1544], i: usize, r: usize, xs: &mut [
 
 // All positions of check row j, at the front of xs; answers how many. The last two, or the last where j is 0, are those of the parity
 // symbols.
-pub fn of_row(s: Shape, table: &[u16; 1544], j: usize, xs: &mut [u16; 64]) -> usize
+pub fn of_row(s: Shape, table: &[u16; TABLE_SIZE], j: usize, xs: &mut [u16; MAX_POSITIONS]) -> usize
     requires { ⌜ Table s (now table) ⌝ }
     requires { ⌜ j < codeOf (s .number) .m ⌝ }
-    requires { ⌜ length (now xs) ≡ 64 ⌝ }
+    requires { ⌜ length (now xs) ≡ maxPositions ⌝ }
     ensures { λ n. ⌜ RowOf (checks s) j n (now (xs .exit)) ⌝ }
 {
     let l = s.layout;
-    let n = information(s, table, j / l.a, j % l.a, xs);
+    let n = information(s, table, quotient(j, l.a), remainder(j, l.a), xs);
     xs[n] = (l.k + j) as u16;
     if j == 0 {
         return n + 1;

@@ -14,7 +14,7 @@ use Rattle.block.specs.declared.Block.{Block}
 
 -- the library's version: first number × 10000 + second × 100 + third
 abbrev pub version : ℕ
-version = 300
+version = 400
 
 -- a block's record from its four numbers
 unfoldable pub blockOf : List ℕ → Block

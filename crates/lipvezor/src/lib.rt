@@ -60,7 +60,7 @@ pub struct Work<'a> {
 pub extern "C" fn lipvezor_version() -> usize
     ensures { λ r. ⌜ r ≡ version ⌝ }
 {
-    300
+    400
 }
 
 // Symbols of a block, and bytes of its marks.

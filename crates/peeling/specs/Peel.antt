@@ -8,13 +8,13 @@ use Prim.Native.Nat.{ℕ, _+_, _-_, _<_, _≤_}
 use lib.ListN.{length, getD}
 use Rattle.algebra.specs.Codeword.{Checks}
 use Rattle.peeling.specs.States.{isKnown}
-use Rattle.peeling.specs.Plan.{kindOf, Plan, Unsolved}
+use Rattle.peeling.specs.Plan.{kindOf, Plan, Unsolved, planSize}
 use Rattle.peeling.specs.Values.{Values}
 use Rattle.peeling.specs.declared.peel.Progress.{Progress}
 
 -- every missing position is open and no row is used
 pub record Opened (n : ℕ) (states plan : List ℕ) : Type 0 where
-  pub size : length plan ≡ 9216
+  pub size : length plan ≡ planSize
   pub known : (p : ℕ) → p < n → isKnown states p ≡ true → kindOf plan p ≡ 0
   pub open-kind : (p : ℕ) → p < n → isKnown states p ≡ false → kindOf plan p ≡ 65535
   pub unused : (k : ℕ) → 8192 ≤ k → getD plan k 0 ≡ 0

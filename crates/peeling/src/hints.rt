@@ -1,72 +1,88 @@
 // Which check rows to look at. Nothing is proved of the hints but that they stay in their arrays: a row that they name is looked at before it is
 // used. counts has how many open symbols each row has, and ready a bit for each row that had just one.
 use crate::states::KNOWN;
+use ccsds::code::Code;
 use ccsds::tables;
 use ccsds::tables::Layout;
+use ccsds::tables::MAX_DEGREE;
 use encoder::positions::ADDRESSES;
+use encoder::positions::TABLE_SIZE;
+use std::num;
 ghost use mathlib.Core.Path.{_≡_};
-ghost use Prim.Native.Nat.{_<_, _≤_};
+ghost use Prim.Native.Nat.{_/_, _<_, _≤_};
 ghost use lib.ListN.{length};
 ghost use Rattle.peeling.specs.Hints.{Fits};
+ghost use Rattle.ccsds.specs.inner.Layout.{maxN, maxM, maxRows, maxDegree};
+ghost use Rattle.encoder.specs.inner.Positions.{tableSize};
 
 // No position.
 pub const NONE: u16 = 65535;
 
+// The words of the rows that are ready, 64 to a word.
+pub const READY: usize = Code::MAX_M / 64;
+
 // No open symbol in any row.
-pub fn no_counts() -> [u8; 1024]
-    ensures { λ r. ⌜ length r ≡ 1024 ⌝ }
+pub fn no_counts() -> [u8; Code::MAX_M]
+    ensures { λ r. ⌜ length r ≡ maxM ⌝ }
 {
-    [0u8; 1024]
+    [0u8; Code::MAX_M]
 }
 
 // No row that is ready.
-pub fn no_rows() -> [u64; 16]
-    ensures { λ r. ⌜ length r ≡ 16 ⌝ }
+pub fn no_rows() -> [u64; READY]
+    ensures { λ r. ⌜ length r ≡ maxM / 64 ⌝ }
 {
-    [0u64; 16]
+    [0u64; READY]
 }
 
-// The check rows of an information position, which stands o places further in its table row of n addresses.
-fn shifted(m: usize, table: &[u16; 1544], row: usize, n: usize, o: usize, js: &mut [usize; 8])
-    requires { ⌜ (length (now table) ≡ 1544) × (row < 64) × (n ≤ 8) × (o ≤ 1048576) × (length (now js) ≡ 8) ⌝ }
-    ensures { λ _. ⌜ length (now (js .exit)) ≡ 8 ⌝ }
+// y + o modulo m, where both are below m.
+fn shifted(y: u16, o: u16, m: u16) -> u16 {
+    let j = num::wrapping_add_u16(y, o);
+    if j < m {
+        j
+    } else {
+        num::wrapping_sub_u16(j, m)
+    }
+}
+
+// The check rows of an information position, which stands o check rows further than the first of its table row. All places of the row are
+// made, whatever lies behind its addresses: this is compiled to a few vector instructions.
+fn shifted_row(m: u16, table: &[u16; TABLE_SIZE], row: usize, o: u16, js: &mut [u16; MAX_DEGREE])
+    requires { ⌜ (length (now table) ≡ tableSize) × (row < maxRows) × (length (now js) ≡ maxDegree) ⌝ }
+    ensures { λ _. ⌜ length (now (js .exit)) ≡ maxDegree ⌝ }
 {
     let mut i = 0;
-    while i < n {
-        let j = tables::wide(table[ADDRESSES + row * 8 + i]) + o;
-        js[i] = if j < m { j } else { j - m };
+    while i < MAX_DEGREE {
+        js[i] = shifted(table[ADDRESSES + row * MAX_DEGREE + i], o, m);
         i += 1;
     }
 }
 
 // How many addresses a table row has.
 fn degree(l: Layout, row: usize) -> usize
-    requires { ⌜ (l .degree ≤ 8) × (l .rest ≤ 8) ⌝ }
-    ensures { λ r. ⌜ r ≤ 8 ⌝ }
+    requires { ⌜ (l .degree ≤ maxDegree) × (l .rest ≤ maxDegree) ⌝ }
+    ensures { λ r. ⌜ r ≤ maxDegree ⌝ }
 {
     if row < l.long { l.degree } else { l.rest }
 }
 
 // The check rows of position x, at the front of js; returns how many.
-fn column(l: Layout, table: &[u16; 1544], x: usize, js: &mut [usize; 8]) -> usize
-    requires { ⌜ Fits l × (x < 65536) × (length (now table) ≡ 1544) × (length (now js) ≡ 8) ⌝ }
-    ensures { λ r. ⌜ (r ≤ 8) × (length (now (js .exit)) ≡ 8) ⌝ }
+fn column(l: Layout, table: &[u16; TABLE_SIZE], x: usize, js: &mut [u16; MAX_DEGREE]) -> usize
+    requires { ⌜ Fits l × (x < 65535) × (length (now table) ≡ tableSize) × (length (now js) ≡ maxDegree) ⌝ }
+    ensures { λ r. ⌜ (r ≤ maxDegree) × (length (now (js .exit)) ≡ maxDegree) ⌝ }
 {
-    let m = l.m;
     if x >= l.k {
         let t = x - l.k;
-        js[0] = t;
-        js[1] = t + 1;
-        if t + 1 == m {
+        js[0] = t as u16;
+        js[1] = (t + 1) as u16;
+        if t + 1 == l.m {
             return 1;
         }
         return 2;
     }
     let row = x / l.q;
-    let o = x % l.q * l.a;
-    let n = degree(l, row);
-    shifted(m, table, row, n, o, js);
-    n
+    shifted_row(l.m as u16, table, row, (x % l.q * l.a) as u16, js);
+    degree(l, row)
 }
 
 // One more than c, but no more than 255.
@@ -85,24 +101,30 @@ fn bit(c: u8, v: u8) -> u64 {
 }
 
 // Position x is open: its check rows have one more.
-fn open_column(l: Layout, table: &[u16; 1544], x: usize, counts: &mut [u8; 1024])
-    requires { ⌜ Fits l × (x < 65536) × (length (now table) ≡ 1544) × (length (now counts) ≡ 1024) ⌝ }
-    ensures { λ _. ⌜ length (now (counts .exit)) ≡ 1024 ⌝ }
+fn open_column(l: Layout, table: &[u16; TABLE_SIZE], x: usize, counts: &mut [u8; Code::MAX_M])
+    requires { ⌜ Fits l × (x < 65535) × (length (now table) ≡ tableSize) × (length (now counts) ≡ maxM) ⌝ }
+    ensures { λ _. ⌜ length (now (counts .exit)) ≡ maxM ⌝ }
 {
-    let mut js = [0usize; 8];
+    let mut js = [0u16; MAX_DEGREE];
     let n = column(l, table, x, &mut js);
     let mut i = 0;
     while i < n {
-        let j = js[i] % 1024;
+        let j = tables::wide(js[i]) % Code::MAX_M;
         counts[j] = more(counts[j]);
         i += 1;
     }
 }
 
 // The same for a missing position.
-fn open_if_missing(l: Layout, table: &[u16; 1544], x: usize, state: u8, counts: &mut [u8; 1024])
-    requires { ⌜ Fits l × (x < 65536) × (length (now table) ≡ 1544) × (length (now counts) ≡ 1024) ⌝ }
-    ensures { λ _. ⌜ length (now (counts .exit)) ≡ 1024 ⌝ }
+fn open_if_missing(
+    l: Layout,
+    table: &[u16; TABLE_SIZE],
+    x: usize,
+    state: u8,
+    counts: &mut [u8; Code::MAX_M],
+)
+    requires { ⌜ Fits l × (x < 65535) × (length (now table) ≡ tableSize) × (length (now counts) ≡ maxM) ⌝ }
+    ensures { λ _. ⌜ length (now (counts .exit)) ≡ maxM ⌝ }
 {
     if state == KNOWN {
         return;
@@ -111,9 +133,9 @@ fn open_if_missing(l: Layout, table: &[u16; 1544], x: usize, state: u8, counts: 
 }
 
 // The same for each missing position.
-pub fn count(l: Layout, table: &[u16; 1544], states: &[u8], counts: &mut [u8; 1024])
-    requires { ⌜ Fits l × (length (now states) ≤ 3072) × (length (now table) ≡ 1544) × (length (now counts) ≡ 1024) ⌝ }
-    ensures { λ _. ⌜ length (now (counts .exit)) ≡ 1024 ⌝ }
+pub fn count(l: Layout, table: &[u16; TABLE_SIZE], states: &[u8], counts: &mut [u8; Code::MAX_M])
+    requires { ⌜ Fits l × (length (now states) ≤ maxN) × (length (now table) ≡ tableSize) × (length (now counts) ≡ maxM) ⌝ }
+    ensures { λ _. ⌜ length (now (counts .exit)) ≡ maxM ⌝ }
 {
     let mut x = 0;
     while x < states.len() {
@@ -122,18 +144,18 @@ pub fn count(l: Layout, table: &[u16; 1544], states: &[u8], counts: &mut [u8; 10
     }
 }
 
-fn set_ready(ready: &mut [u64; 16], j: usize, one: u64)
-    requires { ⌜ length (now ready) ≡ 16 ⌝ }
-    ensures { λ _. ⌜ length (now (ready .exit)) ≡ 16 ⌝ }
+fn set_ready(ready: &mut [u64; READY], j: usize, one: u64)
+    requires { ⌜ length (now ready) ≡ maxM / 64 ⌝ }
+    ensures { λ _. ⌜ length (now (ready .exit)) ≡ maxM / 64 ⌝ }
 {
-    let i = j / 64 % 16;
+    let i = j / 64 % READY;
     ready[i] = ready[i] | one << (j % 64);
 }
 
 // The rows with one open symbol.
-pub fn first_ready(m: usize, counts: &[u8; 1024], ready: &mut [u64; 16])
-    requires { ⌜ (m ≤ 1024) × (length (now counts) ≡ 1024) × (length (now ready) ≡ 16) ⌝ }
-    ensures { λ _. ⌜ length (now (ready .exit)) ≡ 16 ⌝ }
+pub fn first_ready(m: usize, counts: &[u8; Code::MAX_M], ready: &mut [u64; READY])
+    requires { ⌜ (m ≤ maxM) × (length (now counts) ≡ maxM) × (length (now ready) ≡ maxM / 64) ⌝ }
+    ensures { λ _. ⌜ length (now (ready .exit)) ≡ maxM / 64 ⌝ }
 {
     let mut j = 0;
     while j < m {
@@ -143,19 +165,25 @@ pub fn first_ready(m: usize, counts: &[u8; 1024], ready: &mut [u64; 16])
 }
 
 // Position x is no longer open: its check rows have one less. NONE is no position.
-pub fn close(l: Layout, table: &[u16; 1544], x: u16, counts: &mut [u8; 1024], ready: &mut [u64; 16])
-    requires { ⌜ Fits l × (length (now table) ≡ 1544) ⌝ }
-    requires { ⌜ (length (now counts) ≡ 1024) × (length (now ready) ≡ 16) ⌝ }
-    ensures { λ _. ⌜ (length (now (counts .exit)) ≡ 1024) × (length (now (ready .exit)) ≡ 16) ⌝ }
+pub fn close(
+    l: Layout,
+    table: &[u16; TABLE_SIZE],
+    x: u16,
+    counts: &mut [u8; Code::MAX_M],
+    ready: &mut [u64; READY],
+)
+    requires { ⌜ Fits l × (length (now table) ≡ tableSize) ⌝ }
+    requires { ⌜ (length (now counts) ≡ maxM) × (length (now ready) ≡ maxM / 64) ⌝ }
+    ensures { λ _. ⌜ (length (now (counts .exit)) ≡ maxM) × (length (now (ready .exit)) ≡ maxM / 64) ⌝ }
 {
     if x == NONE {
         return;
     }
-    let mut js = [0usize; 8];
+    let mut js = [0u16; MAX_DEGREE];
     let n = column(l, table, tables::wide(x), &mut js);
     let mut i = 0;
     while i < n {
-        let j = js[i] % 1024;
+        let j = tables::wide(js[i]) % Code::MAX_M;
         let c = counts[j];
         counts[j] = less(c);
         set_ready(ready, j, bit(c, 2));
@@ -169,13 +197,13 @@ fn lowest(v: u64) -> usize
     u64::trailing_zeros(v) as usize
 }
 
-// The lowest row that is ready, which then is not any more; 1024 where there is none.
-pub fn next(ready: &mut [u64; 16]) -> usize
-    requires { ⌜ length (now ready) ≡ 16 ⌝ }
-    ensures { λ _. ⌜ length (now (ready .exit)) ≡ 16 ⌝ }
+// The lowest row that is ready, which then is not any more; MAX_M where there is none.
+pub fn next(ready: &mut [u64; READY]) -> usize
+    requires { ⌜ length (now ready) ≡ maxM / 64 ⌝ }
+    ensures { λ _. ⌜ length (now (ready .exit)) ≡ maxM / 64 ⌝ }
 {
     let mut i = 0;
-    while i < 16 {
+    while i < READY {
         let v = ready[i];
         if v != 0 {
             ready[i] = v & (v - 1);
@@ -183,5 +211,5 @@ pub fn next(ready: &mut [u64; 16]) -> usize
         }
         i += 1;
     }
-    1024
+    Code::MAX_M
 }

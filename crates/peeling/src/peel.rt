@@ -2,6 +2,7 @@
 // put off as a pivot, with zero for its symbol. The plan (specs/Plan.antt) says of each position what became of it.
 use crate::hints;
 use crate::hints::NONE;
+use crate::hints::READY;
 use crate::plan::FIRST_PIVOT;
 use crate::plan::OPEN;
 use crate::plan::PIVOTS;
@@ -9,9 +10,12 @@ use crate::plan::STEP_POSITIONS;
 use crate::plan::STEP_ROWS;
 use crate::plan::USED;
 use crate::states::KNOWN;
+use ccsds::code::Code;
 use ccsds::tables;
 use encoder::positions;
 use encoder::positions::Shape;
+use encoder::positions::TABLE_SIZE;
+use symbol_sums::MAX_POSITIONS;
 ghost use mathlib.Core.Path.{_≡_};
 ghost use mathlib.Core.Logic.{_≢_};
 ghost use mathlib.Core.Bool.{cond};
@@ -19,13 +23,14 @@ ghost use Prim.Native.Nat.{ℕ, _+_, _*_, _<_, _≤_};
 ghost use lib.Dec.{eqb};
 ghost use lib.ListN.{length, getD, set, replicate};
 ghost use Rattle.algebra.specs.Codeword.{byteAt};
-ghost use Rattle.symbol_sums.specs.Gather.{gathered, Inside, Replaced};
+ghost use Rattle.symbol_sums.specs.Gather.{gathered, Inside, Replaced, maxPositions};
 ghost use Rattle.ccsds.specs.Tables.{codeOf};
-ghost use Rattle.ccsds.specs.inner.Layout.{LayoutOf};
+ghost use Rattle.ccsds.specs.inner.Layout.{LayoutOf, maxN, maxM};
 ghost use Rattle.encoder.specs.inner.Positions.{checks, Table};
 ghost use Rattle.peeling.specs.Values.{Peeled};
 ghost use Rattle.peeling.specs.Hints.{Hinted};
 ghost use Rattle.peeling.specs.Peel.{Opened, AllKnownIs, SingleIs, NextOpen, Reached, Continued};
+ghost use Rattle.peeling.specs.Plan.{planSize, firstPivot};
 
 // How far peeling has come: steps made, pivots put off, steps made before the first pivot, the position up to which none is open, how many rows may
 // still be tried, so that it ends, and the position that the last turn settled or put off, or NONE.
@@ -61,7 +66,7 @@ fn kind_of(state: u8) -> u16
 
 // Every missing position is open.
 pub fn open_missing(states: &[u8], plan: &mut [u16])
-    requires { ⌜ (length (now states) ≤ 3072) × (now plan ≡ replicate 9216 0) ⌝ }
+    requires { ⌜ (length (now states) ≤ maxN) × (now plan ≡ replicate planSize 0) ⌝ }
     ensures { λ _. ⌜ Opened (length (now (states .entry))) (now (states .entry)) (now (plan .exit)) ⌝ }
 {
     let mut x = 0;
@@ -77,13 +82,13 @@ fn choose(first: bool, x: usize, y: usize) -> usize
     if first { x } else { y }
 }
 
-// The index of the only open position; 64 where there is none or more.
-fn single(plan: &[u16], xs: &[u16; 64], n: usize) -> usize
-    requires { ⌜ (n ≤ 64) × (length (now xs) ≡ 64) ⌝ }
+// The index of the only open position; MAX_POSITIONS where there is none or more.
+fn single(plan: &[u16], xs: &[u16; MAX_POSITIONS], n: usize) -> usize
+    requires { ⌜ (n ≤ maxPositions) × (length (now xs) ≡ maxPositions) ⌝ }
     requires { ⌜ ((i : ℕ) → i < n → getD (now xs) i 0 < length (now plan)) ⌝ }
     ensures { λ r. ⌜ SingleIs (now (plan .entry)) (now (xs .entry)) n r ⌝ }
 {
-    let mut at = 64;
+    let mut at = MAX_POSITIONS;
     let mut found = 0;
     let mut i = 0;
     while i < n {
@@ -93,7 +98,7 @@ fn single(plan: &[u16], xs: &[u16; 64], n: usize) -> usize
         found = choose(open, found + 1, found);
         i += 1;
     }
-    choose(found == 1, at, 64)
+    choose(found == 1, at, MAX_POSITIONS)
 }
 
 // Step t: check row r settles position p.
@@ -102,12 +107,12 @@ fn settle(
     t: usize,
     r: usize,
     p: usize,
-    xs: &[u16; 64],
+    xs: &[u16; MAX_POSITIONS],
     n: usize,
     plan: &mut [u16],
     symbols: &mut [u8],
 )
-    requires { ⌜ (t < 1024) × ((r < 1024) × ((p < 3072) × (length (now plan) ≡ 9216))) ⌝ }
+    requires { ⌜ (t < maxM) × ((r < maxM) × ((p < maxN) × (length (now plan) ≡ planSize))) ⌝ }
     requires { ⌜ (p * w + w ≤ length (now symbols)) × Inside (now xs) n w (length (now symbols)) ⌝ }
     requires { ⌜ ((i : ℕ) → i < n → getD (now xs) i 0 ≢ p) ⌝ }
     ensures { λ _. ⌜ now (plan .exit) ≡ set (set (set (set (now (plan .entry)) (6144 + t) r) (7168 + t) p) (8192 + r) 1) p (t + 1) ⌝ }
@@ -122,7 +127,7 @@ fn settle(
 
 // How many steps were made before the first pivot, once there is one step more.
 fn early_steps(g: Progress) -> usize
-    requires { ⌜ g .steps < 1024 ⌝ }
+    requires { ⌜ g .steps < maxM ⌝ }
     ensures { λ r. ⌜ r ≡ cond (eqb (g .pivots) 0) (g .steps + 1) (g .early) ⌝ }
 {
     if g.pivots == 0 { g.steps + 1 } else { g.early }
@@ -133,16 +138,16 @@ fn try_row(
     s: Shape,
     r: usize,
     g: Progress,
-    table: &[u16; 1544],
-    xs: &mut [u16; 64],
+    table: &[u16; TABLE_SIZE],
+    xs: &mut [u16; MAX_POSITIONS],
     plan: &mut [u16],
     symbols: &mut [u8],
 ) -> Progress
     requires { ⌜ Table s (now table) ⌝ }
-    requires { ⌜ length (now xs) ≡ 64 ⌝ }
+    requires { ⌜ length (now xs) ≡ maxPositions ⌝ }
     requires { ⌜ (r < codeOf (s .number) .m) × (0 < g .fuel) ⌝ }
     requires { ⌜ Reached (checks s) (s .w) (now plan) (now symbols) g ⌝ }
-    ensures { λ _. ⌜ length (now (xs .exit)) ≡ 64 ⌝ }
+    ensures { λ _. ⌜ length (now (xs .exit)) ≡ maxPositions ⌝ }
     ensures { λ h. ⌜ Continued (checks s) (s .w) (now (plan .entry)) (now (symbols .entry)) g (now (plan .exit)) (now (symbols .exit)) h ⌝ }
 {
     let n = positions::of_row(s, table, r, xs);
@@ -178,9 +183,9 @@ fn try_row(
 
 // Position x becomes pivot s, with symbol zero.
 fn defer(w: usize, s: usize, x: usize, plan: &mut [u16], symbols: &mut [u8])
-    requires { ⌜ (s < 3072) × ((x < 3072) × (length (now plan) ≡ 9216)) ⌝ }
+    requires { ⌜ (s < maxN) × ((x < maxN) × (length (now plan) ≡ planSize)) ⌝ }
     requires { ⌜ x * w + w ≤ length (now symbols) ⌝ }
-    ensures { λ _. ⌜ now (plan .exit) ≡ set (set (now (plan .entry)) (3072 + s) x) x (1025 + s) ⌝ }
+    ensures { λ _. ⌜ now (plan .exit) ≡ set (set (now (plan .entry)) (maxN + s) x) x (firstPivot + s) ⌝ }
     ensures { λ _. ⌜ Replaced (λ b. 0) w x (now (symbols .entry)) (now (symbols .exit)) ⌝ }
 {
     let at = x * w;
@@ -237,7 +242,7 @@ fn put_off(s: Shape, g: Progress, plan: &mut [u16], symbols: &mut [u8]) -> Progr
 }
 
 // The next row to try; m where there is none, or none may be tried any more.
-fn next_row(fuel: usize, m: usize, ready: &mut [u64; 16]) -> usize
+fn next_row(fuel: usize, m: usize, ready: &mut [u64; READY]) -> usize
     requires { ⌜ length (now ready) ≡ 16 ⌝ }
     ensures { λ r. ⌜ (r < m → 0 < fuel) ⌝ }
     ensures { λ _. ⌜ length (now (ready .exit)) ≡ 16 ⌝ }
@@ -253,16 +258,16 @@ fn advance(
     s: Shape,
     r: usize,
     g: Progress,
-    table: &[u16; 1544],
-    xs: &mut [u16; 64],
+    table: &[u16; TABLE_SIZE],
+    xs: &mut [u16; MAX_POSITIONS],
     plan: &mut [u16],
     symbols: &mut [u8],
 ) -> Progress
     requires { ⌜ Table s (now table) ⌝ }
-    requires { ⌜ length (now xs) ≡ 64 ⌝ }
+    requires { ⌜ length (now xs) ≡ maxPositions ⌝ }
     requires { ⌜ (g .cursor < checks s .n) × (r < s .layout .m → 0 < g .fuel) ⌝ }
     requires { ⌜ Reached (checks s) (s .w) (now plan) (now symbols) g ⌝ }
-    ensures { λ _. ⌜ length (now (xs .exit)) ≡ 64 ⌝ }
+    ensures { λ _. ⌜ length (now (xs .exit)) ≡ maxPositions ⌝ }
     ensures { λ h. ⌜ Continued (checks s) (s .w) (now (plan .entry)) (now (symbols .entry)) g (now (plan .exit)) (now (symbols .exit)) h ⌝ }
 {
     let l = s.layout;
@@ -276,19 +281,19 @@ fn advance(
 fn turn(
     s: Shape,
     g: Progress,
-    table: &[u16; 1544],
-    xs: &mut [u16; 64],
+    table: &[u16; TABLE_SIZE],
+    xs: &mut [u16; MAX_POSITIONS],
     plan: &mut [u16],
     symbols: &mut [u8],
-    counts: &mut [u8; 1024],
-    ready: &mut [u64; 16],
+    counts: &mut [u8; Code::MAX_M],
+    ready: &mut [u64; READY],
 ) -> Progress
     requires { ⌜ Table s (now table) ⌝ }
     requires { ⌜ Hinted (now counts) (now ready) ⌝ }
-    requires { ⌜ length (now xs) ≡ 64 ⌝ }
+    requires { ⌜ length (now xs) ≡ maxPositions ⌝ }
     requires { ⌜ g .cursor < checks s .n ⌝ }
     requires { ⌜ Reached (checks s) (s .w) (now plan) (now symbols) g ⌝ }
-    ensures { λ _. ⌜ length (now (xs .exit)) ≡ 64 ⌝ }
+    ensures { λ _. ⌜ length (now (xs .exit)) ≡ maxPositions ⌝ }
     ensures { λ _. ⌜ Hinted (now (counts .exit)) (now (ready .exit)) ⌝ }
     ensures { λ h. ⌜ Continued (checks s) (s .w) (now (plan .entry)) (now (symbols .entry)) g (now (plan .exit)) (now (symbols .exit)) h ⌝ }
 {
@@ -300,15 +305,15 @@ fn turn(
 }
 
 // Room for the positions of a check row.
-pub fn no_positions() -> [u16; 64]
-    ensures { λ r. ⌜ length r ≡ 64 ⌝ }
+pub fn no_positions() -> [u16; MAX_POSITIONS]
+    ensures { λ r. ⌜ length r ≡ maxPositions ⌝ }
 {
-    [0u16; 64]
+    [0u16; MAX_POSITIONS]
 }
 
 // No position is missing. Counted in 16 bits, so that eight states are tested at a time.
 fn none_missing(states: &[u8]) -> bool
-    requires { ⌜ length (now states) ≤ 3072 ⌝ }
+    requires { ⌜ length (now states) ≤ maxN ⌝ }
     ensures { λ r. ⌜ AllKnownIs (now (states .entry)) r ⌝ }
 {
     let mut known: u16 = 0;
@@ -325,7 +330,7 @@ fn none_missing(states: &[u8]) -> bool
 // From where the missing positions are open and nothing is used: settles every one of them by a check row, or puts it off.
 fn peel_open(
     s: Shape,
-    table: &[u16; 1544],
+    table: &[u16; TABLE_SIZE],
     states: &[u8],
     plan: &mut [u16],
     symbols: &mut [u8],
@@ -351,13 +356,13 @@ fn peel_open(
 // Settles every missing position by a check row, or puts it off.
 pub fn peel(
     s: Shape,
-    table: &[u16; 1544],
+    table: &[u16; TABLE_SIZE],
     states: &[u8],
     plan: &mut [u16],
     symbols: &mut [u8],
 ) -> Progress
     requires { ⌜ Table s (now table) ⌝ }
-    requires { ⌜ now plan ≡ replicate 9216 0 ⌝ }
+    requires { ⌜ now plan ≡ replicate planSize 0 ⌝ }
     requires { ⌜ (length (now states) ≡ checks s .n) × (length (now symbols) ≡ checks s .n * s .w) ⌝ }
     ensures { λ g. ⌜ Peeled (checks s) (s .w) (now (symbols .entry)) (now (states .entry)) (now (plan .exit)) (now (symbols .exit)) (g .early) (g .steps) (g .pivots) ⌝ }
 {

@@ -13,7 +13,8 @@ use Rattle.algebra.specs.Sums.{_⊕_, pick, sum}
 use Rattle.algebra.specs.Codeword.{Checks}
 use Rattle.elimination.specs.Bits.{rowBit}
 use Rattle.elimination.specs.Reduced.{pivotWord}
-use Rattle.peeling.specs.Plan.{kindOf, rowOf, usedBy, unusedBelow, Plan, Closed}
+use Rattle.ccsds.specs.inner.Layout.{maxM}
+use Rattle.peeling.specs.Plan.{kindOf, rowOf, usedBy, unusedBelow, Plan, Closed, firstPivot, lastPivot, firstSolved}
 use Rattle.pivot_equations.specs.declared.express.Rows.{Rows}
 
 -- the rows are those of a plan, for some states, in which no position is open
@@ -33,10 +34,10 @@ pub record Room (c : Checks) (r : Rows) (size : ℕ) : Type 0 where
 unfoldable pub dependsOn : List ℕ → ℕ → ℕ → ℕ → ℕ → Bool
 dependsOn l words early kind i =
     cond (ltb early kind)
-    (cond (ltb 1024 kind)
-    (cond (ltb 4096 kind)
-    (xor (rowBit l ((kind - 4097) * (words + 1)) i) (eqb i (pivotWord l words (kind - 4097) - 1)))
-    (eqb i (kind - 1025)))
+    (cond (ltb maxM kind)
+    (cond (ltb lastPivot kind)
+    (xor (rowBit l ((kind - firstSolved) * (words + 1)) i) (eqb i (pivotWord l words (kind - firstSolved) - 1)))
+    (eqb i (kind - firstPivot)))
     (rowBit l ((kind - 1) * (words + 1)) i))
     false
 
@@ -46,9 +47,9 @@ coefficient plan l words early p i = pick (dependsOn l words early (kindOf plan 
 
 -- what stands for a position of this kind is among the first `rows` rows, and is not row t
 pub record Reads (l : List ℕ) (words early rows t kind : ℕ) : Type 0 where
-  pub step : early < kind → kind ≤ 1024 → (kind - 1 ≢ t) × (kind - 1 < rows)
-  pub pivot : 1024 < kind → kind ≤ 4096 → kind - 1025 < 64 * words
-  pub solved : 4096 < kind → (kind - 4097 ≢ t) × ((kind - 4097 < rows) × ((0 < pivotWord l words (kind - 4097)) × (pivotWord l words (kind - 4097) ≤ 64 * words)))
+  pub step : early < kind → kind ≤ maxM → (kind - 1 ≢ t) × (kind - 1 < rows)
+  pub pivot : maxM < kind → kind ≤ lastPivot → kind - firstPivot < 64 * words
+  pub solved : lastPivot < kind → (kind - firstSolved ≢ t) × ((kind - firstSolved < rows) × ((0 < pivotWord l words (kind - firstSolved)) × (pivotWord l words (kind - firstSolved) ≤ 64 * words)))
 
 -- l and l′ differ in row t only
 pub record OnlyRow (l l′ : List ℕ) (words t : ℕ) : Type 0 where
@@ -68,10 +69,10 @@ pub record RowIs (c : Checks) (plan l l′ : List ℕ) (words early t j p : ℕ)
 
 -- every pivot has a place in a row: its number, or one of the rows behind the steps
 abbrev pub Places : Checks → List ℕ → List ℕ → ℕ → ℕ → ℕ → Type 0
-Places c plan l words steps rows = (p : ℕ) → p < c .n → 1024 < kindOf plan p
-    → (kindOf plan p ≤ 4096 → kindOf plan p - 1025 < 64 * words)
-    × (4096 < kindOf plan p → (steps ≤ kindOf plan p - 4097)
-    × ((kindOf plan p - 4097 < rows) × ((0 < pivotWord l words (kindOf plan p - 4097)) × (pivotWord l words (kindOf plan p - 4097) ≤ 64 * words))))
+Places c plan l words steps rows = (p : ℕ) → p < c .n → maxM < kindOf plan p
+    → (kindOf plan p ≤ lastPivot → kindOf plan p - firstPivot < 64 * words)
+    × (lastPivot < kindOf plan p → (steps ≤ kindOf plan p - firstSolved)
+    × ((kindOf plan p - firstSolved < rows) × ((0 < pivotWord l words (kindOf plan p - firstSolved)) × (pivotWord l words (kindOf plan p - firstSolved) ≤ 64 * words))))
 
 -- the rows of the steps hold: each step's check row adds up to no pivot
 abbrev pub StepsExpressed : Checks → List ℕ → List ℕ → ℕ → ℕ → ℕ → Type 0

@@ -2,6 +2,7 @@
 use ccsds::tables;
 use encoder::positions;
 use encoder::positions::Shape;
+use encoder::positions::TABLE_SIZE;
 use peeling::peel;
 use peeling::plan::FIRST_PIVOT;
 use peeling::plan::FIRST_SOLVED;
@@ -11,13 +12,16 @@ use peeling::plan::PIVOTS;
 use peeling::plan::STEP_POSITIONS;
 use peeling::plan::STEP_ROWS;
 use peeling::plan::USED;
+use symbol_sums::MAX_POSITIONS;
 ghost use mathlib.Core.Path.{_≡_};
 ghost use Prim.Native.Nat.{_+_, _*_, _/_, _≤_, _<_};
 ghost use lib.ListN.{length};
 ghost use Rattle.ccsds.specs.Tables.{codeOf};
 ghost use Rattle.encoder.specs.inner.Positions.{checks, Table};
-ghost use Rattle.peeling.specs.Plan.{kindOf, unusedBelow, Unsolved};
+ghost use Rattle.peeling.specs.Plan.{kindOf, unusedBelow, Unsolved, planSize};
 ghost use Rattle.pivot_equations.specs.Express.{Reads, Added, RowIs, Places, StepsExpressed, SameFrom, SameBelow, RestExpressed, flipRowBit, kindBut, ReadsAll, RestTo, Planned, Room};
+ghost use Rattle.symbol_sums.specs.Gather.{maxPositions};
+ghost use Rattle.ccsds.specs.inner.Layout.{maxN};
 
 // The rows of the equations: `steps` rows of the steps, the first `early` of which are not made, and `rest` rows of the check rows that no step used;
 // each has `packed` words for the `pivots` pivots, and one more.
@@ -49,7 +53,7 @@ fn add(
     words: &mut [u64],
 )
     requires { ⌜ (packed ≤ 48) × (rows * (packed + 1) ≤ length (now words)) ⌝ }
-    requires { ⌜ (t < rows) × ((p < 3072) × (length (now plan) ≡ 9216)) ⌝ }
+    requires { ⌜ (t < rows) × ((p < maxN) × (length (now plan) ≡ planSize)) ⌝ }
     requires { ⌜ Reads (now words) packed early rows t (kindOf (now plan) p) ⌝ }
     ensures { λ _. ⌜ Added (now (words .entry)) (now (words .exit)) packed early t (kindOf (now (plan .entry)) p) ⌝ }
 {
@@ -84,7 +88,7 @@ fn add_other(
     words: &mut [u64],
 )
     requires { ⌜ (packed ≤ 48) × (rows * (packed + 1) ≤ length (now words)) ⌝ }
-    requires { ⌜ (t < rows) × ((x < 3072) × (length (now plan) ≡ 9216)) ⌝ }
+    requires { ⌜ (t < rows) × ((x < maxN) × (length (now plan) ≡ planSize)) ⌝ }
     requires { ⌜ Reads (now words) packed early rows t (kindBut (now plan) p x) ⌝ }
     ensures { λ _. ⌜ Added (now (words .entry)) (now (words .exit)) packed early t (kindBut (now (plan .entry)) p x) ⌝ }
 {
@@ -106,17 +110,17 @@ fn row(
     s: Shape,
     r: Rows,
     e: Target,
-    table: &[u16; 1544],
-    xs: &mut [u16; 64],
+    table: &[u16; TABLE_SIZE],
+    xs: &mut [u16; MAX_POSITIONS],
     plan: &[u16],
     words: &mut [u64],
 )
     requires { ⌜ Table s (now table) ⌝ }
-    requires { ⌜ length (now xs) ≡ 64 ⌝ }
+    requires { ⌜ length (now xs) ≡ maxPositions ⌝ }
     requires { ⌜ (r .packed ≤ 48) × (s .layout .m * (r .packed + 1) ≤ length (now words)) ⌝ }
-    requires { ⌜ (e .row < s .layout .m) × ((e .check < codeOf (s .number) .m) × (length (now plan) ≡ 9216)) ⌝ }
+    requires { ⌜ (e .row < s .layout .m) × ((e .check < codeOf (s .number) .m) × (length (now plan) ≡ planSize)) ⌝ }
     requires { ⌜ ReadsAll (checks s) (now plan) (now words) (r .packed) (r .early) (s .layout .m) (e .row) (e .but) ⌝ }
-    ensures { λ _. ⌜ length (now (xs .exit)) ≡ 64 ⌝ }
+    ensures { λ _. ⌜ length (now (xs .exit)) ≡ maxPositions ⌝ }
     ensures { λ _. ⌜ RowIs (checks s) (now (plan .entry)) (now (words .entry)) (now (words .exit)) (r .packed) (r .early) (e .row) (e .check) (e .but) ⌝ }
 {
     let l = s.layout;
@@ -136,7 +140,7 @@ fn row(
 }
 
 // The steps from `early` on.
-pub fn steps(s: Shape, r: Rows, table: &[u16; 1544], plan: &[u16], words: &mut [u64])
+pub fn steps(s: Shape, r: Rows, table: &[u16; TABLE_SIZE], plan: &[u16], words: &mut [u64])
     requires { ⌜ Table s (now table) ⌝ }
     requires { ⌜ Planned (checks s) (now plan) r ⌝ }
     requires { ⌜ Room (checks s) r (length (now words)) ⌝ }
@@ -165,20 +169,20 @@ fn remaining_row(
     r: Rows,
     t: usize,
     j: usize,
-    table: &[u16; 1544],
-    xs: &mut [u16; 64],
+    table: &[u16; TABLE_SIZE],
+    xs: &mut [u16; MAX_POSITIONS],
     plan: &[u16],
     words: &mut [u64],
 ) -> usize
     requires { ⌜ Table s (now table) ⌝ }
-    requires { ⌜ length (now xs) ≡ 64 ⌝ }
+    requires { ⌜ length (now xs) ≡ maxPositions ⌝ }
     requires { ⌜ Planned (checks s) (now plan) r ⌝ }
     requires { ⌜ Room (checks s) r (length (now words)) ⌝ }
     requires { ⌜ Places (checks s) (now plan) (now words) (r .packed) (r .steps) (checks s .m) ⌝ }
     requires { ⌜ Unsolved (now plan) (r .pivots) ⌝ }
     requires { ⌜ (j < codeOf (s .number) .m) × (t ≡ r .steps + unusedBelow (now plan) j) ⌝ }
     requires { ⌜ RestTo (checks s) (now plan) (now words) (r .packed) (r .early) (r .steps) j ⌝ }
-    ensures { λ _. ⌜ length (now (xs .exit)) ≡ 64 ⌝ }
+    ensures { λ _. ⌜ length (now (xs .exit)) ≡ maxPositions ⌝ }
     ensures { λ h. ⌜ h ≡ r .steps + unusedBelow (now (plan .entry)) (j + 1) ⌝ }
     ensures { λ _. ⌜ RestTo (checks s) (now (plan .entry)) (now (words .exit)) (r .packed) (r .early) (r .steps) (j + 1) ⌝ }
     ensures { λ _. ⌜ SameBelow (now (words .entry)) (now (words .exit)) (r .packed) (r .steps) ⌝ }
@@ -196,7 +200,7 @@ fn remaining_row(
 }
 
 // The check rows that no step used, after the steps.
-pub fn remaining(s: Shape, r: Rows, table: &[u16; 1544], plan: &[u16], words: &mut [u64])
+pub fn remaining(s: Shape, r: Rows, table: &[u16; TABLE_SIZE], plan: &[u16], words: &mut [u64])
     requires { ⌜ Table s (now table) ⌝ }
     requires { ⌜ Planned (checks s) (now plan) r ⌝ }
     requires { ⌜ Room (checks s) r (length (now words)) ⌝ }

@@ -17,10 +17,14 @@ use Rattle.symbol_sums.specs.declared.Chunk64.{Chunk64}
 abbrev pub gathered : (ℕ → ℕ) → List ℕ → ℕ → ℕ
 gathered u xs n = sum (λ i. true) (λ i. u (getD xs i 0)) n
 
--- xs has 64 elements, and its first n are positions of symbols of w bytes within a buffer of `bytes` bytes
+-- the length of an array of positions
+abbrev pub maxPositions : ℕ
+maxPositions = 64
+
+-- xs is an array of positions, and its first n are positions of symbols of w bytes within a buffer of `bytes` bytes
 pub record Inside (xs : List ℕ) (n w bytes : ℕ) : Type 0 where
-  pub size : length xs ≡ 64
-  pub few : n ≤ 64
+  pub size : length xs ≡ maxPositions
+  pub few : n ≤ maxPositions
   pub each : (i : ℕ) → i < n → getD xs i 0 * w + w ≤ bytes
 
 -- symbol j of p became f 0, .., f (w - 1), and nothing else changed

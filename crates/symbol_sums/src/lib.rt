@@ -12,6 +12,9 @@ use buffers::part_16;
 use buffers::put_16;
 use buffers::sum_16;
 
+// The most positions that are added at once: the length of an array of positions.
+pub const MAX_POSITIONS: usize = 64;
+
 // 64 bytes, in four arrays.
 struct Chunk64 {
     a: [u8; 16],
@@ -29,7 +32,14 @@ fn offset(x: u16, w: usize, c: usize) -> usize
 }
 
 // start plus bytes c to c + 15 of the n symbols xs of src. A position has 16 bits, so that those of a check row are made 8 at a time.
-fn gather_16(start: &[u8; 16], w: usize, c: usize, xs: &[u16; 64], n: usize, src: &[u8]) -> [u8; 16]
+fn gather_16(
+    start: &[u8; 16],
+    w: usize,
+    c: usize,
+    xs: &[u16; MAX_POSITIONS],
+    n: usize,
+    src: &[u8],
+) -> [u8; 16]
     requires { ⌜ (length (now start) ≡ 16) × (c + 16 ≤ w) ⌝ }
     requires { ⌜ Inside (now xs) n w (length (now src)) ⌝ }
     ensures { λ r. ⌜ PlusSymbols w c (now (src .entry)) (now (xs .entry)) n (now (start .entry)) r ⌝ }
@@ -62,7 +72,7 @@ fn sum_64(s: Chunk64, src: &[u8], from: usize) -> Chunk64
 
 // The sum of bytes c to c + 63 of the n symbols xs of src. Each position is read once for all of them. This loop, running_sum_64's and
 // row_sum_64's have one caller each, so that they are inlined: called for each chunk, a loop takes twice as long.
-fn gather_64(w: usize, c: usize, xs: &[u16; 64], n: usize, src: &[u8]) -> Chunk64
+fn gather_64(w: usize, c: usize, xs: &[u16; MAX_POSITIONS], n: usize, src: &[u8]) -> Chunk64
     requires { ⌜ c + 64 ≤ w ⌝ }
     requires { ⌜ Inside (now xs) n w (length (now src)) ⌝ }
     ensures { λ r. ⌜ Chunk64Is (summed (λ b. 0) w (now (src .entry)) (now (xs .entry)) n) c r ⌝ }
@@ -82,7 +92,7 @@ fn gather_64(w: usize, c: usize, xs: &[u16; 64], n: usize, src: &[u8]) -> Chunk6
 }
 
 // start plus byte c of the n symbols xs of src.
-fn gather_byte(start: u8, w: usize, c: usize, xs: &[u16; 64], n: usize, src: &[u8]) -> u8
+fn gather_byte(start: u8, w: usize, c: usize, xs: &[u16; MAX_POSITIONS], n: usize, src: &[u8]) -> u8
     requires { ⌜ c < w ⌝ }
     requires { ⌜ Inside (now xs) n w (length (now src)) ⌝ }
     ensures { λ r. ⌜ r ≡ start ⊕ gathered (byteAt w (now (src .entry)) c) (now (xs .entry)) n ⌝ }
@@ -140,7 +150,7 @@ fn running_sum_64(
     w: usize,
     prev: usize,
     c: usize,
-    xs: &[u16; 64],
+    xs: &[u16; MAX_POSITIONS],
     n: usize,
     src: &[u8],
     dst: &[u8],
@@ -175,7 +185,7 @@ fn put_sum_64(
     j: usize,
     prev: usize,
     c: usize,
-    xs: &[u16; 64],
+    xs: &[u16; MAX_POSITIONS],
     n: usize,
     src: &[u8],
     dst: &mut [u8],
@@ -194,7 +204,7 @@ fn put_sum_16(
     j: usize,
     prev: usize,
     c: usize,
-    xs: &[u16; 64],
+    xs: &[u16; MAX_POSITIONS],
     n: usize,
     src: &[u8],
     dst: &mut [u8],
@@ -214,7 +224,7 @@ fn put_sum_byte(
     j: usize,
     prev: usize,
     c: usize,
-    xs: &[u16; 64],
+    xs: &[u16; MAX_POSITIONS],
     n: usize,
     src: &[u8],
     dst: &mut [u8],
@@ -232,7 +242,7 @@ fn put_sum_wide(
     w: usize,
     j: usize,
     prev: usize,
-    xs: &[u16; 64],
+    xs: &[u16; MAX_POSITIONS],
     n: usize,
     src: &[u8],
     dst: &mut [u8],
@@ -254,7 +264,7 @@ fn put_sum_chunks(
     w: usize,
     j: usize,
     prev: usize,
-    xs: &[u16; 64],
+    xs: &[u16; MAX_POSITIONS],
     n: usize,
     src: &[u8],
     dst: &mut [u8],
@@ -279,7 +289,7 @@ fn put_sum_bytes(
     w: usize,
     j: usize,
     prev: usize,
-    xs: &[u16; 64],
+    xs: &[u16; MAX_POSITIONS],
     n: usize,
     src: &[u8],
     dst: &mut [u8],
@@ -300,7 +310,7 @@ pub fn put_sum(
     w: usize,
     j: usize,
     prev: usize,
-    xs: &[u16; 64],
+    xs: &[u16; MAX_POSITIONS],
     n: usize,
     src: &[u8],
     dst: &mut [u8],
@@ -317,7 +327,7 @@ pub fn put_sum(
 }
 
 // Writes bytes c to c + 63 of restore's symbol p.
-fn restore_64(w: usize, p: usize, c: usize, xs: &[u16; 64], n: usize, buf: &mut [u8])
+fn restore_64(w: usize, p: usize, c: usize, xs: &[u16; MAX_POSITIONS], n: usize, buf: &mut [u8])
     requires { ⌜ (c + 64 ≤ w) × (p * w + w ≤ length (now buf)) ⌝ }
     requires { ⌜ Inside (now xs) n w (length (now buf)) ⌝ }
     ensures { λ _. ⌜ SumWritten w p 0 (now (buf .entry)) (now (xs .entry)) n c 64 (now (buf .entry)) (now (buf .exit)) ⌝ }
@@ -327,7 +337,7 @@ fn restore_64(w: usize, p: usize, c: usize, xs: &[u16; 64], n: usize, buf: &mut 
 }
 
 // Writes bytes c to c + 15.
-fn restore_16(w: usize, p: usize, c: usize, xs: &[u16; 64], n: usize, buf: &mut [u8])
+fn restore_16(w: usize, p: usize, c: usize, xs: &[u16; MAX_POSITIONS], n: usize, buf: &mut [u8])
     requires { ⌜ (c + 16 ≤ w) × (p * w + w ≤ length (now buf)) ⌝ }
     requires { ⌜ Inside (now xs) n w (length (now buf)) ⌝ }
     ensures { λ _. ⌜ SumWritten w p 0 (now (buf .entry)) (now (xs .entry)) n c 16 (now (buf .entry)) (now (buf .exit)) ⌝ }
@@ -337,7 +347,7 @@ fn restore_16(w: usize, p: usize, c: usize, xs: &[u16; 64], n: usize, buf: &mut 
 }
 
 // Writes byte c.
-fn restore_byte(w: usize, p: usize, c: usize, xs: &[u16; 64], n: usize, buf: &mut [u8])
+fn restore_byte(w: usize, p: usize, c: usize, xs: &[u16; MAX_POSITIONS], n: usize, buf: &mut [u8])
     requires { ⌜ (c < w) × (p * w + w ≤ length (now buf)) ⌝ }
     requires { ⌜ Inside (now xs) n w (length (now buf)) ⌝ }
     ensures { λ _. ⌜ SumWritten w p 0 (now (buf .entry)) (now (xs .entry)) n c 1 (now (buf .entry)) (now (buf .exit)) ⌝ }
@@ -346,7 +356,7 @@ fn restore_byte(w: usize, p: usize, c: usize, xs: &[u16; 64], n: usize, buf: &mu
 }
 
 // Writes as many bytes as 64 at a time give; answers how many.
-fn restore_wide(w: usize, p: usize, xs: &[u16; 64], n: usize, buf: &mut [u8]) -> usize
+fn restore_wide(w: usize, p: usize, xs: &[u16; MAX_POSITIONS], n: usize, buf: &mut [u8]) -> usize
     requires { ⌜ p * w + w ≤ length (now buf) ⌝ }
     requires { ⌜ Inside (now xs) n w (length (now buf)) ⌝ }
     requires { ⌜ ((i : ℕ) → i < n → getD (now xs) i 0 ≢ p) ⌝ }
@@ -361,7 +371,7 @@ fn restore_wide(w: usize, p: usize, xs: &[u16; 64], n: usize, buf: &mut [u8]) ->
 }
 
 // restore for symbols of at least 16 bytes. Where the width is no multiple of 16, some bytes are written twice.
-fn restore_chunks(w: usize, p: usize, xs: &[u16; 64], n: usize, buf: &mut [u8])
+fn restore_chunks(w: usize, p: usize, xs: &[u16; MAX_POSITIONS], n: usize, buf: &mut [u8])
     requires { ⌜ (16 ≤ w) × (p * w + w ≤ length (now buf)) ⌝ }
     requires { ⌜ Inside (now xs) n w (length (now buf)) ⌝ }
     requires { ⌜ ((i : ℕ) → i < n → getD (now xs) i 0 ≢ p) ⌝ }
@@ -379,7 +389,7 @@ fn restore_chunks(w: usize, p: usize, xs: &[u16; 64], n: usize, buf: &mut [u8])
 }
 
 // restore byte by byte.
-fn restore_bytes(w: usize, p: usize, xs: &[u16; 64], n: usize, buf: &mut [u8])
+fn restore_bytes(w: usize, p: usize, xs: &[u16; MAX_POSITIONS], n: usize, buf: &mut [u8])
     requires { ⌜ p * w + w ≤ length (now buf) ⌝ }
     requires { ⌜ Inside (now xs) n w (length (now buf)) ⌝ }
     requires { ⌜ ((i : ℕ) → i < n → getD (now xs) i 0 ≢ p) ⌝ }
@@ -393,7 +403,7 @@ fn restore_bytes(w: usize, p: usize, xs: &[u16; 64], n: usize, buf: &mut [u8])
 }
 
 // Symbol p of a buffer becomes the sum of the n symbols xs of it, of which it is none.
-pub fn restore(w: usize, p: usize, xs: &[u16; 64], n: usize, buf: &mut [u8])
+pub fn restore(w: usize, p: usize, xs: &[u16; MAX_POSITIONS], n: usize, buf: &mut [u8])
     requires { ⌜ p * w + w ≤ length (now buf) ⌝ }
     requires { ⌜ Inside (now xs) n w (length (now buf)) ⌝ }
     requires { ⌜ ((i : ℕ) → i < n → getD (now xs) i 0 ≢ p) ⌝ }
@@ -421,7 +431,7 @@ fn or_16<'a>(t: &'a [u8; 16], u: &'a [u8; 16]) -> [u8; 16]
 }
 
 // gather_64 for cancels.
-fn row_sum_64(w: usize, c: usize, xs: &[u16; 64], n: usize, src: &[u8]) -> Chunk64
+fn row_sum_64(w: usize, c: usize, xs: &[u16; MAX_POSITIONS], n: usize, src: &[u8]) -> Chunk64
     requires { ⌜ c + 64 ≤ w ⌝ }
     requires { ⌜ Inside (now xs) n w (length (now src)) ⌝ }
     ensures { λ r. ⌜ Chunk64Is (summed (λ b. 0) w (now (src .entry)) (now (xs .entry)) n) c r ⌝ }
@@ -441,7 +451,7 @@ fn row_sum_64(w: usize, c: usize, xs: &[u16; 64], n: usize, src: &[u8]) -> Chunk
 }
 
 // Bytes c to c + 63 of the n symbols xs of src add up to zero.
-fn cancels_64(w: usize, c: usize, xs: &[u16; 64], n: usize, src: &[u8]) -> bool
+fn cancels_64(w: usize, c: usize, xs: &[u16; MAX_POSITIONS], n: usize, src: &[u8]) -> bool
     requires { ⌜ c + 64 ≤ w ⌝ }
     requires { ⌜ Inside (now xs) n w (length (now src)) ⌝ }
     ensures { λ r. ⌜ ZeroIs (summed (λ b. 0) w (now (src .entry)) (now (xs .entry)) n) c (c + 64) r ⌝ }
@@ -453,7 +463,7 @@ fn cancels_64(w: usize, c: usize, xs: &[u16; 64], n: usize, src: &[u8]) -> bool
 }
 
 // Bytes c to c + 15.
-fn cancels_16(w: usize, c: usize, xs: &[u16; 64], n: usize, src: &[u8]) -> bool
+fn cancels_16(w: usize, c: usize, xs: &[u16; MAX_POSITIONS], n: usize, src: &[u8]) -> bool
     requires { ⌜ c + 16 ≤ w ⌝ }
     requires { ⌜ Inside (now xs) n w (length (now src)) ⌝ }
     ensures { λ r. ⌜ ZeroIs (summed (λ b. 0) w (now (src .entry)) (now (xs .entry)) n) c (c + 16) r ⌝ }
@@ -462,7 +472,7 @@ fn cancels_16(w: usize, c: usize, xs: &[u16; 64], n: usize, src: &[u8]) -> bool
 }
 
 // The whole chunks of 64 bytes, as many as there are, add up to zero.
-fn cancels_wide(w: usize, xs: &[u16; 64], n: usize, src: &[u8]) -> bool
+fn cancels_wide(w: usize, xs: &[u16; MAX_POSITIONS], n: usize, src: &[u8]) -> bool
     requires { ⌜ Inside (now xs) n w (length (now src)) ⌝ }
     ensures { λ r. ⌜ ZeroIs (summed (λ b. 0) w (now (src .entry)) (now (xs .entry)) n) 0 (w - w % 64) r ⌝ }
 {
@@ -477,7 +487,7 @@ fn cancels_wide(w: usize, xs: &[u16; 64], n: usize, src: &[u8]) -> bool
 }
 
 // cancels for symbols of at least 16 bytes. Where the width is no multiple of 16, some bytes are added twice.
-fn cancels_chunks(w: usize, xs: &[u16; 64], n: usize, src: &[u8]) -> bool
+fn cancels_chunks(w: usize, xs: &[u16; MAX_POSITIONS], n: usize, src: &[u8]) -> bool
     requires { ⌜ 16 ≤ w ⌝ }
     requires { ⌜ Inside (now xs) n w (length (now src)) ⌝ }
     ensures { λ r. ⌜ ZeroIs (summed (λ b. 0) w (now (src .entry)) (now (xs .entry)) n) 0 w r ⌝ }
@@ -499,7 +509,7 @@ fn cancels_chunks(w: usize, xs: &[u16; 64], n: usize, src: &[u8]) -> bool
 }
 
 // cancels byte by byte.
-fn cancels_bytes(w: usize, xs: &[u16; 64], n: usize, src: &[u8]) -> bool
+fn cancels_bytes(w: usize, xs: &[u16; MAX_POSITIONS], n: usize, src: &[u8]) -> bool
     requires { ⌜ Inside (now xs) n w (length (now src)) ⌝ }
     ensures { λ r. ⌜ ZeroIs (summed (λ b. 0) w (now (src .entry)) (now (xs .entry)) n) 0 w r ⌝ }
 {
@@ -514,7 +524,7 @@ fn cancels_bytes(w: usize, xs: &[u16; 64], n: usize, src: &[u8]) -> bool
 }
 
 // The n symbols xs of src add up to zero.
-pub fn cancels(w: usize, xs: &[u16; 64], n: usize, src: &[u8]) -> bool
+pub fn cancels(w: usize, xs: &[u16; MAX_POSITIONS], n: usize, src: &[u8]) -> bool
     requires { ⌜ Inside (now xs) n w (length (now src)) ⌝ }
     ensures { λ r. ⌜ CancelIs w (now (src .entry)) (now (xs .entry)) n r ⌝ }
 {

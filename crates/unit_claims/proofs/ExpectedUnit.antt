@@ -7,15 +7,13 @@ use Prim.Native.Nat.{ℕ, _+_, _-_, _*_, _/_, _%_, _≤_, _<_}
 use native.Mathlib.Omega.{arith}
 use lib.Dec.{lit<}
 use lib.ListN.{length, getD, drop}
-use Rattle.ccsds.specs.Codes.{nOf}
-use Rattle.ccsds.specs.Tables.{codeOf}
+use Rattle.ccsds.specs.Codes.{Params}
 use Rattle.ccsds.specs.Refusals.{answered}
 use Rattle.wire.specs.Bytes.{part, pairAt, OfBytes}
 use Rattle.ccsds.specs.Reader.{readUnit}
 use Rattle.ccsds.specs.inner.Compact.{Compact}
 use Rattle.ccsds.specs.Writer.{headerOf, valueBytes, extensionOf, unitOf}
 use Rattle.unit_claims.specs.inner.Expected.{Starts}
-use Rattle.ccsds.proofs.Valid.{few-of}
 use Rattle.wire.proofs.PartLaws.{part-cons, part-then, part-rest}
 use Rattle.wire.proofs.SdnvRound.{in-one, in-two, two-long}
 use Rattle.ccsds.proofs.UnitLaws.{value-compact}
@@ -103,23 +101,24 @@ nowhere s x = record { after = λ h. absurd (h refl) }
 
 -- ---- the unit
 
-pub expected-reads : (number w protocol lsc : ℕ) (s : List ℕ) {k n lwc r : ℕ} → k ≡ codeOf number .k → n ≡ nOf (codeOf number) → lwc ≡ pairAt s 2
-    → w ≤ 1024 → protocol ≤ 7 → s ≡ headerOf protocol lsc (pairAt s 2) ++ drop 6 s → Starts s (extensionOf w k n) r → (r ≡ 0 → ⊥)
+pub expected-reads : (w k m protocol lsc : ℕ) (s : List ℕ) {lwc r : ℕ} → Compact w k (k + m) → lwc ≡ pairAt s 2 → protocol ≤ 7
+    → s ≡ headerOf protocol lsc (pairAt s 2) ++ drop 6 s → Starts s (extensionOf w k (k + m)) r → (r ≡ 0 → ⊥)
     → answered (record {
       protocol = protocol;
       count = 1;
       lwc = lwc;
       lsc = lsc;
-      coding = some (record { w = w; k = k; n = n; seed = 0 });
+      coding = some (record { w = w; k = k; n = k + m; seed = 0 });
       symbol = r;
     })
     ≡ readUnit s
 unfolding unitOf
-expected-reads number w protocol lsc s {k} {n} {lwc} {r} ek en el hw hp e f h =
-    let c = codeOf number in
-    let x = extensionOf w (c .k) (nOf c) in
-    let a : (r ≡ 6 + length x) × (drop 6 s ≡ x ++ drop r s) = rw (ek, en) at (f .after h) in
+expected-reads w k m protocol lsc s {lwc} {r} g el hp e f h =
+    -- the table has no part in a unit
+    let c : Params = record { k = k; m = m; q = 0; a = 0; rows = [] } in
+    let x = extensionOf w k (k + m) in
+    let a : (r ≡ 6 + length x) × (drop 6 s ≡ x ++ drop r s) = f .after h in
     let u : s ≡ unitOf c w protocol lsc (pairAt s 2) (drop r s) =
     e ∙ ap (λ (t : List ℕ). headerOf protocol lsc (pairAt s 2) ++ t) (a .1) ∙ sym (append-assoc (headerOf protocol lsc (pairAt s 2)) x (drop r s)) in
-    let q = unit-reads c w protocol lsc (pairAt s 2) (drop r s) (omega arith) (omega (arith, few-of number)) hp .read in
-    rw (ek, en, el, a .0) (sym (ap readUnit u ∙ q))
+    let q = unit-reads c w protocol lsc (pairAt s 2) (drop r s) (omega (arith, g .few-w)) (omega (arith, g .two-n .1)) hp .read in
+    rw (el, a .0) (sym (ap readUnit u ∙ q))

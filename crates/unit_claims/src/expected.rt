@@ -1,9 +1,9 @@
 // A quick reader for the units that a receiver expects: those whose bytes before the symbol are as write makes them for a code, a W, a protocol ID
 // and an LSC, whatever their LWC. Internal: block's take.
-use ccsds::code::Code;
 use ccsds::reader::Extension;
 use ccsds::reader::Parameters;
 use ccsds::reader::UnitParts;
+use ccsds::tables::Layout;
 use wire::big_endian;
 ghost use mathlib.Core.Path.{_≡_};
 ghost use mathlib.Core.Bool.{true};
@@ -24,12 +24,9 @@ pub enum Expected {
 
 // s begins with a header of this protocol ID, one extension and this LSC.
 fn is_header(s: &[u8], protocol: usize, lsc: usize) -> bool
-    requires { ⌜ 15 ≤ length (now s) ⌝ }
-    ensures { λ r. ⌜ (r ≡ true → (protocol ≤ 7) × (now (s .entry) ≡ headerOf protocol lsc (pairAt (now (s .entry)) 2) ++ drop 6 (now (s .entry)))) ⌝ }
+    requires { ⌜ (15 ≤ length (now s)) × (protocol ≤ 7) ⌝ }
+    ensures { λ r. ⌜ (r ≡ true → now (s .entry) ≡ headerOf protocol lsc (pairAt (now (s .entry)) 2) ++ drop 6 (now (s .entry))) ⌝ }
 {
-    if protocol > 7 {
-        return false;
-    }
     if big_endian::pair(s[0], s[1]) != (16 + protocol * 2) * 256 + 1 {
         return false;
     }
@@ -81,25 +78,19 @@ fn symbol_after(s: &[u8], w: usize, k: usize, n: usize) -> usize
     15
 }
 
-// Reads a unit that is as expected.
-pub fn read(number: usize, w: usize, protocol: usize, lsc: usize, s: &[u8]) -> Expected
+// Reads a unit that is as expected. Its caller has refused a code, a W or a protocol ID that no unit has.
+pub fn read(l: Layout, w: usize, protocol: usize, lsc: usize, s: &[u8]) -> Expected
+    requires { ⌜ Compact w (l .k) (l .k + l .m) × (protocol ≤ 7) ⌝ }
     ensures { λ r. ⌜ Agrees r (readUnit (now (s .entry))) ⌝ }
 {
-    let code = Code { number };
-    if !code.known() {
-        return Expected::Other;
-    }
-    if Code::wrong_width(w) {
-        return Expected::Other;
-    }
     if s.len() < 15 {
         return Expected::Other;
     }
     if !is_header(s, protocol, lsc) {
         return Expected::Other;
     }
-    let k = code.k();
-    let n = code.n();
+    let k = l.k;
+    let n = k + l.m;
     let symbol = symbol_after(s, w, k, n);
     if symbol == 0 {
         return Expected::Other;

@@ -8,16 +8,16 @@ use lib.Dec.{eqb, ltb}
 use lib.ListN.{length, getD, set}
 use Rattle.algebra.specs.Sums.{sum}
 use Rattle.algebra.specs.Codeword.{Checks}
-use Rattle.symbol_sums.specs.Gather.{gathered}
+use Rattle.symbol_sums.specs.Gather.{gathered, maxPositions}
 use Rattle.ccsds.specs.Codes.{Params, checksOf}
 use Rattle.ccsds.specs.Tables.{codeOf, Known}
-use Rattle.ccsds.specs.inner.Layout.{LayoutOf}
+use Rattle.ccsds.specs.inner.Layout.{LayoutOf, maxRows, maxDegree}
 use Rattle.encoder.specs.declared.positions.Shape.{Shape}
 
--- the first n of 64 elements of xs are the positions of check row j
+-- the first n elements of xs, an array of positions, are the positions of check row j
 pub record RowOf (c : Checks) (j n : ℕ) (xs : List ℕ) : Type 0 where
-  pub size : length xs ≡ 64
-  pub few : n ≤ 64
+  pub size : length xs ≡ maxPositions
+  pub few : n ≤ maxPositions
   pub below : (i : ℕ) → i < n → getD xs i 0 < c .n
   pub found : (p : ℕ) → p < c .n → c .has j p ≡ true → (i : ℕ) × ((i < n) × (getD xs i 0 ≡ p))
   pub total : (f : ℕ → ℕ) → gathered f xs n ≡ sum (c .has j) f (c .n)
@@ -55,22 +55,29 @@ positionAt q s e = e .0 * q + (q - e .1 + s) % q
 unfoldable pub positions : Params → ℕ → List ℕ
 positions c j = map (positionAt (c .q) (j / c .a)) (classOf c (j % c .a))
 
--- ---- the table by class: one array of 1,544 numbers
+-- ---- the table by class, in one array
+
+-- the most classes of a code
+abbrev pub maxClasses : ℕ
+maxClasses = 8
 
 -- where the positions of entry i of class r start, and where they end
 abbrev pub firstAt : ℕ → ℕ → ℕ
-firstAt r i = r * 64 + i
+firstAt r i = r * maxPositions + i
 
 abbrev pub endAt : ℕ → ℕ → ℕ
-endAt r i = 512 + r * 64 + i
+endAt r i = maxClasses * maxPositions + r * maxPositions + i
 
 -- how many entries class r has
 abbrev pub countAt : ℕ → ℕ
-countAt r = 1024 + r
+countAt r = 2 * (maxClasses * maxPositions) + r
 
 -- address i of a table row
 abbrev pub addressAt : ℕ → ℕ → ℕ
-addressAt row i = 1032 + row * 8 + i
+addressAt row i = 2 * (maxClasses * maxPositions) + maxClasses + row * maxDegree + i
+
+abbrev pub tableSize : ℕ
+tableSize = addressAt maxRows 0
 
 -- entry n of class r gets its start and its end, and the class one entry more
 abbrev pub entryPut : ℕ → ℕ → ℕ → ℕ → List ℕ → List ℕ
@@ -78,7 +85,7 @@ entryPut r n first end t = set (set (set t (firstAt r n) first) (endAt r n) end)
 
 -- so for a quotient, where the class has room
 abbrev pub entryAdded : ℕ → ℕ → ℕ → ℕ → List ℕ → List ℕ
-entryAdded q row r y t = cond (ltb (getD t (countAt r) 0) 64) (entryPut r (getD t (countAt r) 0) (row * q + q - y) (row * q + q) t) t
+entryAdded q row r y t = cond (ltb (getD t (countAt r) 0) maxPositions) (entryPut r (getD t (countAt r) 0) (row * q + q - y) (row * q + q) t) t
 
 -- address y, at place i of a table row, is entered into its class
 unfoldable pub entered : ℕ → ℕ → ℕ → ℕ → ℕ → List ℕ → List ℕ
@@ -105,15 +112,15 @@ pub record WithinRow (first end q i : ℕ) : Type 0 where
   pub row : (q ≤ end) × (end ≤ 4096)
   pub step : i < q
 
--- there are at most 8 classes, of at most 62 entries each
+-- a check row has room for the entries of its class and two parity symbols
 pub record ClassSizes (c : Params) : Type 0 where
-  pub classes : c .a ≤ 8
-  pub entries : (r : ℕ) → r < c .a → length (classOf c r) ≤ 62
+  pub classes : c .a ≤ maxClasses
+  pub entries : (r : ℕ) → r < c .a → length (classOf c r) + 2 ≤ maxPositions
 
 -- the classes of c stand in the table
 pub record Classes (c : Params) (t : List ℕ) : Type 0 where
   pub few : ClassSizes c
-  pub size : length t ≡ 1544
+  pub size : length t ≡ tableSize
   pub counts : (r : ℕ) → r < c .a → getD t (countAt r) 0 ≡ length (classOf c r)
   pub each : (r : ℕ) → r < c .a → (i : ℕ) → i < length (classOf c r)
       → EntryBounds (c .q) (getD (classOf c r) i (0, 0)) (getD t (firstAt r i) 0) (getD t (endAt r i) 0)
@@ -130,7 +137,7 @@ pub record Table (s : Shape) (t : List ℕ) : Type 0 where
 
 -- the n information positions of check row j, at the front of an array
 pub record Information (c : Params) (j n : ℕ) (xs : List ℕ) : Type 0 where
-  pub size : length xs ≡ 64
-  pub few : n ≤ 62
+  pub size : length xs ≡ maxPositions
+  pub few : n + 2 ≤ maxPositions
   pub count : n ≡ length (positions c j)
   pub each : (i : ℕ) → i < n → getD xs i 0 ≡ getD (positions c j) i 0

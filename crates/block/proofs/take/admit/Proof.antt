@@ -16,7 +16,7 @@ enum-known-p : tie.Need-enum-known-p
 enum-known-p c = search needs
 
 admit-parts-requires : tie.Need-admit-parts-requires
-admit-parts-requires c κs = sym (subst (λ (x : Expected). Agrees x (readUnit (c .before .before .before .before .before .args .unit .now))) (c .before .p .given .1) (c .before .before .before .read .ensures))
+admit-parts-requires c κs = (c .before .before .before .before .before .pre .0, sym (subst (λ (x : Expected). Agrees x (readUnit (c .before .before .before .before .before .args .unit .now))) (c .before .p .given .1) (c .before .before .before .read .ensures)))
 
 returns : tie.Need-returns
 returns c = search needs
@@ -34,7 +34,7 @@ enum-known-p-2 : tie.Need-enum-known-p-2
 enum-known-p-2 c = search needs
 
 admit-parts-requires-2 : tie.Need-admit-parts-requires-2
-admit-parts-requires-2 c κs = sym (c .before .before .before .read-unit .ensures) ∙ ap readAs (c .before .p2 .given .1)
+admit-parts-requires-2 c κs = (c .before .before .before .before .before .before .before .before .pre .0, sym (c .before .before .before .read-unit .ensures) ∙ ap readAs (c .before .p2 .given .1))
 
 returns-2 : tie.Need-returns-2
 returns-2 c = unread _ _ _ (sym (c .before .before .before .read-unit .ensures) ∙ ap readAs (c .before .number .given .1))

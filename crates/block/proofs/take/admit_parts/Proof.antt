@@ -13,19 +13,19 @@ fits : (c : tie.Else1) → let a = c .before .before .before .args in Fitting (a
 fits c = fitting _ _ _ (sym (c .before .check-unit .ensures) ∙ c .if1 .left)
 
 check-unit-requires : tie.Need-check-unit-requires
-check-unit-requires c κs = symbol-within _ (c .before .pre)
+check-unit-requires c κs = (c .before .pre .0, symbol-within _ (c .before .pre .1))
 
 returns : tie.Need-returns
-returns c = turned-down _ _ _ _ (c .before .before .before .pre) (c .before .check-unit .ensures) (c .if1 .taken)
+returns c = turned-down _ _ _ _ (c .before .before .before .pre .1) (c .before .check-unit .ensures) (c .if1 .taken)
 
-sub-t5 : tie.Need-sub-t5
-sub-t5 c = omega (arith, fits (c .before) .above)
+sub-t6 : tie.Need-sub-t6
+sub-t6 c = omega (arith, fits (c .before) .above)
 
-sub-t8 : tie.Need-sub-t8
-sub-t8 c = omega (arith, fits (c .before .before) .symbol)
+sub-t9 : tie.Need-sub-t9
+sub-t9 c = omega (arith, fits (c .before .before) .symbol)
 
 returns-2 : tie.Need-returns-2
-returns-2 c = admitted _ _ _ _ (c .before .before .before .before .before .pre) (c .before .before .before .check-unit .ensures) (c .before .before .if1 .left)
+returns-2 c = admitted _ _ _ _ (c .before .before .before .before .before .pre .1) (c .before .before .before .check-unit .ensures) (c .before .before .if1 .left)
 
 pub admit-parts-spec : {M : Type 1} → statement M
-admit-parts-spec = tie.close (tie.spec check-unit-requires returns sub-t5 sub-t8 returns-2)
+admit-parts-spec = tie.close (tie.spec check-unit-requires returns sub-t6 sub-t9 returns-2)

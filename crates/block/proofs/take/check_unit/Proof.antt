@@ -1,20 +1,29 @@
 -- `block::take::check_unit` meets its contract: each test decides one row of the list.
 -- Assumes nothing.
-use mathlib.Core.Path.{_≡_, sym, _∙_}
+use mathlib.Core.Path.{_≡_, sym, ap, _∙_}
 use mathlib.Core.Bool.{false}
-use borrow.Author.Needs.{needs}
+use Prim.Native.Nat.{ℕ}
+use Rattle.ccsds.specs.Refusals.{wrongPosition}
+use Rattle.block.specs.Block.{checks}
 use Rattle.block.specs.Take.{wrongParameters, foreign}
 use Rattle.block.specs.inner.Steps.{partsAs}
+use Rattle.block.proofs.BlockRefusal.{checks-of}
 use Rattle.block.proofs.Taking.{parameters-refused, foreign-refused, position-refused, symbol-refused, unit-admitted}
+use borrow.Author.Needs.{needs}
 use Rattle.block.proofs.take.check_unit.Statement.{statement}
 use Rattle.block.proofs.take.check_unit.Tie as tie
 
--- the parameters, the label and the position are right
+-- the parameters and the label are right; the test of the position
 parameters : (c : tie.Else1) → wrongParameters (c .before .before .args .b) (partsAs (c .before .before .args .p) .coding) ≡ false
 parameters c = sym (c .before .wrong-parameters .ensures) ∙ c .if1 .left
 
 own : (c : tie.Else2) → foreign (c .before .before .before .before .args .b) (partsAs (c .before .before .before .before .args .p)) ≡ false
 own c = sym (c .before .is-foreign .ensures) ∙ c .if2 .left
+
+position : (c : tie.After-wrong-position) → let a = c .before .before .before .before .before .before .args in wrongPosition (checks (a .b) .n) (a .p .lwc) ≡ c .wrong-position .result
+position c =
+    let a = c .before .before .before .before .before .before .args in
+    sym (c .wrong-position .ensures ∙ ap (λ (n : ℕ). wrongPosition n (a .p .lwc)) (checks-of (a .b) (c .before .before .before .before .before .before .pre .0)))
 
 wrong-parameters-requires : tie.Need-wrong-parameters-requires
 wrong-parameters-requires c κs = search needs
@@ -28,28 +37,23 @@ is-foreign-requires c κs = search needs
 returns-2 : tie.Need-returns-2
 returns-2 c = foreign-refused _ _ _ (parameters (c .before .before)) (sym (c .before .is-foreign .ensures) ∙ c .if2 .taken)
 
+add-wrong-position : tie.Need-add-wrong-position
+add-wrong-position c = search needs
+
 wrong-position-requires : tie.Need-wrong-position-requires
 wrong-position-requires c κs = search needs
 
 returns-3 : tie.Need-returns-3
-returns-3 c =
-    let e = c .before .before in
-    position-refused _ _ _ (parameters (e .before .before)) (own e) (sym (c .before .wrong-position .ensures) ∙ c .if3 .taken)
+returns-3 c = position-refused _ _ _ (parameters (c .before .before .before .before .before)) (own (c .before .before .before)) (position (c .before) ∙ c .if3 .taken)
 
 sub-if4 : tie.Need-sub-if4
 sub-if4 c = search needs
 
 returns-4 : tie.Need-returns-4
-returns-4 c =
-    let g = c .before .before .before in
-    let e = g .before .before in
-    symbol-refused _ _ _ (parameters (e .before .before)) (own e) (sym (g .before .wrong-position .ensures) ∙ g .if3 .left) (c .if4 .taken)
+returns-4 c = symbol-refused _ _ _ (parameters (c .before .before .before .before .before .before .before .before)) (own (c .before .before .before .before .before .before)) (position (c .before .before .before .before) ∙ c .before .before .before .if3 .left) (c .if4 .taken)
 
 returns-5 : tie.Need-returns-5
-returns-5 c =
-    let g = c .before .before .before in
-    let e = g .before .before in
-    unit-admitted _ _ _ (parameters (e .before .before)) (own e) (sym (g .before .wrong-position .ensures) ∙ g .if3 .left) (c .if4 .left)
+returns-5 c = unit-admitted _ _ _ (parameters (c .before .before .before .before .before .before .before .before)) (own (c .before .before .before .before .before .before)) (position (c .before .before .before .before) ∙ c .before .before .before .if3 .left) (c .if4 .left)
 
 pub check-unit-spec : {M : Type 1} → statement M
 check-unit-spec =
@@ -59,6 +63,7 @@ check-unit-spec =
     returns
     is-foreign-requires
     returns-2
+    add-wrong-position
     wrong-position-requires
     returns-3
     sub-if4

@@ -8,7 +8,8 @@ use lib.ListN.{length, take, drop, length-drop}
 use lib.Seq.{take-all}
 use Rattle.algebra.proofs.Codeword.{slot}
 use Rattle.ccsds.specs.Refusals.{Outcome, refused, answered}
-use Rattle.ccsds.proofs.Refusals.{width-right}
+use Rattle.ccsds.proofs.Refusals.{code-known, width-right, label-right}
+use Rattle.ccsds.proofs.UnitLaws.{compact-of}
 use Rattle.block.specs.Block.{checks, blockRefusal}
 use Rattle.block.specs.Take.{TakeResult, Take, admission, takeSymbol, takeOf}
 use Rattle.block.specs.inner.Steps.{admittedAs}
@@ -47,23 +48,29 @@ module _ (b : Block) (symbols marks unit : List ℕ) (position start : ℕ) (z :
       (ap (λ (y : List ℕ). takeSymbol b symbols marks (record { position = position; symbol = y })) rest
       ∙ sym (take-by b symbols marks unit (answered (record { position = position; symbol = drop start unit })) z e)) q
 
-zero : (c : tie.Else1) → let a = c .before .before .before .before .before .args in blockRefusal (a .b) (length (a .symbols .now)) (length (a .marks .now)) ≡ 0
+zero : (c : tie.Else1) → let a = c .before .before .before .before .before .before .args in blockRefusal (a .b) (length (a .symbols .now)) (length (a .marks .now)) ≡ 0
 zero c = sym (c .before .check-block .ensures) ∙ c .if1 .left
 
-let-in : (c : tie.After-known-told2) → let a = c .before .before .before .before .before .before .before .before .before .args in let g = c .before .position .given .0 in
+let-in : (c : tie.After-known-told2) → let a = c .before .before .before .before .before .before .before .before .before .before .args in let g = c .before .position .given .0 in
     admission (a .b) (a .unit .now) ≡ answered (record { position = g .0; symbol = drop (g .1 .0) (a .unit .now) })
-let-in c = sym (c .before .before .before .admit .ensures) ∙ ap (admittedAs (c .before .before .before .before .before .before .before .before .before .args .unit .now)) (c .before .position .given .1)
+let-in c = sym (c .before .before .before .admit .ensures) ∙ ap (admittedAs (c .before .before .before .before .before .before .before .before .before .before .args .unit .now)) (c .before .position .given .1)
+
+layout-of-requires : tie.Need-layout-of-requires
+layout-of-requires c κs = search needs
 
 check-block-requires : tie.Need-check-block-requires
 check-block-requires c κs = search needs
 
 returns : tie.Need-returns
 returns c =
-    let a = c .before .before .before .before .before .args in
+    let a = c .before .before .before .before .before .before .args in
     apart (take-refused (a .b) (a .symbols .now) (a .marks .now) (a .unit .now) _ (c .before .check-block .ensures) (c .if1 .taken))
 
 admit-requires : tie.Need-admit-requires
-admit-requires c κs = search needs
+admit-requires c κs =
+    let g = c .before .before .layout-of .ensures in
+    let r = block-right _ _ _ (zero c) .0 in
+    (g, (compact-of _ _ g (code-known _ (r .code)) (width-right _ (r .width) .1), label-right _ _ (r .label) .1))
 
 enum-known-number : tie.Need-enum-known-number
 enum-known-number c = search needs
@@ -73,30 +80,26 @@ enum-known-position c = search needs
 
 sub-take-symbol : tie.Need-sub-take-symbol
 sub-take-symbol c =
-    let k = c .before .before in
-    let a = k .before .before .before .before .before .before .before .before .before .args in
-    within (a .b) (a .symbols .now) (a .marks .now) (a .unit .now) _ _ (zero (k .before .before .before .before)) (let-in k)
+    let a = c .before .before .before .before .before .before .before .before .before .before .before .before .args in
+    within (a .b) (a .symbols .now) (a .marks .now) (a .unit .now) _ _ (zero (c .before .before .before .before .before .before)) (let-in (c .before .before))
 
 part-take-symbol-start : tie.Need-part-take-symbol-start
 part-take-symbol-start c =
-    let k = c .before .before in
-    let a = k .before .before .before .before .before .before .before .before .before .args in
-    within (a .b) (a .symbols .now) (a .marks .now) (a .unit .now) _ _ (zero (k .before .before .before .before)) (let-in k)
+    let a = c .before .before .before .before .before .before .before .before .before .before .before .before .args in
+    within (a .b) (a .symbols .now) (a .marks .now) (a .unit .now) _ _ (zero (c .before .before .before .before .before .before)) (let-in (c .before .before))
 
 part-take-symbol-end : tie.Need-part-take-symbol-end
 part-take-symbol-end c = search needs
 
 take-symbol-requires : tie.Need-take-symbol-requires
 take-symbol-requires c κs =
-    let k = c .before .before .before in
-    let a = k .before .before .before .before .before .before .before .before .before .args in
-    room (a .b) (a .symbols .now) (a .marks .now) (a .unit .now) _ _ (zero (k .before .before .before .before)) (let-in k)
+    let a = c .before .before .before .before .before .before .before .before .before .before .before .before .before .args in
+    room (a .b) (a .symbols .now) (a .marks .now) (a .unit .now) _ _ (zero (c .before .before .before .before .before .before .before)) (let-in (c .before .before .before))
 
 returns-2 : tie.Need-returns-2
 returns-2 c =
-    let e = c .before .before .before .before in
-    let a = e .before .before .before .before .before .args in
-    apart (take-by (a .b) (a .symbols .now) (a .marks .now) (a .unit .now) (refused _) (zero e) (sym (c .before .before .before .admit .ensures) ∙ ap (admittedAs (a .unit .now)) (c .before .number .given .1)))
+    let a = c .before .before .before .before .before .before .before .before .before .before .args in
+    apart (take-by (a .b) (a .symbols .now) (a .marks .now) (a .unit .now) (refused _) (zero (c .before .before .before .before)) (sym (c .before .before .before .admit .ensures) ∙ ap (admittedAs (a .unit .now)) (c .before .number .given .1)))
 
 same-length : tie.Need-same-length
 same-length c = search needs
@@ -106,14 +109,14 @@ same-length-2 c = search needs
 
 returns-3 : tie.Need-returns-3
 returns-3 c =
-    let k = c .before .before .before .before .before .before .before .before in
-    let a = k .before .before .before .before .before .before .before .before .before .args in
-    through (a .b) (a .symbols .now) (a .marks .now) (a .unit .now) _ _ (zero (k .before .before .before .before)) (let-in k) (c .before .before .before .before .take-symbol .ensures)
+    let a = c .before .before .before .before .before .before .before .before .before .before .before .before .before .before .before .before .before .before .args in
+    through (a .b) (a .symbols .now) (a .marks .now) (a .unit .now) _ _ (zero (c .before .before .before .before .before .before .before .before .before .before .before .before)) (let-in (c .before .before .before .before .before .before .before .before)) (c .before .before .before .before .take-symbol .ensures)
 
 pub take-spec : {M : Type 1} → statement M
 take-spec =
     tie.close
     (tie.spec
+    layout-of-requires
     check-block-requires
     returns
     admit-requires

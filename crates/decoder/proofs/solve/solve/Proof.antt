@@ -10,6 +10,9 @@ use borrow.Author.Needs.{needs}
 use Rattle.decoder.proofs.solve.solve.Statement.{statement}
 use Rattle.decoder.proofs.solve.solve.Tie as tie
 
+no-addresses-requires : tie.Need-no-addresses-requires
+no-addresses-requires c κs = search needs
+
 layout-of-requires : tie.Need-layout-of-requires
 layout-of-requires c κs = search needs
 
@@ -20,13 +23,13 @@ blank-requires-2 : tie.Need-blank-requires-2
 blank-requires-2 c κs = search needs
 
 lay-requires : tie.Need-lay-requires
-lay-requires c κs = ((c .before .before .before .before .before .before .before .before .pre .0 .0, c .before .before .before .layout-of .ensures), c .before .before .blank .ensures)
+lay-requires c κs = ((c .before .before .before .before .before .before .before .before .before .before .pre .0 .0, c .before .before .before .before .layout-of .ensures), (c .before .before .before .before .before .no-addresses .ensures, c .before .before .before .blank .ensures))
 
 -- the table that peeling and what comes after it go by
 table : (c : tie.After-lay)
-    → let s = c .before .before .before .before .before .before .before .before .before .args in
-    Table (record { number = s .number; layout = c .before .before .before .before .layout-of .result; w = s .w }) (c .lay .last .1 .1 .0)
-table c = record { known = c .before .before .before .before .before .before .before .before .before .pre .0 .0; given = c .before .before .before .before .layout-of .ensures; laid = c .lay .ensures }
+    → let s = c .before .before .before .before .before .before .before .before .before .before .before .args in
+    Table (record { number = s .number; layout = c .before .before .before .before .before .layout-of .result; w = s .w }) (c .lay .last .1 .1 .1 .0)
+table c = record { known = c .before .before .before .before .before .before .before .before .before .before .before .pre .0 .0; given = c .before .before .before .before .before .layout-of .ensures; laid = c .lay .ensures }
 
 slice-aggregate-peel : tie.Need-slice-aggregate-peel
 slice-aggregate-peel c = search needs
@@ -34,8 +37,8 @@ slice-aggregate-peel c = search needs
 peel-requires : tie.Need-peel-requires
 unfolding staircase
 peel-requires c κs =
-    let p = c .before .before .before .before .before .before .before .before .before .before .before .before .before .pre in
-    (table (c .before .before .before .before), (c .before .before .before .before .before .before .blank2 .ensures, (p .1 .0 .1, p .1 .0 .0)))
+    let p = c .before .before .before .before .before .before .before .before .before .before .before .before .before .before .before .pre in
+    (table (c .before .before .before .before), (c .before .before .before .before .before .before .before .blank2 .ensures, (p .1 .0 .1, p .1 .0 .0)))
 
 slice-aggregate-by-steps : tie.Need-slice-aggregate-by-steps
 slice-aggregate-by-steps c = search needs
@@ -43,7 +46,7 @@ slice-aggregate-by-steps c = search needs
 by-steps-requires : tie.Need-by-steps-requires
 unfolding staircase
 by-steps-requires c κs =
-    let p = c .before .before .before .before .before .before .before .before .before .before .before .before .before .before .before .before .before .before .before .before .before .before .before .pre in
+    let p = c .before .before .before .before .before .before .before .before .before .before .before .before .before .before .before .before .before .before .before .before .before .before .before .before .before .pre in
     (table (c .before .before .before .before .before .before .before .before .before .before .before .before .before .before), ((peeled-here (c .before .before .before .before .before .before .before .before .before .peel .ensures), c .before .before .before .before .if1 .taken), p .1 .0 .1))
 
 same-length : tie.Need-same-length
@@ -54,7 +57,7 @@ same-length-2 c = search needs
 
 returns : tie.Need-returns
 returns c =
-    let s = c .before .before .before .before .before .before .before .before .before .before .before .before .before .before .before .before .before .before .before .before .before .before .before .before .before .before .before .before in
+    let s = c .before .before .before .before .before .before .before .before .before .before .before .before .before .before .before .before .before .before .before .before .before .before .before .before .before .before .before .before .before .before in
     let g = c .before .before .before .before .before .before .before .before .before .before .before .before .before .before .peel in
     let e = c .before .before .before .before .by-steps in
     let code = checksOf (codeOf (s .args .number)) in
@@ -70,7 +73,7 @@ slice-aggregate-by-pivots c = search needs
 by-pivots-requires : tie.Need-by-pivots-requires
 unfolding staircase
 by-pivots-requires c κs =
-    let p = c .before .before .before .before .before .before .before .before .before .before .before .before .before .before .before .before .before .before .before .before .before .before .before .before .before .pre in
+    let p = c .before .before .before .before .before .before .before .before .before .before .before .before .before .before .before .before .before .before .before .before .before .before .before .before .before .before .before .pre in
     (table (c .before .before .before .before .before .before .before .before .before .before .before .before .before .before .before .before), (peeled-here (c .before .before .before .before .before .before .before .before .before .before .before .peel .ensures), ((p .1 .1 .0, p .1 .1 .1), (p .0 .1, p .1 .0 .1))))
 
 same-length-3 : tie.Need-same-length-3
@@ -87,7 +90,7 @@ same-length-6 c = search needs
 
 returns-2 : tie.Need-returns-2
 returns-2 c =
-    let s = c .before .before .before .before .before .before .before .before .before .before .before .before .before .before .before .before .before .before .before .before .before .before .before .before .before .before .before .before .before .before .before .before .before .before .before in
+    let s = c .before .before .before .before .before .before .before .before .before .before .before .before .before .before .before .before .before .before .before .before .before .before .before .before .before .before .before .before .before .before .before .before .before .before .before .before .before in
     let g = c .before .before .before .before .before .before .before .before .before .before .before .before .before .before .before .before .before .before .before .before .before .peel in
     let e = c .before .before .before .before .before .before .before .before .before .by-pivots in
     let code = checksOf (codeOf (s .args .number)) in
@@ -101,6 +104,7 @@ pub solve-spec : {M : Type 1} → statement M
 solve-spec =
     tie.close
     (tie.spec
+    no-addresses-requires
     layout-of-requires
     blank-requires
     blank-requires-2

@@ -5,6 +5,7 @@ use Prim.Native.Nat.{ℕ, _≤_, _+_, _*_, _-_}
 use native.Mathlib.Omega.{arith}
 use native.Mathlib.Nat.{add-zero, add-assoc}
 use lib.ListN.{length}
+use Rattle.symbol_sums.specs.Gather.{maxPositions}
 use Rattle.ccsds.specs.Tables.{codeOf}
 use Rattle.encoder.specs.inner.Steps.{Done}
 use Rattle.encoder.proofs.Parity.{done-at}
@@ -13,7 +14,7 @@ use Rattle.encoder.proofs.encode.put_rows.Tie as tie
 
 abbrev Inv-loop : tie.InvT-loop
 Inv-loop s table i xs₀ info parity₀ a r₀ xs parity r =
-    (r ≤ a) × (length xs ≡ 64) × Done (codeOf (s .number)) (s .w) info (i * codeOf (s .number) .a + r) parity
+    (r ≤ a) × (length xs ≡ maxPositions) × Done (codeOf (s .number)) (s .w) info (i * codeOf (s .number) .a + r) parity
 
 abbrev μ-loop : tie.MeasureT-loop
 μ-loop s table i xs₀ info parity₀ a r₀ xs parity r = a - r

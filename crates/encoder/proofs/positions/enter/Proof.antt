@@ -4,16 +4,20 @@ use Prim.Native.Nat.{_%_, _<_}
 use native.Mathlib.Omega.{arith}
 use native.Mathlib.Nat.{mod-lt}
 use borrow.Author.Needs.{needs}
+use Rattle.encoder.specs.inner.Positions.{maxClasses}
 use Rattle.encoder.proofs.ClassTable.{entered-full, entered-room}
 use Rattle.encoder.proofs.positions.enter.Statement.{statement}
 use Rattle.encoder.proofs.positions.enter.Tie as tie
 
--- there are 8 classes at most
-class-lt : (s : tie.Start) → s .args .y % s .args .a < 8
-class-lt s = omega (arith, mod-lt (s .args .y) (s .pre .0 .0))
+-- it is one of the classes
+class-lt : (c : tie.After-remainder) → c .remainder .result < maxClasses
+class-lt c = omega (arith, c .remainder .ensures, mod-lt (c .before .args .y) (c .before .pre .0 .0))
 
-rem-r : tie.Need-rem-r
-rem-r c = search needs
+remainder-requires : tie.Need-remainder-requires
+remainder-requires c κs = search needs
+
+quotient-requires : tie.Need-quotient-requires
+quotient-requires c κs = search needs
 
 cast-table : tie.Need-cast-table
 cast-table c = search needs
@@ -34,28 +38,25 @@ element-write-table : tie.Need-element-write-table
 element-write-table c = search needs
 
 add-wide : tie.Need-add-wide
-add-wide c = omega (arith, class-lt c)
+add-wide c = omega (arith, class-lt (c .before))
 
 mul-wide : tie.Need-mul-wide
-mul-wide c = omega (arith, class-lt c)
+mul-wide c = omega (arith, class-lt (c .before))
 
 element-copy-out-wide : tie.Need-element-copy-out-wide
-element-copy-out-wide c = omega (arith, class-lt c)
+element-copy-out-wide c = omega (arith, class-lt (c .before))
 
 wide-requires : tie.Need-wide-requires
 wide-requires c κs = search needs
 
 returns : tie.Need-returns
-returns c = entered-full _ _ _ _ _ _ _ (c .before .wide .ensures .0) (omega arith)
+returns c = entered-full _ _ _ _ _ _ _ _ _ (c .before .before .before .before .remainder .ensures) (c .before .before .before .quotient .ensures) (c .before .wide .ensures .0) (omega arith)
 
 mul-end : tie.Need-mul-end
 mul-end c = search needs
 
 add-end : tie.Need-add-end
 add-end c = search needs
-
-div-table : tie.Need-div-table
-div-table c = search needs
 
 sub-table : tie.Need-sub-table
 sub-table c = search needs
@@ -64,34 +65,34 @@ cast-table-2 : tie.Need-cast-table-2
 cast-table-2 c = search needs
 
 mul-table-3 : tie.Need-mul-table-3
-mul-table-3 c = omega (arith, class-lt (c .before .before .before))
+mul-table-3 c = omega (arith, class-lt (c .before .before .before .before))
 
 add-table-3 : tie.Need-add-table-3
-add-table-3 c = omega (arith, class-lt (c .before .before .before))
+add-table-3 c = omega (arith, class-lt (c .before .before .before .before))
 
 mul-table-4 : tie.Need-mul-table-4
-mul-table-4 c = omega (arith, class-lt (c .before .before .before))
+mul-table-4 c = omega (arith, class-lt (c .before .before .before .before))
 
 element-write-table-2 : tie.Need-element-write-table-2
-element-write-table-2 c = omega (arith, class-lt (c .before .before .before))
+element-write-table-2 c = omega (arith, class-lt (c .before .before .before .before))
 
 cast-table-3 : tie.Need-cast-table-3
 cast-table-3 c = search needs
 
 mul-table-5 : tie.Need-mul-table-5
-mul-table-5 c = omega (arith, class-lt (c .before .before .before))
+mul-table-5 c = omega (arith, class-lt (c .before .before .before .before))
 
 add-table-4 : tie.Need-add-table-4
-add-table-4 c = omega (arith, class-lt (c .before .before .before))
+add-table-4 c = omega (arith, class-lt (c .before .before .before .before))
 
 add-table-5 : tie.Need-add-table-5
-add-table-5 c = omega (arith, class-lt (c .before .before .before))
+add-table-5 c = omega (arith, class-lt (c .before .before .before .before))
 
 mul-table-6 : tie.Need-mul-table-6
-mul-table-6 c = omega (arith, class-lt (c .before .before .before))
+mul-table-6 c = omega (arith, class-lt (c .before .before .before .before))
 
 element-write-table-3 : tie.Need-element-write-table-3
-element-write-table-3 c = omega (arith, class-lt (c .before .before .before))
+element-write-table-3 c = omega (arith, class-lt (c .before .before .before .before))
 
 add-table-6 : tie.Need-add-table-6
 add-table-6 c = search needs
@@ -100,22 +101,23 @@ cast-table-4 : tie.Need-cast-table-4
 cast-table-4 c = search needs
 
 add-table-7 : tie.Need-add-table-7
-add-table-7 c = omega (arith, class-lt (c .before .before .before))
+add-table-7 c = omega (arith, class-lt (c .before .before .before .before))
 
 mul-table-7 : tie.Need-mul-table-7
-mul-table-7 c = omega (arith, class-lt (c .before .before .before))
+mul-table-7 c = omega (arith, class-lt (c .before .before .before .before))
 
 element-write-table-4 : tie.Need-element-write-table-4
-element-write-table-4 c = omega (arith, class-lt (c .before .before .before))
+element-write-table-4 c = omega (arith, class-lt (c .before .before .before .before))
 
 returns-2 : tie.Need-returns-2
-returns-2 c = entered-room _ _ _ _ _ _ _ (c .before .wide .ensures .0) (omega arith)
+returns-2 c = entered-room _ _ _ _ _ _ _ _ _ (c .before .before .before .before .remainder .ensures) (c .before .before .before .quotient .ensures) (c .before .wide .ensures .0) (omega arith)
 
 pub enter-spec : {M : Type 1} → statement M
 enter-spec =
     tie.close
     (tie.spec
-    rem-r
+    remainder-requires
+    quotient-requires
     cast-table
     mul-table
     add-table
@@ -129,7 +131,6 @@ enter-spec =
     returns
     mul-end
     add-end
-    div-table
     sub-table
     cast-table-2
     mul-table-3

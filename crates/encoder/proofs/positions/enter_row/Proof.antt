@@ -6,47 +6,47 @@ use Prim.Native.Nat.{ℕ, _≤_, _<_, _-_}
 use native.Mathlib.Omega.{arith}
 use lib.ListN.{length, getD}
 use Rattle.ccsds.specs.Tables.{codeOf}
+use Rattle.ccsds.specs.inner.Layout.{maxDegree}
 use Rattle.ccsds.proofs.Valid.{valid-of}
+use Rattle.ccsds.proofs.FlatTable.{row-few}
 use Rattle.encoder.specs.inner.Positions.{rowEntered}
 use Rattle.encoder.proofs.ClassTable.{row-size, address-fits, address-more}
 use Rattle.encoder.proofs.positions.enter_row.Statement.{statement}
 use Rattle.encoder.proofs.positions.enter_row.Tie as tie
 
 abbrev Inv-loop : tie.InvT-loop
-Inv-loop number row table₀ ys n q a i₀ table i = (i ≤ n) × (table ≡ rowEntered (codeOf number) row i table₀)
+Inv-loop number l flat row table₀ n q a i₀ table i = (i ≤ n) × (table ≡ rowEntered (codeOf number) row i table₀)
 
 abbrev μ-loop : tie.MeasureT-loop
-μ-loop number row table₀ ys n q a i₀ table i = n - i
+μ-loop number l flat row table₀ n q a i₀ table i = n - i
+
+few : (s : tie.Start Inv-loop μ-loop) → length (getD (codeOf (s .args .number) .rows) (s .args .row) []) ≤ maxDegree
+few s = row-few _ _ (s .pre .0 .1) _ (s .pre .1 .0 .0)
 
 -- address i is one of the table row's
-inside : (c : tie.In-loop Inv-loop μ-loop) → c .before .loop .i < length (getD (codeOf (c .before .before .before .before .args .number) .rows) (c .before .before .before .before .args .row) [])
+inside : (c : tie.In-loop Inv-loop μ-loop) → c .before .loop .i < length (getD (codeOf (c .before .before .before .args .number) .rows) (c .before .before .before .args .row) [])
 inside c = omega (arith, c .before .before .row-degree .ensures)
 
-addresses-requires : tie.Need-addresses-requires Inv-loop μ-loop
-addresses-requires c κs = (c .pre .0 .1, c .pre .1 .0 .0)
-
 row-degree-requires : tie.Need-row-degree-requires Inv-loop μ-loop
-row-degree-requires c κs = (c .before .pre .0 .1, c .before .pre .1 .0 .0)
+row-degree-requires c κs = (c .pre .0 .1, c .pre .1 .0 .0)
 
 loop-holds : tie.Need-loop-holds Inv-loop μ-loop
 unfolding rowEntered
 loop-holds c = (omega arith, refl)
 
-mul-enter : tie.Need-mul-enter Inv-loop μ-loop
-mul-enter c = omega (arith, c .before .before .row-degree .ensures, c .before .before .before .addresses .ensures .few, c .before .before .before .addresses .ensures .size)
-
-array-read-enter : tie.Need-array-read-enter Inv-loop μ-loop
-array-read-enter c = omega (arith, c .before .before .row-degree .ensures, c .before .before .before .addresses .ensures .few, c .before .before .before .addresses .ensures .size)
+address-requires : tie.Need-address-requires Inv-loop μ-loop
+address-requires c κs =
+    let s = c .before .before .before in
+    ((s .pre .0 .1, s .pre .0 .2), (s .pre .1 .0 .0, inside c))
 
 enter-requires : tie.Need-enter-requires Inv-loop μ-loop
 enter-requires c κs =
     let s = c .before .before .before .before .before in
-    let i = inside (c .before) in
-    let y = c .before .before .before .before .addresses .ensures in
-    (address-fits _ (valid-of _ (s .pre .0 .0)) _ _ _ _ _ (s .pre .1 .0 .1) (s .pre .1 .0 .0) i (s .pre .0 .1 .q) (s .pre .0 .1 .a) (y .each _ i), (omega (arith, s .pre .0 .1 .short, s .pre .1 .0 .0), omega (arith, i, y .few), ap length (c .before .before .loop .inv .1) ∙ row-size _ _ _ _ ∙ s .pre .1 .1))
+    let i = inside (c .before .before) in
+    (address-fits _ (valid-of _ (s .pre .0 .0)) _ _ _ _ _ (s .pre .1 .0 .1) (s .pre .1 .0 .0) i (s .pre .0 .1 .q) (s .pre .0 .1 .a) (c .before .address .ensures), (omega (arith, s .pre .0 .1 .short, s .pre .1 .0 .0), omega (arith, i, few s), ap length (c .before .before .before .loop .inv .1) ∙ row-size _ _ _ _ ∙ s .pre .1 .1))
 
 add-i : tie.Need-add-i Inv-loop μ-loop
-add-i c = omega (arith, inside (c .before .before), c .before .before .before .before .before .addresses .ensures .few)
+add-i c = omega (arith, inside (c .before .before .before), few (c .before .before .before .before .before .before))
 
 loop-less : tie.Need-loop-less Inv-loop μ-loop
 loop-less c = omega arith
@@ -54,11 +54,11 @@ loop-less c = omega arith
 loop-again : tie.Need-loop-again Inv-loop μ-loop
 loop-again c =
     let s = c .before .before .before .before .before .before in
-    (omega arith, address-more _ _ _ _ (s .pre .0 .1 .q) (s .pre .0 .1 .a) (c .before .before .before .before .before .addresses .ensures .each _ (inside (c .before .before))) (c .before .before .before .loop .inv .1) (c .enter .ensures))
+    (omega arith, address-more _ _ _ _ (s .pre .0 .1 .q) (s .pre .0 .1 .a) (c .before .before .address .ensures) (c .before .before .before .before .loop .inv .1) (c .enter .ensures))
 
 returns : tie.Need-returns Inv-loop μ-loop
 returns c =
-    let s = c .before .before .before .before in
+    let s = c .before .before .before in
     let e : c .before .loop .i ≡ length (getD (codeOf (s .args .number) .rows) (s .args .row) []) = omega (arith, c .before .before .row-degree .ensures) in
     c .before .loop .inv .1 ∙ ap (λ (k : ℕ). rowEntered (codeOf (s .args .number)) (s .args .row) k (s .args .table .now)) e
 
@@ -68,11 +68,9 @@ enter-row-spec =
     (tie.spec
     Inv-loop
     μ-loop
-    addresses-requires
     row-degree-requires
     loop-holds
-    mul-enter
-    array-read-enter
+    address-requires
     enter-requires
     add-i
     loop-less

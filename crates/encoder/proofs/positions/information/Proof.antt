@@ -8,6 +8,7 @@ use native.Mathlib.Decide.{decLt}
 use native.Mathlib.Omega.{arith}
 use lib.ListN.{length, getD, set, length-set}
 use lib.Seq.{getD-set-same, getD-set-other}
+use Rattle.symbol_sums.specs.Gather.{maxPositions}
 use Rattle.ccsds.specs.Codes.{Params}
 use Rattle.ccsds.specs.Tables.{codeOf}
 use Rattle.ccsds.proofs.Valid.{Valid, valid-of, some-a}
@@ -16,12 +17,12 @@ use Rattle.encoder.proofs.Touched.{row-count, row-each, entry-fits}
 use Rattle.encoder.proofs.positions.information.Statement.{statement}
 use Rattle.encoder.proofs.positions.information.Tie as tie
 
--- of the first e of 64 elements, those before n are f's
+-- of the first e elements, those before n are f's
 record EntriesTo (f : ℕ → ℕ) (n e : ℕ) (xs : List ℕ) : Type 0 where
-  size : length xs ≡ 64
+  size : length xs ≡ maxPositions
   each : (k : ℕ) → k < e → k < n → getD xs k 0 ≡ f k
 
-entries-more : {f : ℕ → ℕ} {n e x : ℕ} {xs : List ℕ} → EntriesTo f n e xs → e < 64 → (e < n → x ≡ f e) → EntriesTo f n (e + 1) (set xs e x)
+entries-more : {f : ℕ → ℕ} {n e x : ℕ} {xs : List ℕ} → EntriesTo f n e xs → e < maxPositions → (e < n → x ≡ f e) → EntriesTo f n (e + 1) (set xs e x)
 entries-more {f} {n} {e} {x} {xs} h l g = record { size = length-set xs e x ∙ h .size; each = λ k a b. go k a b (decLt k e) }
   where
     go : (k : ℕ) → k < e + 1 → k < n → Dec (k < e) → getD (set xs e x) k 0 ≡ f k
@@ -58,10 +59,10 @@ module _ (c : tie.After-wide Inv-loop μ-loop) where
   count-is : c .wide .result ≡ length (classOf code (s .args .r))
   count-is = c .wide .ensures .0 ∙ s .pre .0 .laid .counts _ (s .pre .1 .0 .0)
 
-  few : c .wide .result ≤ 62
+  few : c .wide .result + 2 ≤ maxPositions
   few = omega (arith, count-is, s .pre .0 .laid .few .entries _ (s .pre .1 .0 .0))
 
-  full : (c .wide .result + 15) / 16 * 16 ≤ 64
+  full : (c .wide .result + 15) / 16 * 16 ≤ maxPositions
   full = omega (arith, few)
 
   module _ (e : ℕ) (h : e < c .wide .result) where

@@ -5,29 +5,33 @@ use Prim.Native.Nat.{ℕ, _≤_, _-_}
 use native.Mathlib.Omega.{arith}
 use lib.ListN.{length, length-replicate}
 use Rattle.ccsds.specs.Tables.{codeOf}
-use Rattle.encoder.specs.inner.Positions.{tableEntered}
+use Rattle.ccsds.specs.inner.Layout.{FrontIs, joined, maxAddresses}
+use Rattle.encoder.specs.inner.Positions.{tableEntered, tableSize}
 use Rattle.encoder.proofs.ClassTable.{row-more, table-size, few-classes, all-laid}
 use Rattle.encoder.proofs.positions.lay.Statement.{statement}
 use Rattle.encoder.proofs.positions.lay.Tie as tie
 
 abbrev Inv-loop : tie.InvT-loop
-Inv-loop number l table₀ rows row₀ table row = (row ≤ rows) × (length table ≡ 1544) × (table ≡ tableEntered (codeOf number) row table₀)
+Inv-loop number l flat table₀ rows row₀ table row = (row ≤ rows) × (length table ≡ tableSize) × (table ≡ tableEntered (codeOf number) row table₀)
 
 abbrev μ-loop : tie.MeasureT-loop
-μ-loop number l table₀ rows row₀ table row = rows - row
+μ-loop number l flat table₀ rows row₀ table row = rows - row
+
+put-addresses-requires : tie.Need-put-addresses-requires Inv-loop μ-loop
+put-addresses-requires c κs = c .before .pre .1 .0
 
 loop-holds : tie.Need-loop-holds Inv-loop μ-loop
 unfolding tableEntered
-loop-holds c = (omega arith, ap length (c .pre .1) ∙ length-replicate {A = ℕ} 1544 0, refl)
+loop-holds c = (omega arith, ap length (c .before .before .pre .1 .1) ∙ length-replicate {A = ℕ} tableSize 0, refl)
 
 enter-row-requires : tie.Need-enter-row-requires Inv-loop μ-loop
 enter-row-requires c κs =
-    let s = c .before .before .before in
-    (s .pre .0, ((omega (arith, s .pre .0 .1 .rows), few-classes _ (s .pre .0 .0)), c .before .before .loop .inv .1))
+    let s = c .before .before .before .before .before .before in
+    ((s .pre .0 .0, s .pre .0 .1, c .before .before .before .before .put-addresses .ensures), ((omega (arith, s .pre .0 .1 .rows), few-classes _ (s .pre .0 .0)), c .before .before .before .loop .inv .1))
 
 add-row : tie.Need-add-row Inv-loop μ-loop
 add-row c =
-    let s = c .before .before .before .before in
+    let s = c .before .before .before .before .before .before .before in
     omega (arith, s .pre .0 .1 .rows, s .pre .0 .1 .short)
 
 loop-less : tie.Need-loop-less Inv-loop μ-loop
@@ -35,14 +39,26 @@ loop-less c = omega arith
 
 loop-again : tie.Need-loop-again Inv-loop μ-loop
 loop-again c =
-    let l = c .before .before .before .loop in
+    let l = c .before .before .before .before .loop in
     let e = row-more _ _ _ (l .inv .2) (c .enter-row .ensures) in
-    (omega arith, ap length e ∙ table-size _ _ _ ∙ ap length (c .before .before .before .before .pre .1) ∙ length-replicate {A = ℕ} 1544 0, e)
+    (omega arith, ap length e ∙ table-size _ _ _ ∙ ap length (c .before .before .before .before .before .before .before .pre .1 .1) ∙ length-replicate {A = ℕ} tableSize 0, e)
 
 returns : tie.Need-returns Inv-loop μ-loop
-returns c = let e : c .before .loop .row ≡ length (codeOf (c .before .before .args .number) .rows) = omega (arith, c .before .before .pre .0 .1 .rows) in all-laid _ (c .before .before .pre .0 .0) _ e (c .before .before .pre .1) (c .before .loop .inv .2) (c .before .loop .inv .1)
+returns c =
+    let s = c .before .before .before .before in
+    let e : c .before .loop .row ≡ length (codeOf (s .args .number) .rows) = omega (arith, s .pre .0 .1 .rows) in
+    all-laid _ (s .pre .0 .0) _ e (s .pre .1 .1) (c .before .loop .inv .2) (c .before .loop .inv .1)
 
 pub lay-spec : {M : Type 1} → statement M
 lay-spec =
     tie.close
-    (tie.spec Inv-loop μ-loop loop-holds enter-row-requires add-row loop-less loop-again returns)
+    (tie.spec
+    Inv-loop
+    μ-loop
+    put-addresses-requires
+    loop-holds
+    enter-row-requires
+    add-row
+    loop-less
+    loop-again
+    returns)

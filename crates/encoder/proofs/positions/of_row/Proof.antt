@@ -1,6 +1,6 @@
 -- `encoder::positions::of_row` meets its contract: the information positions, and then those of the parity symbols.
 -- Assumes nothing.
-use mathlib.Core.Path.{_≡_, subst, subst⁻¹}
+use mathlib.Core.Path.{_≡_, sym, ap, ap₂, _∙_, subst⁻¹}
 use Prim.Native.Nat.{ℕ, _+_, _*_, _/_, _%_, _<_}
 use native.Mathlib.Nat.{mod-lt, div-add-mod'}
 use native.Mathlib.Omega.{arith}
@@ -27,25 +27,33 @@ module _ (s : tie.Start) where
   some : 0 < a
   some = omega (arith, some-a _ v, s .pre .0 .given .a)
 
-  class-lt : s .args .j % a < code .a
-  class-lt = omega (arith, mod-lt (s .args .j) some, s .pre .0 .given .a)
+module _ (c : tie.After-remainder) where
+  abbrev start : tie.Start
+  start = c .before .before .before
 
-  step-lt : s .args .j / a < code .q
-  step-lt = subst⁻¹ (λ (t : ℕ). s .args .j / t < code .q) (s .pre .0 .given .a) (quotient-lt _ v (s .args .j) (s .pre .1 .0))
+  class-lt : c .remainder .result < code start .a
+  class-lt = omega (arith, c .remainder .ensures, mod-lt (start .args .j) (some start), start .pre .0 .given .a)
 
-  row-is : s .args .j / a * code .a + s .args .j % a ≡ s .args .j
-  row-is = subst (λ (t : ℕ). s .args .j / a * t + s .args .j % a ≡ s .args .j) (s .pre .0 .given .a) (div-add-mod' (s .args .j) a)
+  step-lt : c .before .quotient .result < code start .q
+  step-lt =
+      subst⁻¹ (λ (t : ℕ). t < code start .q) (c .before .quotient .ensures ∙ ap (λ (t : ℕ). start .args .j / t) (start .pre .0 .given .a))
+      (quotient-lt _ (v start) (start .args .j) (start .pre .1 .0))
 
-div-information : tie.Need-div-information
-div-information c = omega (arith, some (c .before .before))
+  row-is : c .before .quotient .result * code start .a + c .remainder .result ≡ start .args .j
+  row-is =
+      ap₂ (λ (t u : ℕ). t * code start .a + u) (c .before .quotient .ensures) (c .remainder .ensures)
+      ∙ ap (λ (t : ℕ). start .args .j / a start * t + start .args .j % a start) (sym (start .pre .0 .given .a)) ∙ div-add-mod' (start .args .j) (a start)
 
-rem-information : tie.Need-rem-information
-rem-information c = omega (arith, some (c .before .before .before))
+quotient-requires : tie.Need-quotient-requires
+quotient-requires c κs = some (c .before)
+
+remainder-requires : tie.Need-remainder-requires
+remainder-requires c κs = some (c .before .before)
 
 information-requires : tie.Need-information-requires
 information-requires c κs =
     let s = c .before .before .before .before in
-    (s .pre .0, ((class-lt s, step-lt s), s .pre .1 .1))
+    (s .pre .0, ((class-lt (c .before), step-lt (c .before)), s .pre .1 .1))
 
 add-xs : tie.Need-add-xs
 add-xs c = search needs
@@ -65,7 +73,7 @@ add-result c = search needs
 returns : tie.Need-returns
 returns c =
     let s = c .before .before .before .before .before .before .before in
-    first-row _ (v s) (information-at (c .before .before .information .ensures) (row-is s)) (s .pre .1 .0) _ (s .pre .0 .given .k) (c .if1 .taken)
+    first-row _ (v s) (information-at (c .before .before .information .ensures) (row-is (c .before .before .before .before))) (s .pre .1 .0) _ (s .pre .0 .given .k) (c .if1 .taken)
 
 add-xs-2 : tie.Need-add-xs-2
 add-xs-2 c = search needs
@@ -91,14 +99,14 @@ add-result-2 c = search needs
 returns-2 : tie.Need-returns-2
 returns-2 c =
     let s = c .before .before .before .before .before .before .before .before in
-    later-row _ (v s) (information-at (c .before .before .before .information .ensures) (row-is s)) (s .pre .1 .0) _ (s .pre .0 .given .k) (omega arith)
+    later-row _ (v s) (information-at (c .before .before .before .information .ensures) (row-is (c .before .before .before .before .before))) (s .pre .1 .0) _ (s .pre .0 .given .k) (omega arith)
 
 pub of-row-spec : {M : Type 1} → statement M
 of-row-spec =
     tie.close
     (tie.spec
-    div-information
-    rem-information
+    quotient-requires
+    remainder-requires
     information-requires
     add-xs
     cast-xs

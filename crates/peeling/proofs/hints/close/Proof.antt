@@ -1,14 +1,15 @@
 -- `peeling::hints::close` meets its contract.
 -- Assumes nothing.
 use mathlib.Core.Path.{_≡_}
-use Prim.Native.Nat.{_-_}
+use Prim.Native.Nat.{_-_, _/_}
 use lib.ListN.{length}
 use borrow.Author.Needs.{needs}
+use Rattle.ccsds.specs.inner.Layout.{maxM}
 use Rattle.peeling.proofs.hints.close.Statement.{statement}
 use Rattle.peeling.proofs.hints.close.Tie as tie
 
 abbrev Inv-loop : tie.InvT-loop
-Inv-loop table x counts₀ ready₀ js n i₀ counts ready i = (length counts ≡ 1024) × (length ready ≡ 16)
+Inv-loop table x counts₀ ready₀ js n i₀ counts ready i = (length counts ≡ maxM) × (length ready ≡ maxM / 64)
 
 abbrev μ-loop : tie.MeasureT-loop
 μ-loop table x counts₀ ready₀ js n i₀ counts ready i = n - i
@@ -25,11 +26,14 @@ column-requires c κs = search needs
 loop-holds : tie.Need-loop-holds Inv-loop μ-loop
 loop-holds c = search needs
 
-mul-j : tie.Need-mul-j Inv-loop μ-loop
-mul-j c = search needs
+mul-wide : tie.Need-mul-wide Inv-loop μ-loop
+mul-wide c = search needs
 
-array-read-j : tie.Need-array-read-j Inv-loop μ-loop
-array-read-j c = search needs
+array-read-wide : tie.Need-array-read-wide Inv-loop μ-loop
+array-read-wide c = search needs
+
+wide-requires-2 : tie.Need-wide-requires-2 Inv-loop μ-loop
+wide-requires-2 c κs = search needs
 
 element-copy-out-c : tie.Need-element-copy-out-c Inv-loop μ-loop
 element-copy-out-c c = search needs
@@ -68,8 +72,9 @@ close-spec =
     wide-requires
     column-requires
     loop-holds
-    mul-j
-    array-read-j
+    mul-wide
+    array-read-wide
+    wide-requires-2
     element-copy-out-c
     less-requires
     element-write-counts

@@ -4,11 +4,12 @@ use mathlib.Core.Path.{_≡_}
 use Prim.Native.Nat.{_-_}
 use lib.ListN.{length}
 use borrow.Author.Needs.{needs}
+use Rattle.ccsds.specs.inner.Layout.{maxM}
 use Rattle.peeling.proofs.hints.open_column.Statement.{statement}
 use Rattle.peeling.proofs.hints.open_column.Tie as tie
 
 abbrev Inv-loop : tie.InvT-loop
-Inv-loop table x counts₀ js n i₀ counts i = length counts ≡ 1024
+Inv-loop table x counts₀ js n i₀ counts i = length counts ≡ maxM
 
 abbrev μ-loop : tie.MeasureT-loop
 μ-loop table x counts₀ js n i₀ counts i = n - i
@@ -19,11 +20,14 @@ column-requires c κs = search needs
 loop-holds : tie.Need-loop-holds Inv-loop μ-loop
 loop-holds c = search needs
 
-mul-j : tie.Need-mul-j Inv-loop μ-loop
-mul-j c = search needs
+mul-wide : tie.Need-mul-wide Inv-loop μ-loop
+mul-wide c = search needs
 
-array-read-j : tie.Need-array-read-j Inv-loop μ-loop
-array-read-j c = search needs
+array-read-wide : tie.Need-array-read-wide Inv-loop μ-loop
+array-read-wide c = search needs
+
+wide-requires : tie.Need-wide-requires Inv-loop μ-loop
+wide-requires c κs = search needs
 
 element-copy-out-more : tie.Need-element-copy-out-more Inv-loop μ-loop
 element-copy-out-more c = search needs
@@ -54,8 +58,9 @@ open-column-spec =
     μ-loop
     column-requires
     loop-holds
-    mul-j
-    array-read-j
+    mul-wide
+    array-read-wide
+    wide-requires
     element-copy-out-more
     more-requires
     element-write-counts

@@ -1,21 +1,17 @@
--- `ccsds::code::Code::wrong_position` meets its contract: each test decides one part of the condition.
+-- `ccsds::code::Code::wrong_position` meets its contract.
 -- Assumes nothing.
-use borrow.Author.Tests.{eq-eqb, ne-eqb}
 use borrow.Author.Needs.{needs}
-use Rattle.ccsds.specs.Refusals.{wrongPosition}
 use Rattle.ccsds.proofs.code.Code.wrong_position.Statement.{statement}
 use Rattle.ccsds.proofs.code.Code.wrong_position.Tie as tie
 
 n-requires : tie.Need-n-requires
 n-requires c κs = search needs
 
-returns : tie.Need-returns
-unfolding wrongPosition
-returns c = rw (eq-eqb _ _ (c .if1 .taken))
+wrong-position-requires : tie.Need-wrong-position-requires
+wrong-position-requires c κs = search needs
 
-returns-2 : tie.Need-returns-2
-unfolding wrongPosition
-returns-2 c = rw (ne-eqb _ _ (c .if1 .left), ← c .before .n .ensures)
+returns : tie.Need-returns
+returns c = rw (← c .before .n .ensures) (c .wrong-position .ensures)
 
 pub wrong-position-spec : {M : Type 1} → statement M
-wrong-position-spec = tie.close (tie.spec n-requires returns returns-2)
+wrong-position-spec = tie.close (tie.spec n-requires wrong-position-requires returns)
