@@ -2,11 +2,11 @@
  * A file there and back: cut into blocks, encoded, sent as units over a link that loses some and changes their order, and recovered. The
  * receiver knows nothing but the units that arrive.
  *
- *     file [-2] [-w W] [-l PERCENT] [-s SEED] [FILE [RECOVERED]]
+ *     file [-CODE] [-w W] [-l PERCENT] [-s SEED] [FILE [RECOVERED]]
  *
- *   -2           code C2; else C1
+ *   -CODE        the code by its number: -1, -2, -4, -5, -7 or -8; else -1
  *   -w W         bytes of a symbol, 1 to 1024; else 64
- *   -l PERCENT   how many of a hundred units are lost; else 15
+ *   -l PERCENT   how many of a hundred units are lost; else 15, which is too much for C7 and C8
  *   -s SEED      which are lost, and the order of the others; else 1
  *   FILE         what is sent; else a sample of 300,000 bytes
  *   RECOVERED    where the recovered file goes; else it is only compared
@@ -165,7 +165,7 @@ static struct link send_file(struct bytes file, size_t code, size_t w)
     const size_t block_bytes = lipvezor_information_bytes(code, w);
     const size_t blocks = blocks_for(file.length, block_bytes);
     if (blocks > LAST_LSC)
-        fail("the file needs more than 65534 blocks: take a larger W, or C2");
+        fail("the file needs more than 65534 blocks: take a larger W, or C2, C5 or C8");
     struct bytes information = information_of(file, blocks, block_bytes);
     struct link link = {allocate(blocks * lipvezor_n(code) * sizeof *link.units), 0};
     for (size_t i = 0; i < blocks; i++) {
@@ -190,15 +190,6 @@ struct receiver {
     size_t kept, repeated, refused;
 };
 
-/* the code with a unit's k and n; 0, which is refused, if there is none */
-static size_t code_of(const lipvezor_parts *parts)
-{
-    for (size_t code = LIPVEZOR_C1; code <= LIPVEZOR_C2; code++)
-        if (lipvezor_k(code) == parts->k && lipvezor_n(code) == parts->n)
-            return code;
-    return 0;
-}
-
 static void free_received(struct received *block)
 {
     free(block->buffers.symbols);
@@ -206,12 +197,13 @@ static void free_received(struct received *block)
     free(block);
 }
 
-/* the block that a unit is of, as the unit describes it */
+/* the block that a unit is of, as the unit describes it; refused where it names no code */
 static uint8_t open_received(const lipvezor_parts *parts, struct received **opened)
 {
     struct received *block = allocate(sizeof *block);
-    block->record = (lipvezor_block){.code = code_of(parts), .w = parts->w, .protocol = parts->protocol, .lsc = parts->lsc};
-    const size_t symbols = lipvezor_symbol_bytes(block->record.code, block->record.w), marks = lipvezor_n(block->record.code);
+    const size_t code = lipvezor_code_of(parts->k, parts->n);
+    block->record = (lipvezor_block){.code = code, .w = parts->w, .protocol = parts->protocol, .lsc = parts->lsc};
+    const size_t symbols = lipvezor_symbol_bytes(code, parts->w), marks = lipvezor_n(code);
     block->buffers = (lipvezor_buffers){
         .symbols = allocate(symbols), .symbols_length = symbols, .marks = allocate(marks), .marks_length = marks};
     uint8_t refused = lipvezor_open(&block->record, &block->buffers);
@@ -253,7 +245,7 @@ static void receive_unit(struct receiver *receiver, const struct unit *unit)
     }
 }
 
-/* one pair of work buffers, large enough for every block */
+/* one pair of work buffers, large enough for a block of any code */
 static void close_received(struct received *block)
 {
     static uint64_t words[LIPVEZOR_WORK_WORDS(LIPVEZOR_C2)];
@@ -425,7 +417,7 @@ struct options {
 
 static _Noreturn void usage(void)
 {
-    fail("usage: file [-2] [-w 1..1024] [-l 0..100] [-s SEED] [FILE [RECOVERED]]");
+    fail("usage: file [-1|-2|-4|-5|-7|-8] [-w 1..1024] [-l 0..100] [-s SEED] [FILE [RECOVERED]]");
 }
 
 static size_t number_of(const char *text, size_t least, size_t most)
@@ -449,8 +441,9 @@ static struct options options_of(char **next)
 {
     struct options all = {.code = LIPVEZOR_C1, .w = 64, .percent = 15, .seed = 1};
     for (; option_letter(*next); next++) {
-        switch (option_letter(*next)) {
-        case '2': all.code = LIPVEZOR_C2; break;
+        const char letter = option_letter(*next);
+        switch (letter) {
+        case '1': case '2': case '4': case '5': case '7': case '8': all.code = (size_t)(letter - '0'); break;
         case 'w': all.w = number_of(*++next, 1, LIPVEZOR_MAX_WIDTH); break;
         case 'l': all.percent = number_of(*++next, 0, 100); break;
         case 's': all.seed = number_of(*++next, 0, UINT32_MAX); break;

@@ -1,6 +1,6 @@
 /* SPDX-License-Identifier: Apache-2.0 */
 /*
- * Lipvezor 0.3.0: the erasure layer of a satellite downlink (codes C1 and C2 of CCSDS 131.5-O-1), for C11 and C++11.
+ * Lipvezor 0.4.0: the erasure layer of a satellite downlink (codes C1, C2, C4, C5, C7 and C8 of CCSDS 131.5-O-1), for C11 and C++11.
  *
  * Sending:   lipvezor_encode, then for each symbol lipvezor_show and lipvezor_write.
  * Receiving: lipvezor_open, lipvezor_take for each unit that arrives, in any order, and lipvezor_close. A block may be closed more than
@@ -12,11 +12,11 @@
  *   LSC       the block's number, 1 to 65534.
  *   LWC       a symbol's number in its block, 1 to n: LWC 1 to k are information, k + 1 to n parity. A position counts from 0: LWC - 1.
  *
- * Answers. Every call but lipvezor_version and the sizes returns 0 (LIPVEZOR_DONE) or the number of a refusal (enum lipvezor_refusal), and
- * the compiler warns where that is not looked at. What else a call has to say it writes to a record that it was lent. Every call may be
- * handed any numbers, bytes and lengths: what does not fit is refused, the first refusal that applies is returned, in the order of the
- * enum, and a refused call has changed nothing that it was lent. A size of 0 says that the code or W is refused. All this is proved of the
- * archive's source, for all inputs, and so is what each call answers and leaves in every buffer.
+ * Answers. Every call of the archive but lipvezor_version and the sizes returns 0 (LIPVEZOR_DONE) or the number of a refusal (enum
+ * lipvezor_refusal), and the compiler warns where that is not looked at. What else a call has to say it writes to a record that it was lent.
+ * Every call may be handed any numbers, bytes and lengths: what does not fit is refused, the first refusal that applies is returned, in the
+ * order of the enum, and a refused call has changed nothing that it was lent. A size of 0 says that the code or W is refused. All this is
+ * proved of the archive's source, for all inputs, and so is what each call answers and leaves in every buffer.
  *
  * Which bytes may be used. Only a verdict of lipvezor_close says it: of a whole block all, of an ambiguous one the symbols that are not
  * marked as missing, of an inconsistent one none. The symbol of position p lies at symbols + p * W, so the information is the first
@@ -70,9 +70,9 @@ _Static_assert(sizeof(size_t) == 8, "lipvezor: a size_t has 64 bits");
 
 /* ---- version */
 
-#define LIPVEZOR_VERSION_TEXT "0.3.0"
+#define LIPVEZOR_VERSION_TEXT "0.4.0"
 /* first number * 10000 + second * 100 + third */
-#define LIPVEZOR_VERSION 300
+#define LIPVEZOR_VERSION 400
 
 /* The archive's version, as LIPVEZOR_VERSION. */
 size_t lipvezor_version(void);
@@ -83,7 +83,7 @@ size_t lipvezor_version(void);
    byte, and the first byte that can't be accepted decides. */
 enum lipvezor_refusal {
     LIPVEZOR_DONE = 0,                /* not refused */
-    LIPVEZOR_REFUSED_CODE = 1,        /* the code's number is neither 1 nor 2 */
+    LIPVEZOR_REFUSED_CODE = 1,        /* the code's number is not 1, 2, 4, 5, 7 or 8 */
     LIPVEZOR_REFUSED_WIDTH = 2,       /* W is 0 or above 1024 */
     LIPVEZOR_REFUSED_LABEL = 3,       /* LSC is 0 or above 65534, or the protocol ID is above 7 */
     LIPVEZOR_REFUSED_LENGTH = 4,      /* a symbol, mark, work, information, parity or output buffer is not exactly its size */
@@ -104,7 +104,7 @@ static inline const char *lipvezor_refusal_text(unsigned number)
 {
     switch (number) {
     case LIPVEZOR_DONE: return "done";
-    case LIPVEZOR_REFUSED_CODE: return "code: the number is neither 1 nor 2";
+    case LIPVEZOR_REFUSED_CODE: return "code: the number is not 1, 2, 4, 5, 7 or 8";
     case LIPVEZOR_REFUSED_WIDTH: return "width: W is 0 or above 1024";
     case LIPVEZOR_REFUSED_LABEL: return "label: LSC is 0 or above 65534, or the protocol ID is above 7";
     case LIPVEZOR_REFUSED_LENGTH: return "length: a buffer isn't exactly its size";
@@ -124,9 +124,15 @@ static inline const char *lipvezor_refusal_text(unsigned number)
 
 /* ---- codes and sizes */
 
-/* The codes, by their number. */
-#define LIPVEZOR_C1 1
-#define LIPVEZOR_C2 2
+/* The codes, by their number. A higher rate, k / n, sends less parity and fills fewer losses; at the same rate the larger k fills more of them,
+   and takes more memory. Loss: if each unit is lost with this probability, at most about 1 block in 1000 is not whole. A unit says its k and n,
+   so a block of one code refuses the units of another (parameters). C2 has the largest of each size below. */
+#define LIPVEZOR_C1 1                 /* k  512, m  256, n  768: rate 2/3, loss 27 % */
+#define LIPVEZOR_C2 2                 /* k 2048, m 1024, n 3072: rate 2/3, loss 30 % */
+#define LIPVEZOR_C4 4                 /* k  512, m  128, n  640: rate 4/5, loss 15 % */
+#define LIPVEZOR_C5 5                 /* k 2048, m  512, n 2560: rate 4/5, loss 17 % */
+#define LIPVEZOR_C7 7                 /* k  512, m   64, n  576: rate 8/9, loss  7 % */
+#define LIPVEZOR_C8 8                 /* k 2048, m  256, n 2304: rate 8/9, loss  9 % */
 
 /* The largest W, LSC and protocol ID. */
 #define LIPVEZOR_MAX_WIDTH 1024
@@ -135,8 +141,12 @@ static inline const char *lipvezor_refusal_text(unsigned number)
 
 /* Sizes as constants, for static buffers: LIPVEZOR_SYMBOL_BYTES(LIPVEZOR_C1, 16). They are 0 for a number that is no code's; w is a W that is
    not refused. */
-#define LIPVEZOR_K(code) ((code) == LIPVEZOR_C1 ? 512 : (code) == LIPVEZOR_C2 ? 2048 : 0)
-#define LIPVEZOR_M(code) ((code) == LIPVEZOR_C1 ? 256 : (code) == LIPVEZOR_C2 ? 1024 : 0)
+#define LIPVEZOR_K(code) \
+    ((code) == LIPVEZOR_C1 || (code) == LIPVEZOR_C4 || (code) == LIPVEZOR_C7 ? 512 \
+     : (code) == LIPVEZOR_C2 || (code) == LIPVEZOR_C5 || (code) == LIPVEZOR_C8 ? 2048 : 0)
+#define LIPVEZOR_M(code) \
+    ((code) == LIPVEZOR_C1 ? 256 : (code) == LIPVEZOR_C4 ? 128 : (code) == LIPVEZOR_C7 ? 64 \
+     : (code) == LIPVEZOR_C2 ? 1024 : (code) == LIPVEZOR_C5 ? 512 : (code) == LIPVEZOR_C8 ? 256 : 0)
 #define LIPVEZOR_N(code) (LIPVEZOR_K(code) + LIPVEZOR_M(code))
 #define LIPVEZOR_INFORMATION_BYTES(code, w) (LIPVEZOR_K(code) * (w))
 #define LIPVEZOR_PARITY_BYTES(code, w) (LIPVEZOR_M(code) * (w))
@@ -174,6 +184,15 @@ size_t lipvezor_work_words(size_t code);
 /* m * W: bytes of close's second work buffer. */
 size_t lipvezor_work_bytes(size_t code, size_t w);
 
+/* The code with these k and n, as lipvezor_read finds them in a unit; 0, which is no code's number, if there is none. */
+static inline size_t lipvezor_code_of(size_t k, size_t n)
+{
+    for (size_t code = LIPVEZOR_C1; code <= LIPVEZOR_C8; code++)
+        if (k != 0 && lipvezor_k(code) == k && lipvezor_n(code) == n)
+            return code;
+    return 0;
+}
+
 /* Bytes of stack that lipvezor_close takes at most, and that every other call does. The loader's part is in it, where memset or memcpy is bound
    at its first call. */
 #define LIPVEZOR_CLOSE_STACK 40000
@@ -183,7 +202,7 @@ size_t lipvezor_work_bytes(size_t code, size_t w);
 
 /* A block's numbers. Each call on the block is lent this record. */
 typedef struct lipvezor_block {
-    size_t code;                      /* LIPVEZOR_C1 or LIPVEZOR_C2 */
+    size_t code;                      /* the number of one of the codes above, as LIPVEZOR_C1 */
     size_t w;                         /* bytes of a symbol, 1 to LIPVEZOR_MAX_WIDTH */
     size_t protocol;                  /* protocol ID, 0 to 7 */
     size_t lsc;                       /* the block's number, 1 to 65534 */

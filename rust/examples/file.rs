@@ -3,9 +3,9 @@
 //!
 //!     cargo run --release --example file -- [--loss 0.15] [--code 1] [--w 64] [--seed 1] [--out RECOVERED] [FILE]
 //!
-//! Without FILE it sends a sample of 300,000 bytes. It prints each unit that is refused and the verdict of each block. Exit status 0: every
-//! block is whole, and the file is as sent. 1: some block is not whole; which ones is printed, and nothing is written. 2: something else went
-//! wrong.
+//! The code is named by its number, 1, 2, 4, 5, 7 or 8; a loss of 0.15 is too much for 7 and 8. Without FILE it sends a sample of 300,000 bytes.
+//! It prints each unit that is refused and the verdict of each block. Exit status 0: every block is whole, and the file is as sent. 1: some block
+//! is not whole; which ones is printed, and nothing is written. 2: something else went wrong.
 #[path = "../support/random.rs"]
 mod random;
 
@@ -105,7 +105,7 @@ impl Board {
     fn new(record: Record, file: &[u8]) -> Result<Board, String> {
         let size = record.information_bytes();
         if blocks_for(file.len(), size) > LAST_LSC {
-            return Err(format!("the file needs more than {LAST_LSC} blocks: take a larger W, or C2"));
+            return Err(format!("the file needs more than {LAST_LSC} blocks: take a larger W, or C2, C5 or C8"));
         }
         let stream = [&(file.len() as u64).to_be_bytes(), file].concat();
         let blocks = stream.chunks(size).map(|part| [part, &vec![0; size - part.len()]].concat()).collect();

@@ -226,7 +226,7 @@ mod tests {
 
     #[test]
     fn numbers_of_any_size_are_refused_without_buffers() {
-        for code in [0, 255, usize::MAX].map(Code::from_number) {
+        for code in [0, 3, 255, usize::MAX].map(Code::from_number) {
             assert_eq!(Block::open(Record::new(code, 1)).unwrap_err(), Refusal::Code);
             let all = Record::new(code, usize::MAX).with_protocol(usize::MAX).with_lsc(usize::MAX);
             assert_eq!(Block::open(all).unwrap_err(), Refusal::Code);

@@ -296,7 +296,7 @@ mod tests {
 
     #[test]
     fn a_symbol_is_the_one_that_show_copies() {
-        for (code, w) in [(Code::C1, 1), (Code::C1, 5), (Code::C2, 3)] {
+        for (&code, w) in Code::ALL.iter().zip([1, 3, 5, 2, 16, 7]) {
             let word = word(Record::new(code, w));
             let all = [word.information(), word.parity()].concat();
             assert!(word.lwcs().eq(1..=code.n()));
@@ -335,7 +335,7 @@ mod tests {
 
     #[test]
     fn what_does_not_fit_is_refused() {
-        for code in [0, 255, usize::MAX].map(Code::from_number) {
+        for code in [0, 3, 255, usize::MAX].map(Code::from_number) {
             assert_eq!(Codeword::encode(Record::new(code, 1), []).unwrap_err(), Refusal::Code);
         }
         for w in [0, 1025, usize::MAX / 512, usize::MAX] {

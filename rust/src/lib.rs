@@ -1,8 +1,9 @@
-//! The erasure layer of a satellite downlink: codes C1 and C2 of CCSDS 131.5-O-1.
+//! The erasure layer of a satellite downlink: codes C1, C2, C4, C5, C7 and C8 of CCSDS 131.5-O-1.
 //!
 //! On board, a [`Codeword`] adds parity symbols to the information of a block and writes each symbol as a unit. On the ground, a [`Block`]
 //! takes the units that arrive, in any order, and [`Block::close`] fills every lost symbol that the received ones determine. Its answer,
 //! [`Closed`], is whole, ambiguous or inconsistent, and gives out the bytes that this allows. A [`Receiver`] keeps many blocks by their numbers.
+//! [`Code`] says which code is for what.
 //!
 //! The work is done by an archive, `liblipvezor.a`, whose source is proved: each call ends, reads and writes nothing out of range, and
 //! answers what its definition says, for all inputs. This crate hands it slices and makes its numbers into types; only one private module

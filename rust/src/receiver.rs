@@ -5,7 +5,7 @@ use core::fmt;
 use crate::{calls, Block, Closed, Code, Record, Refusal, Taken, Unit, Work, MAX_UNIT_BYTES};
 
 /// The blocks of one protocol ID on the ground, kept by their LSC. Each is opened by its first unit, whose coding parameters name its code and
-/// W. Units may come in any order, those of different blocks mixed, and any number of times.
+/// W, so blocks of different codes may come together. Units may come in any order, those of different blocks mixed, and any number of times.
 ///
 /// If the first unit's coding parameters were changed on the way, and no CRC-32 found it, the block's other units are refused with
 /// [`Refusal::Parameters`] until the block is removed.
@@ -262,11 +262,23 @@ mod tests {
     }
 
     #[test]
-    fn interleaved_blocks_of_several_sizes_are_received() {
-        let records = [(Code::C1, 1, 1), (Code::C2, 3, 65_534), (Code::C1, 200, 3), (Code::C1, 1, 40)];
+    fn interleaved_blocks_of_all_codes_are_received() {
+        let records = [
+            (Code::C1, 1, 1),
+            (Code::C2, 3, 65_534),
+            (Code::C1, 200, 3),
+            (Code::C4, 1, 40),
+            (Code::C5, 2, 41),
+            (Code::C7, 130, 2),
+            (Code::C8, 1, 42),
+        ];
         let sent = records.map(|(code, w, lsc)| word(Record::new(code, w).with_protocol(5).with_lsc(lsc)));
-        let mut units: Vec<Vec<u8>> =
-            sent.iter().flat_map(|word| word.units().unwrap().enumerate()).filter(|(i, _)| i % 4 != 1).map(|(_, unit)| unit).collect();
+        let mut units: Vec<Vec<u8>> = Vec::new();
+        for word in &sent {
+            // half as many are lost as there is parity
+            let lost = 2 * word.record().n() / word.record().m();
+            units.extend(word.lwcs().filter(|lwc| lwc % lost != 2).map(|lwc| word.unit(lwc).unwrap()));
+        }
         // 977 is prime, so that each is met once
         assert!(units.len() % 977 != 0);
         units = (0..units.len()).map(|i| units[i * 977 % units.len()].clone()).collect();
@@ -277,8 +289,8 @@ mod tests {
             let block = alone.iter_mut().find(|block| block.record().lsc() == Unit::read(unit).unwrap().lsc).unwrap();
             assert_eq!(receiver.take(unit), taken(block.record().lsc(), block.take(unit).unwrap()));
         }
-        assert!(receiver.lscs().eq([1, 3, 40, 65_534]));
-        assert_eq!((receiver.len(), receiver.is_empty(), receiver.protocol()), (4, false, 5));
+        assert!(receiver.lscs().eq([1, 2, 3, 40, 41, 42, 65_534]));
+        assert_eq!((receiver.len(), receiver.is_empty(), receiver.protocol()), (7, false, 5));
         for (word, alone) in sent.iter().zip(alone) {
             let lsc = word.record().lsc();
             assert_eq!(receiver.block(lsc), Some(&alone));
@@ -404,6 +416,20 @@ mod tests {
         let wider = [&UNIT[..8], &[2], &UNIT[9..], &[0xAA]].concat();
         assert_eq!(receiver.take(&wider), refused(Refusal::Parameters));
         assert_eq!(receiver.len(), 1);
+    }
+
+    #[test]
+    fn the_first_unit_names_the_code() {
+        // n 768, 640 and 576, all with k 512
+        let units = [(Code::C1, [0x86, 0]), (Code::C4, [0x85, 0]), (Code::C7, [0x84, 0x40])].map(|(code, n)| (code, changed(11, &n)));
+        for (code, unit) in &units {
+            let mut receiver = Receiver::new(1).unwrap();
+            assert_eq!(receiver.take(unit), taken(7, Taken::Kept));
+            assert_eq!(receiver.block(7).unwrap().record().code(), *code);
+            for (_, other) in units.iter().filter(|(other, _)| other != code) {
+                assert_eq!(receiver.take(other), refused(Refusal::Parameters));
+            }
+        }
     }
 
     #[test]

@@ -204,7 +204,7 @@ mod tests {
             }
             assert_eq!((1..=MAX_WIDTH).map(|w| Record::new(code, w).unit_bytes()).max(), Some(MAX_UNIT_BYTES));
         }
-        for number in [0, 255, usize::MAX] {
+        for number in [0, 3, 255, usize::MAX] {
             let record = Record::new(Code::from_number(number), 1);
             assert_eq!(sizes(record), [0; 5]);
             assert_eq!([record.n(), record.k(), record.m(), record.work_words()], [0; 4]);

@@ -33,7 +33,7 @@ use core::fmt;
 #[non_exhaustive]
 #[repr(u8)]
 pub enum Refusal {
-    /// The code's number is neither 1 nor 2.
+    /// The code's number is not 1, 2, 4, 5, 7 or 8.
     Code = 1,
     /// W is 0 or above 1,024.
     Width = 2,
@@ -98,7 +98,7 @@ impl Refusal {
     #[must_use]
     pub const fn text(self) -> &'static str {
         match self {
-            Refusal::Code => "code: the number is neither 1 nor 2",
+            Refusal::Code => "code: the number is not 1, 2, 4, 5, 7 or 8",
             Refusal::Width => "width: W is 0 or above 1024",
             Refusal::Label => "label: LSC is 0 or above 65534, or the protocol ID is above 7",
             Refusal::Length => "length: a buffer isn't exactly its size",

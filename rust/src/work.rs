@@ -6,7 +6,7 @@ use core::fmt;
 use crate::Record;
 
 /// The two work buffers of a close. One `Work` serves any number of blocks, one after the other: those of the code and W that it was made for,
-/// and all that need less. [`Work::grow`] makes it serve more.
+/// and all that need less; made for C2 and the largest W, blocks of every code and W. [`Work::grow`] makes it serve more.
 ///
 /// ```
 /// use lipvezor::{Block, Code, Record, Refusal, Verdict, Work};
@@ -77,9 +77,11 @@ mod tests {
     #[test]
     fn one_work_serves_smaller_blocks() {
         let mut work = Work::of(Record::new(Code::C2, 1024));
-        for (code, w) in [(Code::C1, 1), (Code::C2, 1), (Code::C1, 1024), (Code::C2, 1024)] {
-            let mut block = Block::open(Record::new(code, w)).unwrap();
-            assert_eq!(block.close(&mut work).unwrap().report().heard, 0);
+        for &code in Code::ALL {
+            for w in [1, 1024] {
+                let mut block = Block::open(Record::new(code, w)).unwrap();
+                assert_eq!(block.close(&mut work).unwrap().report().heard, 0);
+            }
         }
         let mut c2 = Block::open(Record::new(Code::C2, 1)).unwrap();
         assert_eq!(c2.close(&mut Work::of(Record::new(Code::C1, 1024))), Err(Refusal::Length));

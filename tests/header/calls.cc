@@ -1,4 +1,4 @@
-// include/lipvezor.h in C++11: every call once, and what it answers. Exit status 0, or 1 and what is not so.
+// include/lipvezor.h in C++11: every call on a block of each code, and what it answers. Exit status 0, or 1 and what is not so.
 #include "lipvezor.h"
 
 #include <cstdio>
@@ -11,26 +11,30 @@ typedef std::vector<uint8_t> Bytes;
 
 bool wrong = false;
 
+// a block's numbers, each of them another one
+const size_t W = 16;
+lipvezor_block numbers(size_t code)
+{
+    lipvezor_block all = {};
+    all.code = code;
+    all.w = W;
+    all.protocol = 3;
+    all.lsc = 1234;
+    return all;
+}
+lipvezor_block block;
+
 void expect(bool holds, const char *what)
 {
     if (!holds) {
-        std::printf("calls: not so: %s\n", what);
+        std::printf("calls: code %zu, not so: %s\n", block.code, what);
         wrong = true;
     }
 }
 
-// a block's numbers, each of them another one
-const size_t W = 16;
-lipvezor_block numbers()
-{
-    lipvezor_block all = {};
-    all.code = LIPVEZOR_C1;
-    all.w = W;
-    all.protocol = 5;
-    all.lsc = 1234;
-    return all;
-}
-const lipvezor_block block = numbers();
+// the macros are constants in C++ too
+static_assert(LIPVEZOR_K(LIPVEZOR_C4) == 512 && LIPVEZOR_N(LIPVEZOR_C8) == 2304 && LIPVEZOR_M(3) == 0, "codes");
+static_assert(LIPVEZOR_WORK_WORDS(LIPVEZOR_C7) == 640 && LIPVEZOR_UNIT_BYTES(LIPVEZOR_C5, W) == 30, "sizes");
 
 struct Sizes {
     size_t n, k, m, information, parity, symbols, unit, work_words, work_bytes;
@@ -73,6 +77,7 @@ void look(const Sizes &size, const Bytes &unit)
     expect(lipvezor_read(unit.data(), unit.size(), &parts) == LIPVEZOR_DONE, "read is done");
     expect(parts.protocol == block.protocol && parts.count == 1 && parts.lwc == 5 && parts.lsc == block.lsc && parts.symbol == size.unit - W
            && parts.coding == 1 && parts.w == W && parts.k == size.k && parts.n == size.n && parts.seed == 0, "a unit's parts");
+    expect(lipvezor_code_of(parts.k, parts.n) == block.code, "a unit's code");
     expect(lipvezor_read(unit.data(), 5, &parts) == LIPVEZOR_REFUSED_HEADER && parts.lwc == 5, "a refused read leaves the parts");
 }
 
@@ -119,14 +124,15 @@ struct Received {
     }
 };
 
-// every fourth unit is lost
-size_t take_all(const std::vector<Bytes> &units, Received &received)
+// half as many units are lost as there is parity, each as far from the next
+size_t take_all(const Sizes &size, const std::vector<Bytes> &units, Received &received)
 {
+    const size_t step = 2 * size.n / size.m;
     lipvezor_taken taken = lipvezor_taken();
     size_t kept = 0;
     expect(received.open() == LIPVEZOR_DONE, "open is done");
     for (size_t i = 0; i < units.size(); i++) {
-        if (i % 4 == 2) {
+        if (i % step == 2) {
             continue;
         }
         expect(received.take(block, units[i], &taken) == LIPVEZOR_DONE && taken.result == LIPVEZOR_KEPT, "a unit is kept");
@@ -149,22 +155,31 @@ void close_all(const Sizes &size, Received &received, size_t kept)
     expect(report.verdict == LIPVEZOR_WHOLE && report.heard == kept && report.filled == size.n - kept && report.left == 0, "the report");
 }
 
-} // namespace
-
-int main()
+void there_and_back()
 {
     const Sizes size = sizes();
     Bytes information(size.information), parity(size.parity);
     for (size_t i = 0; i < information.size(); i++) {
         information[i] = static_cast<uint8_t>(i * i >> 4);
     }
-    expect(lipvezor_version() == LIPVEZOR_VERSION, "the version");
     const std::vector<Bytes> units = send(size, information, parity);
     look(size, units[4]);
     Received received(size);
-    close_all(size, received, take_all(units, received));
+    close_all(size, received, take_all(size, units, received));
     expect(std::memcmp(received.symbols.data(), information.data(), information.size()) == 0, "the information is as sent");
     expect(std::memcmp(&received.symbols[information.size()], parity.data(), parity.size()) == 0, "the parity is as sent");
+}
+
+} // namespace
+
+int main()
+{
+    const size_t codes[] = {LIPVEZOR_C1, LIPVEZOR_C2, LIPVEZOR_C4, LIPVEZOR_C5, LIPVEZOR_C7, LIPVEZOR_C8};
+    for (size_t code : codes) {
+        block = numbers(code);
+        there_and_back();
+    }
+    expect(lipvezor_version() == LIPVEZOR_VERSION, "the version");
     if (!wrong) {
         std::printf("calls: all as the header says, %s\n", lipvezor_refusal_text(LIPVEZOR_DONE));
     }

@@ -20,10 +20,18 @@ _Static_assert(sizeof symbols == 3145728 && sizeof marks == 3072, "the largest b
 _Static_assert(sizeof unit == 1039 && LIPVEZOR_UNIT_BYTES(LIPVEZOR_C1, 127) == 141 && LIPVEZOR_UNIT_BYTES(LIPVEZOR_C1, 128) == 143, "units");
 _Static_assert(sizeof work_words == 401408 && sizeof work_bytes == 1048576, "the largest work buffers");
 _Static_assert(LIPVEZOR_SYMBOL_BYTES(LIPVEZOR_C1, 8 + 8) == 12288 && LIPVEZOR_UNIT_BYTES(LIPVEZOR_C1, 100 + 28) == 143, "a sum as W");
-_Static_assert(LIPVEZOR_K(LIPVEZOR_C1) + LIPVEZOR_M(LIPVEZOR_C1) == LIPVEZOR_N(LIPVEZOR_C1), "n = k + m of C1");
-_Static_assert(LIPVEZOR_K(LIPVEZOR_C2) + LIPVEZOR_M(LIPVEZOR_C2) == LIPVEZOR_N(LIPVEZOR_C2), "n = k + m of C2");
-_Static_assert(LIPVEZOR_N(3) == 0 && LIPVEZOR_SYMBOL_BYTES(0, 16) == 0 && LIPVEZOR_UNIT_BYTES(3, 16) == 0, "no code's sizes");
+_Static_assert(LIPVEZOR_N(3) == 0 && LIPVEZOR_SYMBOL_BYTES(0, 16) == 0 && LIPVEZOR_UNIT_BYTES(6, 16) == 0 && LIPVEZOR_WORK_WORDS(9) == 0,
+               "no code's sizes");
 _Static_assert(LIPVEZOR_VERSION > 0 && LIPVEZOR_STACK > 0 && LIPVEZOR_CLOSE_STACK > LIPVEZOR_STACK, "other constants");
+
+/* table 4-1 of the standard */
+#define TABLE_4_1(code, n, k, m) _Static_assert(LIPVEZOR_N(code) == (n) && LIPVEZOR_K(code) == (k) && LIPVEZOR_M(code) == (m), #code)
+TABLE_4_1(LIPVEZOR_C1, 768, 512, 256);
+TABLE_4_1(LIPVEZOR_C2, 3072, 2048, 1024);
+TABLE_4_1(LIPVEZOR_C4, 640, 512, 128);
+TABLE_4_1(LIPVEZOR_C5, 2560, 2048, 512);
+TABLE_4_1(LIPVEZOR_C7, 576, 512, 64);
+TABLE_4_1(LIPVEZOR_C8, 2304, 2048, 256);
 
 /* the archive has a record as words of 64 bits, numbers or a pointer and its length, in this order */
 #define MEMBER(record, member, index) _Static_assert(offsetof(record, member) == (index) * sizeof(size_t), #record "." #member)
@@ -117,17 +125,42 @@ static void no_code(size_t code)
     no_sizes(code, 1);
 }
 
+#define COUNT(array) (sizeof(array) / sizeof *(array))
+
+static const size_t codes[] = {LIPVEZOR_C1, LIPVEZOR_C2, LIPVEZOR_C4, LIPVEZOR_C5, LIPVEZOR_C7, LIPVEZOR_C8};
+
+/* 3, 6 and 9 are the standard's other codes */
+static const size_t others[] = {0, 3, 6, 9, 10, 256 + 1, ((size_t)1 << 32) + 1, SIZE_MAX};
+
 static void compare_sizes(void)
 {
+    const size_t widths[] = {0, LIPVEZOR_MAX_WIDTH + 1, SIZE_MAX};
     for (size_t w = 1; w <= LIPVEZOR_MAX_WIDTH; w++) {
         SAME_SIZES(LIPVEZOR_C1, w);
         SAME_SIZES(LIPVEZOR_C2, w);
+        SAME_SIZES(LIPVEZOR_C4, w);
+        SAME_SIZES(LIPVEZOR_C5, w);
+        SAME_SIZES(LIPVEZOR_C7, w);
+        SAME_SIZES(LIPVEZOR_C8, w);
     }
-    const size_t codes[] = {0, 3, 256 + 1, SIZE_MAX}, widths[] = {0, LIPVEZOR_MAX_WIDTH + 1, SIZE_MAX};
-    for (size_t i = 0; i < sizeof codes / sizeof *codes; i++)
-        no_code(codes[i]);
-    for (size_t i = 0; i < sizeof widths / sizeof *widths; i++)
-        no_sizes(LIPVEZOR_C1, widths[i]), no_sizes(LIPVEZOR_C2, widths[i]);
+    for (size_t i = 0; i < COUNT(others); i++)
+        no_code(others[i]);
+    for (size_t i = 0; i < COUNT(codes); i++)
+        for (size_t j = 0; j < COUNT(widths); j++)
+            no_sizes(codes[i], widths[j]);
+}
+
+/* a code is found by its k and n, and by no other two */
+static void compare_codes(void)
+{
+    for (size_t i = 0; i < COUNT(codes); i++) {
+        const size_t code = codes[i], k = lipvezor_k(code), n = lipvezor_n(code);
+        same("code of k and n", 0, lipvezor_code_of(k, n), code);
+        expect(!lipvezor_code_of(k, n + 1) && !lipvezor_code_of(k - 1, n) && !lipvezor_code_of(n, k), "no code of other numbers");
+        for (size_t j = 0; j < COUNT(codes); j++)
+            expect(lipvezor_code_of(k, lipvezor_n(codes[j])) == (lipvezor_k(codes[j]) == k ? codes[j] : 0), "k and n of two codes");
+    }
+    expect(!lipvezor_code_of(0, 0) && !lipvezor_code_of(16384, 24576) && !lipvezor_code_of(SIZE_MAX, SIZE_MAX), "no code of such numbers");
 }
 
 static void compare_version(void)
@@ -149,7 +182,7 @@ static void compare_texts(void)
         LIPVEZOR_REFUSED_EXTENSION, LIPVEZOR_REFUSED_NUMBER, LIPVEZOR_REFUSED_EXTENSION_KIND, LIPVEZOR_REFUSED_PARAMETERS,
         LIPVEZOR_REFUSED_FOREIGN, LIPVEZOR_REFUSED_POSITION, LIPVEZOR_REFUSED_SYMBOL, LIPVEZOR_REFUSED_MARK, LIPVEZOR_REFUSED_CONFLICT,
     };
-    const size_t count = sizeof numbers / sizeof *numbers;
+    const size_t count = COUNT(numbers);
     const char *common = lipvezor_refusal_text(255);
     size_t others = 0;
     for (unsigned number = 0; number < 1000; number++) {
@@ -166,6 +199,7 @@ static void compare_texts(void)
 int main(void)
 {
     compare_sizes();
+    compare_codes();
     compare_version();
     compare_texts();
     (void)information, (void)parity, (void)symbols, (void)marks, (void)unit, (void)work_words, (void)work_bytes;

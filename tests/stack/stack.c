@@ -404,15 +404,16 @@ static void run_all(size_t code, size_t w)
 
 int main(int argc, char **argv)
 {
+    static const size_t codes[] = {LIPVEZOR_C1, LIPVEZOR_C2, LIPVEZOR_C4, LIPVEZOR_C5, LIPVEZOR_C7, LIPVEZOR_C8};
     static const size_t widths[] = {1, 8, 16, 33, 64, 100, 128, 1024};
     if (argc == 3) {
         close_stack = strtoul(argv[1], NULL, 10);
         other_stack = strtoul(argv[2], NULL, 10);
     }
     catch_faults();
-    for (size_t code = LIPVEZOR_C1; code <= LIPVEZOR_C2; code++)
+    for (size_t c = 0; c < sizeof codes / sizeof *codes; c++)
         for (size_t i = 0; i < sizeof widths / sizeof *widths; i++)
-            run_all(code, widths[i]);
+            run_all(codes[c], widths[i]);
     for (size_t i = 0; i < CALLS; i++)
         printf("%s: %zu calls, each within %zu bytes of stack\n", calls[i].name, calls[i].runs, *calls[i].stack);
     return 0;
