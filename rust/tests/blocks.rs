@@ -2,6 +2,7 @@
 mod compare;
 mod model;
 
+use compare::low_weight::lightest;
 use compare::{cases, ours, suite, Difference, Stats};
 use model::answers::{Report, Taken, Verdict};
 use model::refusals::Record;
@@ -13,17 +14,20 @@ use std::time::{Duration, Instant};
 fn lists_of_calls_agree_with_the_model() {
     let start = Instant::now();
     let until = start + Duration::from_secs(compare::seconds());
-    let [c1, c2] = thread::scope(|scope| {
-        let threads = codes::BOTH.map(|code| scope.spawn(move || blocks_of(code, until)));
+    let by_code = thread::scope(|scope| {
+        let threads = codes::ALL.map(|code| scope.spawn(move || blocks_of(code, until)));
         threads.map(|thread| thread.join().unwrap().unwrap())
     });
-    let (c1_blocks, c2_blocks) = (c1.blocks, c2.blocks);
-    let mut stats = c1;
-    stats += c2;
+    let blocks: Vec<String> = codes::ALL.iter().zip(&by_code).map(|(code, stats)| format!("C{} {}", code.number, stats.blocks)).collect();
+    let mut stats = Stats::default();
+    for of_code in by_code {
+        assert!([of_code.whole, of_code.ambiguous, of_code.inconsistent].iter().all(|&times| times >= 10), "{of_code:?}");
+        stats += of_code;
+    }
     println!(
-        "compared {} blocks, {} calls, C1 {c1_blocks} and C2 {c2_blocks} blocks; kept {}, repeated {}, whole {}, ambiguous {}, inconsistent {}, \
-         refused {:?}; seed {}, {:.0} s",
+        "compared {} blocks ({}), {} calls; kept {}, repeated {}, whole {}, ambiguous {}, inconsistent {}, refused {:?}; seed {}, {:.0} s",
         stats.blocks,
+        blocks.join(", "),
         stats.calls,
         stats.kept,
         stats.repeated,
@@ -37,7 +41,7 @@ fn lists_of_calls_agree_with_the_model() {
 }
 
 fn blocks_of(code: &'static Code, until: Instant) -> Result<Stats, Difference> {
-    let seed = compare::seed().wrapping_mul(2).wrapping_add(code.number as u64);
+    let seed = compare::seed().wrapping_mul(16).wrapping_add(code.number as u64);
     let mut stats = suite::chosen_blocks(code, Fault::None, seed)?;
     stats += suite::random_blocks(code, Fault::None, !seed, until)?;
     Ok(stats)
@@ -47,7 +51,14 @@ fn record(code: &Code, w: usize) -> Record {
     Record { code: code.number, w, protocol: 2, lsc: 9 }
 }
 
-/// A sample block of the requirements: takes the heard symbols of a word, closes, and returns the marks.
+/// The codeword of random information.
+fn word(code: &Code, w: usize) -> Vec<u8> {
+    let mut information = vec![0; code.k * w];
+    compare::seeded().fill(&mut information);
+    encoder::codeword(code, w, &information)
+}
+
+/// A sample block: takes the heard symbols of a word, closes, and returns the marks.
 fn sample(code: &Code, w: usize, word: &[u8], heard: impl Fn(usize) -> bool, expected: Report) -> Vec<u8> {
     let record = record(code, w);
     let (mut symbols, mut marks) = (vec![1; code.n * w], vec![1; code.n]);
@@ -68,11 +79,8 @@ fn sample(code: &Code, w: usize, word: &[u8], heard: impl Fn(usize) -> bool, exp
 
 #[test]
 fn c1_from_511_information_symbols_and_the_last_parity_symbol() {
-    let mut information = vec![0; 512 * 2];
-    compare::seeded().fill(&mut information);
-    let word = encoder::codeword(&codes::C1, 2, &information);
     let expected = Report { verdict: Verdict::Whole, heard: 512, filled: 256, left: 0 };
-    sample(&codes::C1, 2, &word, |position| (1..=511).contains(&position) || position == 767, expected);
+    sample(&codes::C1, 2, &word(&codes::C1, 2), |position| (1..=511).contains(&position) || position == 767, expected);
 }
 
 #[test]
@@ -97,10 +105,57 @@ fn c2_with_nothing_heard_and_with_a_wrong_last_symbol() {
     sample(&codes::C2, 1, &[1; 3072], |position| position == 3071, expected);
 }
 
+/// All information symbols but the first or the last one are heard, and the last parity symbol: k in all.
+#[test]
+fn from_all_information_symbols_but_one_and_the_last_parity_symbol() {
+    // With what is left without the last information symbol, which the last parity symbol of C5, C7 and C8 doesn't sum.
+    for (code, without_last) in [(&codes::C4, 0), (&codes::C5, 125), (&codes::C7, 29), (&codes::C8, 37)] {
+        let sent = word(code, 2);
+        for (lost, left) in [(0, 0), (code.k - 1, without_last)] {
+            let verdict = if left == 0 { Verdict::Whole } else { Verdict::Ambiguous };
+            let expected = Report { verdict, heard: code.k, filled: code.m - left, left };
+            sample(code, 2, &sent, |position| position != lost && !(code.k..code.n - 1).contains(&position), expected);
+        }
+    }
+}
+
+/// The last parity symbol and the information symbols that it sums: one of them lost, then none, then a wrong one.
+#[test]
+fn the_last_parity_symbol_and_what_it_sums() {
+    for (code, summed) in [(&codes::C5, 1024), (&codes::C7, 384), (&codes::C8, 128)] {
+        let mut sent = word(code, 1);
+        let last = code.n - 1;
+        let expected = Report { verdict: Verdict::Ambiguous, heard: summed, filled: 1, left: last - summed };
+        let marks = sample(code, 1, &sent, |position| position < summed - 1 || position == last, expected);
+        assert_eq!(marks[summed - 1], 2, "C{}", code.number);
+        let expected = Report { verdict: Verdict::Ambiguous, heard: summed + 1, filled: 0, left: last - summed };
+        sample(code, 1, &sent, |position| position < summed || position == last, expected);
+        sent[summed - 1] ^= 1;
+        let expected = Report { verdict: Verdict::Inconsistent, ..expected };
+        sample(code, 1, &sent, |position| position < summed || position == last, expected);
+    }
+}
+
+/// Far fewer than m are lost and the block is ambiguous; with any one of them it is whole.
+#[test]
+fn lightest_codewords_lost() {
+    for (code, weight) in [(&codes::C1, 26), (&codes::C2, 31), (&codes::C4, 10), (&codes::C5, 16), (&codes::C7, 7), (&codes::C8, 16)] {
+        let lost = encoder::support(code, &lightest(code)[0]);
+        assert_eq!(lost.len(), weight, "C{}", code.number);
+        let sent = word(code, 1);
+        let expected = Report { verdict: Verdict::Ambiguous, heard: code.n - weight, filled: 0, left: weight };
+        sample(code, 1, &sent, |position| !lost.contains(&position), expected);
+        for heard in &lost {
+            let expected = Report { verdict: Verdict::Whole, heard: code.n - weight + 1, filled: weight - 1, left: 0 };
+            sample(code, 1, &sent, |position| !lost.contains(&position) || position == *heard, expected);
+        }
+    }
+}
+
 /// The codeword of each single information symbol, lost whole: what was sent there can't be told from that plus the codeword.
 #[test]
 fn each_single_information_symbols_codeword_lost() {
-    for code in codes::BOTH {
+    for code in codes::ALL {
         let record = record(code, 1);
         let word = encoder::codeword(code, 1, &cases::information(code, 1, &mut compare::seeded()));
         for x in 0..code.k {

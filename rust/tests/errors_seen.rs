@@ -5,48 +5,41 @@ mod model;
 
 use compare::random::Random;
 use compare::{all_strings, encode, suite, unit_forms, units, Difference, Stats};
-use model::{codes, Fault};
+use model::{codes, Code, Fault};
 use std::thread;
+
+/// What a comparison with a fault in the model finds.
+type Outcome = Result<Stats, Difference>;
+
+/// A comparison is run once, or on each code.
+enum Run {
+    Once(fn(Fault) -> Outcome),
+    EachCode(fn(&'static Code, Fault) -> Outcome),
+}
 
 /// A comparison by its name.
 struct Comparison {
     name: &'static str,
-    run: fn(Fault) -> Result<Stats, Difference>,
+    run: Run,
     finds: &'static [Fault],
 }
 
 /// For the errors seen.
-static COMPARISONS: [Comparison; 8] = [
-    Comparison { name: "blocks of C1", run: |fault| suite::chosen_blocks(&codes::C1, fault, 1), finds: &Fault::SEEN },
-    Comparison { name: "blocks of C2", run: |fault| suite::chosen_blocks(&codes::C2, fault, 1), finds: &Fault::SEEN },
+static COMPARISONS: [Comparison; 4] = [
+    Comparison { name: "blocks", run: Run::EachCode(|code, fault| suite::chosen_blocks(code, fault, 1)), finds: &Fault::SEEN },
     Comparison {
-        name: "encode of C1",
-        run: |fault| encode::compare(&codes::C1, 3, 50, fault, &mut random()),
+        name: "encode",
+        run: Run::EachCode(|code, fault| encode::compare(code, 3, 50, fault, &mut random())),
         finds: &[Fault::Row0JoinedToLast],
     },
     Comparison {
-        name: "encode of C2",
-        run: |fault| encode::compare(&codes::C2, 3, 50, fault, &mut random()),
-        finds: &[Fault::Row0JoinedToLast],
-    },
-    Comparison {
-        name: "written units of C1",
-        run: |fault| units::written(&codes::C1, fault, &mut random()),
+        name: "written units",
+        run: Run::EachCode(|code, fault| units::written(code, fault, &mut random())),
         finds: &[Fault::LwcKAsParity],
     },
     Comparison {
-        name: "written units of C2",
-        run: |fault| units::written(&codes::C2, fault, &mut random()),
-        finds: &[Fault::LwcKAsParity],
-    },
-    Comparison {
-        name: "shown symbols of C1",
-        run: |fault| units::shown(&codes::C1, 3, fault, &mut random()),
-        finds: &[Fault::LwcKAsParity],
-    },
-    Comparison {
-        name: "shown symbols of C2",
-        run: |fault| units::shown(&codes::C2, 3, fault, &mut random()),
+        name: "shown symbols",
+        run: Run::EachCode(|code, fault| units::shown(code, 3, fault, &mut random())),
         finds: &[Fault::LwcKAsParity],
     },
 ];
@@ -55,7 +48,7 @@ static COMPARISONS: [Comparison; 8] = [
 static READINGS: [Comparison; 6] = [
     Comparison {
         name: "altered units",
-        run: |fault| unit_forms::altered(fault, &mut random()),
+        run: Run::Once(|fault| unit_forms::altered(fault, &mut random())),
         finds: &[
             Fault::LeadingZerosRead,
             Fault::ZeroInsideRefused,
@@ -67,18 +60,22 @@ static READINGS: [Comparison; 6] = [
     },
     Comparison {
         name: "forms of numbers",
-        run: |fault| unit_forms::numbers(fault, &mut random()),
+        run: Run::Once(|fault| unit_forms::numbers(fault, &mut random())),
         finds: &[Fault::LeadingZerosRead, Fault::ZeroInsideRefused, Fault::TooLongSaid6, Fault::CutAfterFourSaid19, Fault::CutByValueSaid6],
     },
     Comparison {
         name: "forms of coding parameters",
-        run: |fault| unit_forms::values(fault, &mut random()),
+        run: Run::Once(|fault| unit_forms::values(fault, &mut random())),
         finds: &[Fault::LeadingZerosRead, Fault::CutByValueSaid6],
     },
-    Comparison { name: "random units", run: |fault| unit_forms::random_units(20_000, fault, &mut random()), finds: &Fault::MISREAD },
+    Comparison {
+        name: "random units",
+        run: Run::Once(|fault| unit_forms::random_units(20_000, fault, &mut random())),
+        finds: &Fault::MISREAD,
+    },
     Comparison {
         name: "edge bytes as coding parameters",
-        run: all_strings::coding_values,
+        run: Run::Once(all_strings::coding_values),
         finds: &[
             Fault::LeadingZerosRead,
             Fault::ZeroInsideRefused,
@@ -88,35 +85,61 @@ static READINGS: [Comparison; 6] = [
             Fault::FifthNumberRead,
         ],
     },
-    Comparison { name: "edge bytes as lengths", run: all_strings::lengths, finds: &Fault::MISREAD },
+    Comparison { name: "edge bytes as lengths", run: Run::Once(all_strings::lengths), finds: &Fault::MISREAD },
 ];
 
 /// For the wrong writings.
-static WRITINGS: [Comparison; 2] = [
-    Comparison { name: "written units of C1", run: |fault| units::written(&codes::C1, fault, &mut random()), finds: &Fault::MISWRITTEN },
-    Comparison { name: "written units of C2", run: |fault| units::written(&codes::C2, fault, &mut random()), finds: &Fault::MISWRITTEN },
-];
+static WRITINGS: [Comparison; 1] = [Comparison {
+    name: "written units",
+    run: Run::EachCode(|code, fault| units::written(code, fault, &mut random())),
+    finds: &Fault::MISWRITTEN,
+}];
 
 /// For the wrong showings.
 static SHOWINGS: [Comparison; 2] = [
-    Comparison { name: "shown symbols of C1", run: |fault| units::shown(&codes::C1, 3, fault, &mut random()), finds: &Fault::MISSHOWN },
-    Comparison { name: "shown symbols of C2", run: |fault| units::shown(&codes::C2, 1, fault, &mut random()), finds: &Fault::MISSHOWN },
+    Comparison {
+        name: "shown symbols",
+        run: Run::EachCode(|code, fault| units::shown(code, 3, fault, &mut random())),
+        finds: &Fault::MISSHOWN,
+    },
+    Comparison {
+        name: "shown symbols of one byte",
+        run: Run::EachCode(|code, fault| units::shown(code, 1, fault, &mut random())),
+        finds: &Fault::MISSHOWN,
+    },
 ];
 
 fn random() -> Random {
     Random::new(1)
 }
 
-/// Every comparison finds the fault if it should, and only then.
+impl Comparison {
+    /// It finds the fault if it should, and only then.
+    fn check(&self, name: &str, outcome: Outcome, fault: Fault) {
+        match (outcome, self.finds.contains(&fault)) {
+            (Err(difference), true) => println!("{fault:?} is found in {name}: {}", shortened(&difference)),
+            (Ok(_), false) => {}
+            (Err(difference), false) => panic!("{fault:?} in {name}: {difference:?}"),
+            (Ok(stats), true) => panic!("{fault:?} is not found in {name}: {stats:?}"),
+        }
+    }
+}
+
+/// Every comparison is checked.
 fn check(comparisons: &'static [Comparison], fault: Fault) {
     thread::scope(|scope| {
         for comparison in comparisons {
-            scope.spawn(move || match ((comparison.run)(fault), comparison.finds.contains(&fault)) {
-                (Err(difference), true) => println!("{fault:?} is found in {}: {}", comparison.name, shortened(&difference)),
-                (Ok(_), false) => {}
-                (Err(difference), false) => panic!("{fault:?} in {}: {difference:?}", comparison.name),
-                (Ok(stats), true) => panic!("{fault:?} is not found in {}: {stats:?}", comparison.name),
-            });
+            match comparison.run {
+                Run::Once(run) => {
+                    scope.spawn(move || comparison.check(comparison.name, run(fault), fault));
+                }
+                Run::EachCode(run) => {
+                    for code in codes::ALL {
+                        let name = format!("{} of C{}", comparison.name, code.number);
+                        scope.spawn(move || comparison.check(&name, run(code, fault), fault));
+                    }
+                }
+            }
         }
     });
 }

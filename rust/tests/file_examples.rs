@@ -1,6 +1,7 @@
 //! The examples that send a file, in C and in Rust: the same lines, the same exit status.
 mod programs;
 
+use lipvezor::Code;
 use std::fs;
 use std::path::{Path, PathBuf};
 use std::process::Command;
@@ -43,20 +44,44 @@ fn sent(name: &str, length: usize) -> (String, Vec<u8>) {
     (path.to_str().unwrap().to_owned(), bytes)
 }
 
+/// Both answer the same: an exit status, and a line for each of so many blocks.
+fn same(c: &[&str], rust: &[&str], status: i32, blocks: usize) {
+    let [in_c, in_rust] = answers(c, rust);
+    assert_eq!(in_c, in_rust);
+    assert_eq!((in_c.status, in_c.errors.as_str()), (Some(status), ""));
+    assert_eq!(in_c.printed.lines().filter(|line| line.starts_with("block ")).count(), blocks, "{}", in_c.printed);
+}
+
 #[test]
 fn all_or_nothing_arrives() {
     let (file, _) = sent("all", 50_000);
-    let (c2, rust2) = (["-2", "-w", "5", "-l", "0", &file], ["--code", "2", "--w", "5", "--loss", "0", &file]);
-    for (c, rust, status, blocks) in [
-        (&["-l", "0"][..], &["--loss", "0"][..], 0, 10),
-        (&["-l", "100"], &["--loss", "1"], 1, 1),
-        (&c2, &rust2, 0, 5),
-        (&["-l", "0", "-w", "1024", &file], &["--loss", "0", "--w", "1024", &file], 0, 1),
-    ] {
-        let [in_c, in_rust] = answers(c, rust);
-        assert_eq!(in_c, in_rust);
-        assert_eq!((in_c.status, in_c.errors.as_str()), (Some(status), ""));
-        assert_eq!(in_c.printed.lines().filter(|line| line.starts_with("block ")).count(), blocks, "{}", in_c.printed);
+    same(&["-l", "0"], &["--loss", "0"], 0, 10);
+    same(&["-l", "100"], &["--loss", "1"], 1, 1);
+    same(&["-l", "0", "-w", "1024", &file], &["--loss", "0", "--w", "1024", &file], 0, 1);
+    for code in Code::ALL {
+        let (option, number) = (format!("-{}", code.number()), code.number().to_string());
+        let blocks = 50_008_usize.div_ceil(code.k() * 5);
+        same(&[&option, "-w", "5", "-l", "0", &file], &["--code", &number, "--w", "5", "--loss", "0", &file], 0, blocks);
+    }
+}
+
+/// The receiver finds each code by the units, and half of what it has parity for may be lost.
+#[test]
+fn every_code_recovers() {
+    let (file, bytes) = sent("codes", 50_000);
+    let outs = ["c", "rust"].map(|name| format!("{file}.{name}"));
+    for code in Code::ALL {
+        let (option, number) = (format!("-{}", code.number()), code.number().to_string());
+        let percent = code.m() * 50 / code.n();
+        let (in_c, in_rust) = (percent.to_string(), format!("{}", percent as f64 / 100.0));
+        let c = [&option, "-w", "16", "-l", &in_c, &file, &outs[0]];
+        let rust = ["--code", &number, "--w", "16", "--loss", &in_rust, "--out", &outs[1], &file];
+        for (Answer { status, printed, errors }, out) in answers(&c, &rust).into_iter().zip(&outs) {
+            assert_eq!((status, errors.as_str()), (Some(0), ""), "{printed}");
+            let blocks = 50_008_usize.div_ceil(code.k() * 16);
+            assert!(printed.starts_with(&format!("units: {} sent, ", blocks * code.n())), "{printed}");
+            assert!(fs::read(out).unwrap() == bytes, "{code}");
+        }
     }
 }
 
@@ -109,6 +134,9 @@ fn what_else_goes_wrong() {
         (&["-w", "0"], &["--w", "0"], "refused 2, width: W is 0 or above 1024"),
         (&["-w", "1025"], &["--w", "1025"], "refused 2, width: W is 0 or above 1024"),
         (&["-w", "two"], &["--w", "two"], "--w two: "),
+        (&["-3"], &["--code", "3"], "refused 1, code: the number is not 1, 2, 4, 5, 7 or 8"),
+        (&["-0"], &["--code", "0"], "refused 1, code: "),
+        (&["-9"], &["--code", "9"], "refused 1, code: "),
         (&["-x"], &["-x"], "-x is no option"),
         (&[&file, &file, &file], &[&file, &file], "one FILE only"),
         (&["/nothing/there"], &["/nothing/there"], "/nothing/there: "),

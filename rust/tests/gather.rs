@@ -8,7 +8,7 @@ use compare::lists::Call;
 use compare::random::Random;
 use compare::scripts::{self, Between};
 use compare::seeded;
-use model::{codes, refusals::Record};
+use model::{codes, refusals::Record, Code};
 use std::io::Write;
 use std::path::Path;
 use std::process::{Command, Stdio};
@@ -107,7 +107,7 @@ fn damaged_and_cut_streams() {
 #[test]
 fn headers() {
     let good = Record { code: 1, w: 2, protocol: 1, lsc: 7 };
-    let mut records: Vec<Record> = [0, 1, 2, 3, 255].map(|code| Record { code, ..good }).to_vec();
+    let mut records: Vec<Record> = [0, 1, 2, 3, 4, 5, 6, 7, 8, 9, 10, 255].map(|code| Record { code, ..good }).to_vec();
     records.extend([0, 1, 15, 16, 17, 256, 258, 1023, 1024, 1025, 65535].map(|w| Record { w, ..good }));
     records.extend([0, 7, 8, 255].map(|protocol| Record { protocol, ..good }));
     records.extend([0, 1, 65534, 65535].map(|lsc| Record { lsc, ..good }));
@@ -115,10 +115,29 @@ fn headers() {
         let mut stream = header(record);
         compare(&stream);
         let w = record.w.min(16);
-        let unit = Draft::proper(&codes::C1, w, record.protocol % 8, record.lsc, 768, &vec![9; w]).bytes();
+        let code = Code::of_number(record.code).unwrap_or(&codes::C1);
+        let unit = Draft::proper(code, w, record.protocol % 8, record.lsc, code.n, &vec![9; w]).bytes();
         append(&mut stream, &unit);
         append(&mut stream, &unit);
         compare(&stream);
+    }
+}
+
+/// It knows C1 alone, by its number in the header and by k and n in the units.
+#[test]
+fn other_codes() {
+    for code in codes::ALL {
+        let mut stream = header(Record { code: code.number, w: 1, protocol: 1, lsc: 7 });
+        let expected = if code.number == 1 {
+            "1 kept\n2 refused 7\n3 refused 7\n4 refused 7\n5 refused 7\n6 refused 7\nambiguous heard 1\n"
+        } else {
+            "bad input\n"
+        };
+        for other in codes::ALL {
+            append(&mut stream, &Draft::proper(other, 1, 1, 7, 512, &[9]).bytes());
+        }
+        assert_eq!(String::from_utf8(run(&stream)).unwrap(), expected, "C{}", code.number);
+        assert_eq!(model::gather::output(&stream), expected, "C{}", code.number);
     }
 }
 

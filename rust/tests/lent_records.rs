@@ -150,21 +150,24 @@ fn take(taking: &Taking, filling: usize, label: &str) -> Result<[usize; 1], u8> 
 fn results_of_takes() {
     // The result of a take that is not refused.
     type Case = (&'static str, Result<usize, u8>, fn(&mut Taking));
-    let cases: [Case; 19] = [
+    let cases: [Case; 22] = [
         ("kept", Ok(1), |_| {}),
         ("kept over a filled symbol", Ok(1), |t| t.mark = 2),
         ("repeated", Ok(2), |t| t.mark = 1),
         ("code 3", Err(1), |t| t.record.code = 3),
+        ("code 6", Err(1), |t| t.record.code = 6),
         ("W 0", Err(2), |t| t.record.w = 0),
         ("W 1025", Err(2), |t| t.record.w = 1025),
         ("LSC 0", Err(3), |t| t.record.lsc = 0),
         ("symbols one short", Err(4), |t| t.short = 1),
+        ("C4, with buffers of C1", Err(4), |t| t.record.code = 4),
         ("no bytes", Err(5), |t| t.cut = 0),
         ("version 2", Err(5), |t| t.draft.version = 2),
         ("cut in the extension", Err(6), |t| t.cut = 9),
         ("a length padded", Err(19), |t| t.draft.extensions[0].length.insert(0, 0x80)),
         ("type 255", Err(20), |t| t.draft.extensions.push(Extension::new(255, vec![]))),
         ("seed 1", Err(7), |t| t.draft.extensions[0] = Extension::coding([3, 512, 768, 1])),
+        ("n of C4", Err(7), |t| t.draft.extensions[0] = Extension::coding([3, 512, 640, 0])),
         ("another LSC", Err(8), |t| t.draft.lsc += 1),
         ("LWC n + 1", Err(9), |t| t.draft.lwc = 769),
         ("a symbol one long", Err(10), |t| t.draft.symbol.push(0)),
@@ -243,13 +246,13 @@ fn reports_of_closes() {
         ("bytes one long", Err(4), |c| c.bytes_more = 1),
         ("mark 3", Err(11), |c| c.last = 3),
     ];
-    for code in codes::BOTH {
+    for code in codes::ALL {
         for (label, due, change) in cases {
             let record = Record { code: code.number, w: 2, protocol: 5, lsc: 1000 };
             let mut closing = Closing { record, lost: 0, wrong: 0, last: 1, words_more: 0, bytes_more: 0 };
             change(&mut closing);
-            // C2 has four times as many symbols as C1.
-            closing.lost = closing.lost.saturating_mul(code.k / 512).min(code.n - 1);
+            // As large a share of m as in C1.
+            closing.lost = (closing.lost.saturating_mul(code.m) / 256).min(code.n - 1);
             for filling in FILLINGS {
                 let answer = close(&closing, code, filling, label);
                 assert_eq!(answer.map(|[verdict, ..]| verdict), due, "{label}");

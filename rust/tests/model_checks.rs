@@ -3,19 +3,79 @@ mod compare;
 mod model;
 
 use compare::random::Random;
-use model::{codes, encoder, solver, Fault};
+use model::{codes, encoder, solver, Code, Fault};
+use std::collections::{BTreeMap, BTreeSet};
 use std::fs;
 use std::path::{Path, PathBuf};
 
+/// What a table is made of.
+struct Shape {
+    code: &'static Code,
+    /// So many rows of so many addresses, one below the other.
+    rows: &'static [(usize, usize)],
+    addresses: usize,
+    /// The information symbols in each check row j, by j mod 8.
+    touching: [usize; 8],
+}
+
+static SHAPES: [Shape; 6] = [
+    Shape { code: &codes::C1, rows: &[(16, 5)], addresses: 80, touching: [10; 8] },
+    Shape { code: &codes::C2, rows: &[(4, 6), (12, 4)], addresses: 72, touching: [10, 10, 10, 10, 8, 8, 8, 8] },
+    Shape { code: &codes::C4, rows: &[(32, 5)], addresses: 160, touching: [20; 8] },
+    Shape { code: &codes::C5, rows: &[(16, 5), (16, 4)], addresses: 144, touching: [18; 8] },
+    Shape { code: &codes::C7, rows: &[(48, 7), (16, 6)], addresses: 432, touching: [54; 8] },
+    Shape { code: &codes::C8, rows: &[(4, 7), (60, 6)], addresses: 388, touching: [49, 49, 49, 49, 48, 48, 48, 48] },
+];
+
 #[test]
 fn tables() {
-    for (code, addresses) in [(&codes::C1, 80), (&codes::C2, 72)] {
-        assert_eq!(code.table.len(), 16);
-        assert_eq!(code.table.iter().map(|row| row.len()).sum::<usize>(), addresses);
+    assert!(SHAPES.iter().map(|shape| shape.code.number).eq(codes::ALL.iter().map(|code| code.number)));
+    for Shape { code, rows, addresses, touching } in &SHAPES {
+        let lengths: Vec<usize> = code.table.iter().map(|row| row.len()).collect();
+        assert_eq!(lengths, rows.iter().flat_map(|&(count, length)| vec![length; count]).collect::<Vec<_>>(), "C{}", code.number);
+        assert_eq!(lengths.iter().sum::<usize>(), *addresses, "C{}", code.number);
+        assert!(lengths.windows(2).all(|pair| pair[0] >= pair[1]), "C{}: longer rows first", code.number);
         for row in code.table {
-            assert!(row.windows(2).all(|pair| pair[0] < pair[1]) && row.iter().all(|&y| y < code.m), "{row:?}");
+            assert!(row.windows(2).all(|pair| pair[0] < pair[1]) && row.iter().all(|&y| y < code.m), "C{}: {row:?}", code.number);
         }
-        assert_eq!((code.n, code.m, code.table.len() * code.q), (code.k + code.m, code.a * code.q, code.k));
+        assert_eq!((code.n, code.m, code.table.len() * code.q), (code.k + code.m, code.a * code.q, code.k), "C{}", code.number);
+        for (j, row) in code.check_rows(Fault::None).iter().enumerate() {
+            let information = row.iter().filter(|&&position| position < code.k).count();
+            assert_eq!(information, touching[j % code.a], "check row {j} of C{}", code.number);
+        }
+    }
+}
+
+/// No information symbol touches two check rows that a parity symbol joins.
+#[test]
+fn neighbouring_check_rows() {
+    for code in codes::ALL {
+        for x in 0..code.k {
+            let mut touched: Vec<usize> = code.touched(x).collect();
+            touched.sort_unstable();
+            assert!(touched.windows(2).all(|pair| pair[0] + 1 < pair[1]), "u_{x} of C{}", code.number);
+        }
+    }
+}
+
+/// In C1, C2 and C5 no two information symbols touch the same two check rows; in the others many do, but none the same ones throughout.
+#[test]
+fn shared_check_rows() {
+    for (code, shared_pairs) in
+        [(&codes::C1, 0), (&codes::C2, 0), (&codes::C4, 1248), (&codes::C5, 0), (&codes::C7, 1696), (&codes::C8, 8288)]
+    {
+        let mut pairs = BTreeMap::new();
+        let mut columns = BTreeSet::new();
+        for x in 0..code.k {
+            let touched: BTreeSet<usize> = code.touched(x).collect();
+            for &i in &touched {
+                for &j in touched.range(i + 1..) {
+                    *pairs.entry((i, j)).or_insert(0) += 1;
+                }
+            }
+            assert!(columns.insert(touched), "u_{x} of C{} touches what another one does", code.number);
+        }
+        assert_eq!(pairs.values().filter(|&&times| times > 1).count(), shared_pairs, "C{}", code.number);
     }
 }
 
@@ -23,7 +83,7 @@ fn tables() {
 #[test]
 fn encoder_and_check_rows() {
     let mut random = compare::seeded();
-    for code in codes::BOTH {
+    for code in codes::ALL {
         for w in [1, 2, 5] {
             let mut information = vec![0; code.k * w];
             random.fill(&mut information);

@@ -25,7 +25,7 @@ const BEYOND: [usize; 4] = [3072, 65_536, 1 << 32, usize::MAX];
 #[test]
 fn symbols_and_units_of_every_lwc() {
     let mut random = seeded();
-    for code in codes::BOTH {
+    for code in codes::ALL {
         for w in [1, 2, 3, 16, 127, 128, 1024] {
             let record = Record { code: code.number, w, protocol: random.below(8), lsc: 1 + random.below(65_534) };
             let mut information = vec![0; code.k * w];
@@ -112,7 +112,7 @@ fn labels_of_units() {
 
 #[test]
 fn largest_sizes() {
-    let longest = codes::BOTH.iter().flat_map(|code| (1..=1024).map(|w| units::write(code, w, 1, 1, 1, &vec![0; w]).len())).max();
+    let longest = codes::ALL.iter().flat_map(|code| (1..=1024).map(|w| units::write(code, w, 1, 1, 1, &vec![0; w]).len())).max();
     assert_eq!((lipvezor::MAX_WIDTH, Some(lipvezor::MAX_UNIT_BYTES)), (1024, longest));
 }
 
@@ -121,7 +121,7 @@ fn largest_sizes() {
 fn units_read() {
     let mut random = seeded();
     let mut stats = Stats::default();
-    for code in codes::BOTH {
+    for code in codes::ALL {
         let reader = Reader::new(code, 3, Fault::None);
         for _ in 0..3000 {
             let unit = any_unit(&reader, code, 3, &mut random);
@@ -139,7 +139,7 @@ fn units_read() {
 
 /// The code of k and n.
 fn code_of(k: usize, n: usize) -> Option<&'static Code> {
-    codes::BOTH.into_iter().find(|code| (code.k, code.n) == (k, n))
+    codes::ALL.into_iter().find(|code| (code.k, code.n) == (k, n))
 }
 
 // ---- blocks and what a close gives out
@@ -270,7 +270,7 @@ fn gives_out(closed: Closed<'_>, report: Report, model: &blocks::Block, w: usize
 }
 
 fn code_of_n(n: usize) -> &'static Code {
-    codes::BOTH.into_iter().find(|code| code.n == n).unwrap()
+    codes::ALL.into_iter().find(|code| code.n == n).unwrap()
 }
 
 /// A block shows its marks and its raw buffers, and no more.
@@ -321,8 +321,8 @@ fn follow<S: AsRef<[u8]> + AsMut<[u8]>, M: AsRef<[u8]> + AsMut<[u8]>>(mut block:
 #[test]
 fn blocks_give_out_what_the_verdict_allows() {
     let mut random = seeded();
-    for code in codes::BOTH {
-        let step = if code.number == 1 { 11 } else { 7 };
+    for code in codes::ALL {
+        let step = if code.k == 512 { 11 } else { 7 };
         let mut stats = Stats::default();
         for (index, loss) in cases::chosen(code, &mut random).iter().enumerate().step_by(step) {
             let case = loss.sent(code, [1, 2, 3, 16][index / step % 4], &mut random);
@@ -345,7 +345,7 @@ fn blocks_give_out_what_the_verdict_allows() {
 /// All information heard, and a wrong symbol among it: what a look at the marks alone would give out.
 #[test]
 fn nothing_of_an_inconsistent_block() {
-    for code in codes::BOTH {
+    for code in codes::ALL {
         let record = Record { code: code.number, w: 2, protocol: 1, lsc: 9 };
         let mut information = vec![0; code.k * 2];
         seeded().fill(&mut information);
@@ -535,7 +535,7 @@ impl Sender {
     fn disturbance(&self, random: &mut Random) -> Vec<u8> {
         let (code, w) = (self.case.code, self.record.w);
         let mut draft = self.draft(if self.came.is_empty() { 0 } else { self.came[random.below(self.came.len())] });
-        let other = codes::BOTH[random.below(2)];
+        let other = codes::ALL[random.below(codes::ALL.len())];
         match random.below(18) {
             // Repeated.
             0..=2 => {}
@@ -575,8 +575,8 @@ fn few(code: &Code, wrong: usize, random: &mut Random) -> Loss {
 fn mixed(limit: usize, random: &mut Random) -> Receivers {
     let protocol = random.below(8);
     let mut receivers = Receivers::new(protocol, limit);
-    let shapes = [(1, 1), (1, 3), (2, 1), (1, 16), (1, 130), (2, 2), (1, 2)];
-    let lscs = [1, 2, 255, 256, 40_000, 65_533, 65_534];
+    let shapes = [(1, 1), (1, 3), (2, 1), (4, 16), (7, 130), (5, 2), (8, 1), (4, 1), (1, 2)];
+    let lscs = [1, 2, 255, 256, 257, 40_000, 40_001, 65_533, 65_534];
     let mut senders = Vec::new();
     for (index, ((number, w), lsc)) in shapes.into_iter().zip(lscs).enumerate() {
         let code = Code::of_number(number).unwrap();

@@ -4,11 +4,15 @@ mod model;
 mod programs;
 
 use compare::ours;
-use lipvezor::{Mark, Refusal};
+use lipvezor::{Code, Mark, Refusal};
 use std::fs;
 
+fn text(file: &str) -> String {
+    fs::read_to_string(programs::root().join(file)).unwrap()
+}
+
 fn header() -> String {
-    fs::read_to_string(programs::root().join("include/lipvezor.h")).unwrap()
+    text("include/lipvezor.h")
 }
 
 /// Prints the text of each number, one in a line.
@@ -67,6 +71,28 @@ fn versions() {
     let number = first * 10_000 + second * 100 + third;
     assert_eq!(programs::c("texts/versions", VERSIONS), format!("{version} {number} {number}\n"));
     assert_eq!(ours::version(), number);
+}
+
+/// The first six numbers after this, on the line that begins with it: of a code k, m, n, the two numbers of its rate, and the loss in percent.
+fn numbers(text: &str, begins: &str) -> Vec<usize> {
+    let line = text.lines().find_map(|line| line.strip_prefix(begins)).unwrap_or_else(|| panic!("no line begins with {begins}"));
+    let line = line.replace(", ", " ").replace(',', "");
+    line.split(|c: char| !c.is_ascii_digit()).filter_map(|digits| digits.parse().ok()).take(6).collect()
+}
+
+/// The header, the crate's documentation and README.md say the same of each code, and the header has no other.
+#[test]
+fn codes_in_words() {
+    let (header, documentation, readme) = (header(), text("rust/src/code.rs"), text("README.md"));
+    for code in Code::ALL {
+        let said = numbers(&header, &format!("#define LIPVEZOR_{code} {} ", code.number()));
+        let [k, m, n, over, under, _] = said[..] else { panic!("{code}: {said:?}") };
+        assert_eq!((k, m, n, k * under), (code.k(), code.m(), code.n(), n * over));
+        assert_eq!(numbers(&documentation, &format!("/// | [`{code}`](Code::{code}) ")), said);
+        assert_eq!(numbers(&readme, &format!("| {code} ")), said);
+    }
+    let is_code = |line: &str| line.strip_prefix("#define LIPVEZOR_C").is_some_and(|rest| rest.starts_with(|c: char| c.is_ascii_digit()));
+    assert_eq!(header.lines().filter(|line| is_code(line)).count(), Code::ALL.len());
 }
 
 /// The members of an enum of the header, in the order in which they stand there, without the start of their names.

@@ -2,9 +2,10 @@
 mod compare;
 mod model;
 
+use compare::drafts::{Draft, Extension};
 use compare::{all_strings, ours, unit_forms, units, Difference, Stats};
 use lipvezor::Code;
-use model::answers::Parameters;
+use model::answers::{Parameters, Taken};
 use model::refusals::Record;
 use model::{byte_reader, codes, Fault};
 
@@ -29,7 +30,7 @@ fn assert_came(stats: &Stats, numbers: &[usize]) {
 
 #[test]
 fn written_units() {
-    for code in codes::BOTH {
+    for code in codes::ALL {
         report("written", units::written(code, Fault::None, &mut compare::seeded()));
     }
 }
@@ -38,7 +39,7 @@ fn written_units() {
 #[test]
 fn written_units_of_every_lwc() {
     let mut random = compare::seeded();
-    for code in codes::BOTH {
+    for code in codes::ALL {
         let mut stats = Stats::default();
         for w in [1, 15, 16, 17, 31, 127, 128, 1023, 1024] {
             stats += units::written_at(code, w, 1..=code.n, &mut random).unwrap();
@@ -50,7 +51,7 @@ fn written_units_of_every_lwc() {
 #[test]
 fn written_units_of_every_width() {
     let mut random = compare::seeded();
-    for code in codes::BOTH {
+    for code in codes::ALL {
         let mut stats = Stats::default();
         for w in 1..=1024 {
             stats += units::written_at(code, w, [1, code.k, code.k + 1, code.n], &mut random).unwrap();
@@ -61,7 +62,7 @@ fn written_units_of_every_width() {
 
 #[test]
 fn shown_symbols() {
-    for code in codes::BOTH {
+    for code in codes::ALL {
         for w in [1, 2, 3, 16, 1024] {
             report("shown", units::shown(code, w, Fault::None, &mut compare::seeded()));
         }
@@ -97,7 +98,7 @@ fn extension_counts() {
 
 #[test]
 fn random_units() {
-    let stats = report("random", unit_forms::random_units(75_000, Fault::None, &mut compare::seeded()));
+    let stats = report("random", unit_forms::random_units(37_500, Fault::None, &mut compare::seeded()));
     assert_came(&stats, &[5, 6, 7, 19, 20]);
     assert!(stats.kept >= 1000);
 }
@@ -280,6 +281,61 @@ fn first_byte_that_cannot_be_accepted() {
     }
 }
 
+/// A block takes the units of its own code and refuses those of the others, of which two have its k: only n tells them apart. Whatever else
+/// is wrong with them comes after that.
+#[test]
+fn units_of_other_codes() {
+    for own in codes::ALL {
+        for other in codes::ALL {
+            for w in [1, 16, 128] {
+                let record = Record { code: own.number, w, protocol: 5, lsc: 1000 };
+                let due = if own.number == other.number { Ok(Taken::Kept) } else { Err(7) };
+                for lwc in [1, 512, 513, other.k, other.k + 1, other.n] {
+                    assert_eq!(taken(record, &written(other, Record { code: other.number, ..record }, lwc)), due, "{record:?}, LWC {lwc}");
+                    let foreign = written(other, Record { code: other.number, lsc: 1001, ..record }, lwc);
+                    assert_eq!(taken(record, &foreign), due.and(Err(8)), "{record:?}, LWC {lwc}, foreign");
+                }
+            }
+        }
+    }
+}
+
+/// The unit of a symbol, which the archive and the model write alike.
+fn written(code: &model::Code, record: Record, lwc: usize) -> Vec<u8> {
+    let symbol: Vec<u8> = (0..record.w).map(|i| (i * 7 + lwc) as u8).collect();
+    let unit = model::units::write(code, record.w, record.protocol, record.lsc, lwc, &symbol);
+    let mut ours = vec![0xA5; unit.len()];
+    ours::write(record, lwc, &symbol, &mut ours).unwrap();
+    assert_eq!(ours, unit, "{record:?}, LWC {lwc}");
+    unit
+}
+
+/// What a new block says of a unit, as the model's does, with the same in its buffers after that.
+fn taken(record: Record, unit: &[u8]) -> Result<Taken, u8> {
+    let mut model = model::blocks::Block::open(record, Fault::None).unwrap();
+    let (mut symbols, mut marks) = (model.symbols().to_vec(), model.marks().to_vec());
+    let answer = ours::take(record, &mut symbols, &mut marks, unit);
+    assert_eq!(answer, model.take(unit), "{record:?}, {unit:02X?}");
+    assert!(symbols == model.symbols() && marks == model.marks(), "{record:?}, {unit:02X?}");
+    answer
+}
+
+/// Each k of the standard's nine codes with each n: a block takes its own alone.
+#[test]
+fn every_k_and_n() {
+    for own in codes::ALL {
+        let record = Record { code: own.number, w: 2, protocol: 5, lsc: 1000 };
+        for k in [512, 2048, 16_384] {
+            for n in [768, 3072, 24_576, 640, 2560, 20_480, 576, 2304, 18_432] {
+                let mut draft = Draft::proper(own, 2, 5, 1000, own.n, &[1, 2]);
+                draft.extensions = vec![Extension::coding([2, k, n, 0])];
+                let due = if (k, n) == (own.k, own.n) { Ok(Taken::Kept) } else { Err(7) };
+                assert_eq!(taken(record, &draft.bytes()), due, "C{}, k {k}, n {n}", own.number);
+            }
+        }
+    }
+}
+
 /// The sample SDNVs of the requirements, as the seed of a unit.
 #[test]
 fn sample_sdnvs() {
@@ -307,7 +363,7 @@ fn sizes_of(code: usize, w: usize) -> [usize; 5] {
 
 #[test]
 fn sizes() {
-    for code in codes::BOTH {
+    for code in codes::ALL {
         let ours = Code::from_number(code.number);
         assert_eq!([ours.n(), ours.k(), ours.m(), ours.work_words()], [code.n, code.k, code.m, code.work_words()]);
         for w in 1..=1024 {
@@ -318,7 +374,7 @@ fn sizes() {
             assert_eq!(sizes_of(code.number, w), [0; 5]);
         }
     }
-    for none in [0, 3, 257, usize::MAX] {
+    for none in [0, 3, 6, 9, 10, 257, (1 << 32) + 1, usize::MAX] {
         let code = Code::from_number(none);
         assert_eq!([code.n(), code.k(), code.m(), code.work_words()], [0; 4]);
         assert_eq!(sizes_of(none, 1), [0; 5]);

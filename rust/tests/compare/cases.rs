@@ -1,4 +1,5 @@
 //! Which symbols are lost or wrong, chosen by hand and at random.
+use super::low_weight::lightest;
 use super::random::Random;
 use crate::model::encoder::{codeword, support};
 use crate::model::Code;
@@ -15,12 +16,29 @@ impl Loss {
         Loss { label: label.into(), lost, wrong: Vec::new() }
     }
 
-    fn with_wrong(self, wrong: Vec<usize>) -> Loss {
-        Loss { label: format!("{}, wrong at {wrong:?}", self.label), lost: self.lost, wrong }
+    /// The positions of a codeword that aren't zero.
+    fn of_support(code: &Code, information: &[usize]) -> Loss {
+        Loss::new(format!("support of {information:?} lost"), support(code, information))
+    }
+
+    /// With more positions lost.
+    fn and(&self, more: Vec<usize>) -> Loss {
+        Loss::new(format!("{}, and {more:?}", self.label), [&self.lost[..], &more].concat())
+    }
+
+    /// With one of its positions heard.
+    fn but_for_one(&self, random: &mut Random) -> Loss {
+        let heard = self.lost[random.below(self.lost.len())];
+        let rest = self.lost.iter().copied().filter(|&position| position != heard).collect();
+        Loss::new(format!("{} but for {heard}", self.label), rest)
+    }
+
+    fn with_wrong(&self, wrong: Vec<usize>) -> Loss {
+        Loss { label: format!("{}, wrong at {wrong:?}", self.label), lost: self.lost.clone(), wrong }
     }
 
     /// With one wrong byte at some heard position, if there is one.
-    fn with_one_wrong(self, code: &Code, random: &mut Random) -> Loss {
+    fn with_one_wrong(&self, code: &Code, random: &mut Random) -> Loss {
         let heard: Vec<usize> = (0..code.n).filter(|i| !self.lost.contains(i)).collect();
         let wrong = if heard.is_empty() { Vec::new() } else { vec![heard[random.below(heard.len())]] };
         self.with_wrong(wrong)
@@ -68,7 +86,8 @@ pub fn chosen(code: &Code, random: &mut Random) -> Vec<Loss> {
     let mut losses = edges(code);
     losses.extend(counts(code, random));
     losses.extend(errors(code, random));
-    losses.extend(low_weight(code, random));
+    losses.extend(supports(code, random));
+    losses.extend(light_supports(code, random));
     losses
 }
 
@@ -91,7 +110,7 @@ fn counts(code: &Code, random: &mut Random) -> Vec<Loss> {
         Loss::new("nothing heard", (0..code.n).collect()),
         Loss::new("only the last heard", (0..code.n - 1).collect()),
         Loss::new("only the first heard", (1..code.n).collect()),
-        Loss::new("all but the first and the last m - 1 information symbols lost", (1..=code.k - code.m).collect()),
+        Loss::new("u_1 to u_m lost", (1..=code.m).collect()),
     ];
     for lost in [1, code.m / 2, code.m - 8, code.m - 2, code.m - 1, code.m, code.m + 1, code.m + 2, code.m + 8, code.m + code.m / 2] {
         for _ in 0..3 {
@@ -115,28 +134,37 @@ fn errors(code: &Code, random: &mut Random) -> Vec<Loss> {
     losses
 }
 
-/// The supports of codewords of one and two information symbols: C1 all of one, of others a selection (`blocks.rs` has all of one for C2 too). Some
-/// once more, a little changed.
-fn low_weight(code: &Code, random: &mut Random) -> Vec<Loss> {
-    let (single, double) = if code.number == 1 { (code.k, 96) } else { (40, 16) };
+/// The supports of codewords of one and two information symbols, some once more, a little changed. (`blocks.rs` has all of one.)
+fn supports(code: &Code, random: &mut Random) -> Vec<Loss> {
+    let (single, double) = if code.n < 1000 { (160, 32) } else { (24, 8) };
     let mut sets: Vec<Vec<usize>> = random.shuffled(code.k).into_iter().take(single).map(|x| vec![x]).collect();
     sets.extend((0..double).map(|_| random.shuffled(code.k)[..2].to_vec()));
 
     let mut losses = Vec::new();
     for (index, set) in sets.iter().enumerate() {
-        let lost = support(code, set);
-        let label = format!("support of {set:?} lost");
+        let loss = Loss::of_support(code, set);
         match index % 9 {
-            0 => losses.push(Loss::new(format!("{label}, and five more"), [lost.clone(), some(code, 5, random)].concat())),
-            3 => {
-                let heard = lost[random.below(lost.len())];
-                let rest = lost.iter().copied().filter(|&position| position != heard).collect();
-                losses.push(Loss::new(format!("{label} but for {heard}"), rest));
-            }
-            6 => losses.push(Loss::new(label.clone(), lost.clone()).with_one_wrong(code, random)),
+            0 => losses.push(loss.and(some(code, 5, random))),
+            3 => losses.push(loss.but_for_one(random)),
+            6 => losses.push(loss.with_one_wrong(code, random)),
             _ => {}
         }
-        losses.push(Loss::new(label, lost));
+        losses.push(loss);
+    }
+    losses
+}
+
+/// The supports of the lightest codewords found, each also with others lost, with one position heard, with an error, and with the next one's.
+fn light_supports(code: &Code, random: &mut Random) -> Vec<Loss> {
+    let count = if code.n < 1000 { 24 } else { 10 };
+    let mut losses = Vec::new();
+    for pair in lightest(code)[..=count].windows(2) {
+        let loss = Loss::of_support(code, &pair[0]);
+        losses.push(loss.and(some(code, 5, random)));
+        losses.push(loss.and(support(code, &pair[1])));
+        losses.push(loss.but_for_one(random));
+        losses.push(loss.with_one_wrong(code, random));
+        losses.push(loss);
     }
     losses
 }

@@ -6,6 +6,7 @@ pub mod cases;
 pub mod drafts;
 pub mod encode;
 pub mod lists;
+pub mod low_weight;
 pub mod ours;
 #[path = "../../support/random.rs"]
 pub mod random;

@@ -3,6 +3,7 @@ use super::cases::Case;
 use super::drafts::{Draft, Extension};
 use super::lists::{Call, List};
 use super::random::Random;
+use crate::model::codes;
 use crate::model::refusals::Record;
 
 /// What may come between the units of a case.
@@ -147,7 +148,7 @@ impl Script<'_> {
     fn useless(&mut self, position: usize) -> Vec<u8> {
         let mut draft = self.draft(position);
         let code = self.case.code;
-        match self.random.below(16) {
+        match self.random.below(17) {
             0 | 1 => {}
             2 | 3 => return self.altered(position),
             4 => draft.lsc ^= 1 << self.random.below(16),
@@ -162,9 +163,13 @@ impl Script<'_> {
                 numbers[self.random.below(4)] += 1;
                 draft.extensions = vec![Extension::coding(numbers)];
             }
-            12 => draft.extensions.push(draft.extensions[0].clone()),
-            13 => draft.extensions[0].length.insert(0, 0x80),
-            14 => draft.extensions[0] = Extension::new(1, [&[0x80], &draft.extensions[0].value[..]].concat()),
+            12 => {
+                let other = codes::ALL[self.random.below(codes::ALL.len())];
+                draft.extensions = vec![Extension::coding([self.case.w, other.k, other.n, 0])];
+            }
+            13 => draft.extensions.push(draft.extensions[0].clone()),
+            14 => draft.extensions[0].length.insert(0, 0x80),
+            15 => draft.extensions[0] = Extension::new(1, [&[0x80], &draft.extensions[0].value[..]].concat()),
             _ => {
                 let mut unit = draft.bytes();
                 unit.truncate(self.random.below(unit.len()));

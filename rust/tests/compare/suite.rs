@@ -8,12 +8,13 @@ use std::time::Instant;
 /// The widths that tests use.
 pub const WIDTHS: [usize; 6] = [1, 2, 3, 16, 1023, 1024];
 
-/// All chosen losses of a code. Symbols are wide now and then.
+/// All chosen losses of a code. Symbols are wide now and then, of the longer codes seldom.
 pub fn chosen_blocks(code: &'static Code, fault: Fault, seed: u64) -> Result<Stats, Difference> {
     let mut random = Random::new(seed);
     let mut stats = Stats::default();
+    let between_wide = if code.n < 1000 { 50 } else { 100 };
     for (index, loss) in cases::chosen(code, &mut random).iter().enumerate() {
-        let w = match index % 50 {
+        let w = match index % between_wide {
             17 => 1023,
             33 => 1024,
             narrow => WIDTHS[narrow % 4],

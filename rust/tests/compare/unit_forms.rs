@@ -11,7 +11,7 @@ use crate::model::{codes, units, Code, Fault};
 /// Each byte of a few units with each value; each unit cut off at each length, and longer.
 pub fn altered(fault: Fault, random: &mut Random) -> Result<Stats, Difference> {
     let mut stats = Stats::default();
-    for (code, w) in [(&codes::C1, 3), (&codes::C2, 1), (&codes::C1, 200)] {
+    for (code, w) in [(&codes::C1, 3), (&codes::C2, 1), (&codes::C4, 2), (&codes::C5, 1), (&codes::C7, 200), (&codes::C8, 1)] {
         let mut reader = Reader::new(code, w, fault);
         for lwc in [1, code.k, code.k + 1, code.n] {
             let mut plain = reader.draft(lwc, random);
@@ -54,7 +54,7 @@ fn each_value(reader: &mut Reader, unit: &[u8], places: usize) -> Result<(), Dif
 /// Units that differ in one byte from what the block expects, up to the symbol's second byte, where W has one byte and where it has two.
 pub fn unexpected(fault: Fault, random: &mut Random) -> Result<Stats, Difference> {
     let mut stats = Stats::default();
-    for code in codes::BOTH {
+    for code in codes::ALL {
         for w in [16, 127, 128, 129] {
             let mut reader = Reader::new(code, w, fault);
             let unit = reader.draft(code.k, random).bytes();
@@ -79,7 +79,7 @@ fn forms(value: usize) -> Vec<Vec<u8>> {
 /// Numbers about the borders of one to five groups and of 32 bits.
 fn border_numbers() -> Vec<usize> {
     let borders = [1 << 7, 1 << 14, 1 << 21, 1 << 28, 1 << 32, 1 << 35];
-    let mut numbers = vec![0, 1, 2, 3, 512, 768, 2048, 3072, 1 << 31, (1 << 33) + 3, (1 << 32) + 512];
+    let mut numbers = vec![0, 1, 2, 3, 512, 576, 640, 768, 2048, 2304, 2560, 3072, 1 << 31, (1 << 33) + 3, (1 << 32) + 512];
     numbers.extend(borders.into_iter().flat_map(|border| [border - 2, border - 1, border, border + 1]));
     numbers
 }
@@ -159,7 +159,7 @@ pub fn counts(fault: Fault, random: &mut Random) -> Result<Stats, Difference> {
 /// Random units, from readable to nonsense.
 pub fn random_units(rounds: usize, fault: Fault, random: &mut Random) -> Result<Stats, Difference> {
     let mut stats = Stats::default();
-    for (code, w) in [(&codes::C1, 1), (&codes::C1, 16), (&codes::C2, 2)] {
+    for (code, w) in [(&codes::C1, 1), (&codes::C2, 2), (&codes::C4, 16), (&codes::C5, 3), (&codes::C7, 2), (&codes::C8, 1)] {
         let mut reader = Reader::new(code, w, fault);
         for _ in 0..rounds {
             let unit = any_unit(&reader, code, w, random);

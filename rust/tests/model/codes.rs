@@ -14,11 +14,15 @@ pub struct Code {
 
 pub static C1: Code = Code { number: 1, n: 768, k: 512, m: 256, q: 32, a: 8, table: &tables::C1 };
 pub static C2: Code = Code { number: 2, n: 3072, k: 2048, m: 1024, q: 128, a: 8, table: &tables::C2 };
-pub static BOTH: [&Code; 2] = [&C1, &C2];
+pub static C4: Code = Code { number: 4, n: 640, k: 512, m: 128, q: 16, a: 8, table: &tables::C4 };
+pub static C5: Code = Code { number: 5, n: 2560, k: 2048, m: 512, q: 64, a: 8, table: &tables::C5 };
+pub static C7: Code = Code { number: 7, n: 576, k: 512, m: 64, q: 8, a: 8, table: &tables::C7 };
+pub static C8: Code = Code { number: 8, n: 2304, k: 2048, m: 256, q: 32, a: 8, table: &tables::C8 };
+pub static ALL: [&Code; 6] = [&C1, &C2, &C4, &C5, &C7, &C8];
 
 impl Code {
     pub fn of_number(number: usize) -> Option<&'static Code> {
-        BOTH.into_iter().find(|code| code.number == number)
+        ALL.into_iter().find(|code| code.number == number)
     }
 
     /// The check rows that u_x touches.

@@ -105,7 +105,12 @@ fn close() {
 fn close_of_any_buffers() {
     let mut random = Random::new(5);
     for round in 0..400 {
-        let code = if round % 20 == 0 { &codes::C2 } else { &codes::C1 };
+        // One in twenty of the longer codes.
+        let code = if round % 20 == 0 {
+            [&codes::C2, &codes::C5, &codes::C8][round / 20 % 3]
+        } else {
+            [&codes::C1, &codes::C4, &codes::C7][round % 3]
+        };
         let record = Record { code: code.number, w: 1 + random.below(4), protocol: 1, lsc: 1 };
         let mut symbols = vec![0; code.n * record.w];
         random.fill(&mut symbols);

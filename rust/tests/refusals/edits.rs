@@ -28,9 +28,9 @@ pub fn edit<T>(number: u8, label: &'static str, apply: fn(&mut T)) -> Edit<T> {
     Edit { number, label, apply }
 }
 
-/// Checks each edit alone, and all pairs in both orders. `check` compares archive and model and returns the number, 0 for none.
-/// Of two edits the number whose place comes first is due, or any of both if they share it; where one undoes the other, in at least one
-/// order.
+/// Checks each edit alone, and all pairs in both orders, so every edit with every code. `check` compares archive and model and returns the
+/// number, 0 for none. Of two edits the number whose place comes first is due, or any of both if they share it; where one undoes the other, in
+/// at least one order.
 pub fn check_all<T: Clone>(plain: &T, edits: &[Edit<T>], check: impl Fn(&T, &str) -> u8) {
     let run = |chosen: &[&Edit<T>]| {
         let mut input = plain.clone();
@@ -68,8 +68,15 @@ pub fn plain_record() -> Record {
 pub fn code_edits<T: HasRecord>() -> Vec<Edit<T>> {
     vec![
         edit(0, "code 2", |i| i.record().code = 2),
+        edit(0, "code 4", |i| i.record().code = 4),
+        edit(0, "code 5", |i| i.record().code = 5),
+        edit(0, "code 7", |i| i.record().code = 7),
+        edit(0, "code 8", |i| i.record().code = 8),
         edit(1, "code 0", |i| i.record().code = 0),
         edit(1, "code 3", |i| i.record().code = 3),
+        edit(1, "code 6", |i| i.record().code = 6),
+        edit(1, "code 9", |i| i.record().code = 9),
+        edit(1, "code 10", |i| i.record().code = 10),
         edit(1, "code 257", |i| i.record().code = 257),
         edit(1, "code 2^32 + 1", |i| i.record().code = (1 << 32) + 1),
         edit(1, "the largest code", |i| i.record().code = usize::MAX),

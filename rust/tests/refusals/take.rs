@@ -5,7 +5,7 @@ use crate::compare::units::read;
 use crate::edits::{check_all, code_edits, edit, label_edits, length_edits, pattern, plain_record, shape, Edit, HasRecord, Off};
 use crate::model::refusals::Record;
 use crate::model::units::sdnv;
-use crate::model::{calls as model, Fault};
+use crate::model::{calls as model, codes, Code, Fault};
 
 #[derive(Clone)]
 struct Input {
@@ -192,6 +192,12 @@ fn kind_edits() -> Vec<Edit<Input>> {
     ]
 }
 
+/// The coding parameters with k and n of the first such code.
+fn of_code(proper: [usize; 4], such: fn(&Code, [usize; 4]) -> bool) -> [usize; 4] {
+    let code = codes::ALL.into_iter().find(|code| such(code, proper)).unwrap();
+    [proper[0], code.k, code.n, proper[3]]
+}
+
 fn parameter_edits() -> Vec<Edit<Input>> {
     vec![
         edit(7, "no type 1", |i| i.unit.push(|u| u.extensions.iter_mut().for_each(|e| e.kind = e.kind.max(2)))),
@@ -202,7 +208,8 @@ fn parameter_edits() -> Vec<Edit<Input>> {
         edit(7, "seed 1", |i| i.coding = |[w, k, n, _]| [w, k, n, 1]),
         edit(7, "the smallest seed of five bytes", |i| i.coding = |[w, k, n, _]| [w, k, n, 1 << 28]),
         edit(7, "seed 4294967295", |i| i.coding = |[w, k, n, _]| [w, k, n, 4_294_967_295]),
-        edit(7, "the other code", |i| i.coding = |[w, k, n, seed]| [w, 2560 - k, 3840 - n, seed]),
+        edit(7, "another code of the same k", |i| i.coding = |proper| of_code(proper, |code, [_, k, n, _]| code.k == k && code.n != n)),
+        edit(7, "a code of another k", |i| i.coding = |proper| of_code(proper, |code, [_, k, ..]| code.k != k)),
     ]
 }
 
