@@ -8,8 +8,8 @@
 use std::path::{Path, PathBuf};
 use std::process::Command;
 
-/// The calls of an earlier version that the bench measures.
-const MEASURED: [&str; 4] = ["encode", "write", "take", "close"];
+/// The calls of an earlier version that the bench makes.
+const CALLED: [&str; 6] = ["version", "n", "encode", "write", "take", "close"];
 
 /// Ends the build with one line that says why.
 fn fail(why: String) -> ! {
@@ -48,10 +48,20 @@ fn find() -> PathBuf {
     }
 }
 
-/// A copy of an archive in which the measured calls begin with earlier_, and nothing else is seen from outside.
+/// Ends the build where an archive is from before 0.3.0, whose calls are others than those that the bench declares: it has no lipvezor_version.
+fn check_shape(archive: &Path) {
+    let name = b"lipvezor_version";
+    match std::fs::read(archive) {
+        Ok(bytes) if bytes.windows(name.len()).any(|part| part == name) => {}
+        Ok(_) => fail(format!("the bench declares the calls of 0.3.0 and later, and {} is an earlier one", archive.display())),
+        Err(why) => fail(format!("LIPVEZOR_EARLIER: {}: {why}", archive.display())),
+    }
+}
+
+/// A copy of an archive in which the calls that the bench makes begin with earlier_, and nothing else is seen from outside.
 fn rename(archive: &Path, copy: &Path) {
     let mut objcopy = Command::new("objcopy");
-    for call in MEASURED {
+    for call in CALLED {
         objcopy.arg(format!("--redefine-sym=lipvezor_{call}=earlier_{call}")).arg(format!("--keep-global-symbol=earlier_{call}"));
     }
     match objcopy.arg(archive).arg(copy).status() {
@@ -72,6 +82,7 @@ fn main() {
     if let Some(named) = folder("LIPVEZOR_EARLIER") {
         let earlier = archive(&named);
         let copy = folder("OUT_DIR").expect("cargo sets it").join("libearlier.a");
+        check_shape(&earlier);
         rename(&earlier, &copy);
         println!("cargo:rerun-if-changed={}", earlier.display());
         println!("cargo:rustc-link-arg-examples={}", copy.display());

@@ -1,5 +1,5 @@
-//! How often a block does not close whole, by the share of units lost, for C1 and C2 on an uncorrelated erasure channel, beside the Singleton
-//! bound: figures E-3 and E-4 of CCSDS 131.5-O-1 for these two codes. Writes curves.csv, curves-c1.svg and curves-c2.svg.
+//! How often a block does not close whole, by the share of units lost, for all codes on an uncorrelated erasure channel, beside the Singleton
+//! bounds: figures E-3 and E-4 of CCSDS 131.5-O-1, one for each k. Writes curves.csv, curves-k512.svg and curves-k2048.svg.
 //!
 //! `cargo run --release --example curves -- [--scale X] [FOLDER]`, where X multiplies the most blocks of a point, and FOLDER is `docs` of this
 //! repository unless given. The same X gives the same files on every machine.
@@ -21,18 +21,37 @@ const BATCH: usize = 250;
 /// Bytes of a symbol: what is lost doesn't depend on it.
 const W: usize = 1;
 
-/// What is measured of a code: shares of units lost, in thousandths, and the most blocks of a point.
+/// What is measured of a code: shares of units lost, in thousandths.
 struct Plan {
     code: Code,
     from: usize,
     to: usize,
     step: usize,
-    most: usize,
 }
 
-const PLANS: [Plan; 2] = [
-    Plan { code: Code::C1, from: 240, to: 370, step: 10, most: 500_000 },
-    Plan { code: Code::C2, from: 285, to: 350, step: 5, most: 20_000 },
+/// The codes with the same k, which share a picture, and the most blocks of a point.
+struct Group {
+    most: usize,
+    plans: [Plan; 3],
+}
+
+const GROUPS: [Group; 2] = [
+    Group {
+        most: 500_000,
+        plans: [
+            Plan { code: Code::C1, from: 240, to: 370, step: 10 },
+            Plan { code: Code::C4, from: 120, to: 230, step: 10 },
+            Plan { code: Code::C7, from: 50, to: 140, step: 5 },
+        ],
+    },
+    Group {
+        most: 20_000,
+        plans: [
+            Plan { code: Code::C2, from: 285, to: 350, step: 5 },
+            Plan { code: Code::C5, from: 160, to: 215, step: 5 },
+            Plan { code: Code::C8, from: 80, to: 125, step: 5 },
+        ],
+    },
 ];
 
 impl Plan {
@@ -152,35 +171,39 @@ fn grouped(x: usize) -> String {
 }
 
 const WIDTH: f64 = 900.0;
-const HEIGHT: f64 = 684.0;
+const HEIGHT: f64 = 712.0;
 const LEFT: f64 = 84.0;
 const RIGHT: f64 = 876.0;
 const TOP: f64 = 48.0;
-/// Where the share of blocks is 1: below the top, so that labels have room above it.
-const ONE: f64 = 72.0;
+/// Where the share of blocks is 1: below the top, so that the codes' names have room above it.
+const ONE: f64 = 76.0;
 const BOTTOM: f64 = 552.0;
 /// Half of a cap.
-const CAP: f64 = 5.0;
-const BLUE: &str = "#0f5fa8";
-const RED: &str = "#b3400f";
+const CAP: f64 = 4.0;
+const BLACK: &str = "#222";
+/// Those of a group's codes.
+const COLOURS: [&str; 3] = ["#0f5fa8", "#00785a", "#b3400f"];
+/// Thousandths between two lines of the x axis.
+const TICK: usize = 20;
 
-/// A code's picture. The y axis goes from 10^-decades to 1.
-struct Picture<'a> {
+/// What was measured of a code, and how it is drawn.
+struct Curve<'a> {
     plan: &'a Plan,
+    points: Vec<Point>,
+    colour: &'static str,
+}
+
+/// A group's picture. The x axis goes between two shares, in thousandths, and the y axis from 10^-decades to 1.
+struct Picture {
+    from: usize,
+    to: usize,
     decades: i32,
     text: String,
 }
 
-impl Picture<'_> {
-    /// The x axis has a step more on the left, for the first label, and half a step on the right.
-    fn range(&self) -> (f64, f64) {
-        let Plan { from, to, step, .. } = *self.plan;
-        ((from - step) as f64 / 1000.0, (to as f64 + step as f64 / 2.0) / 1000.0)
-    }
-
+impl Picture {
     fn x(&self, lost: f64) -> f64 {
-        let (from, to) = self.range();
-        LEFT + (lost - from) / (to - from) * (RIGHT - LEFT)
+        LEFT + (lost * 1000.0 - self.from as f64) / (self.to - self.from) as f64 * (RIGHT - LEFT)
     }
 
     fn y(&self, rate: f64) -> f64 {
@@ -206,7 +229,7 @@ impl Picture<'_> {
     }
 
     /// The grid, with its numbers and the titles.
-    fn axes(&mut self) {
+    fn axes(&mut self, title: &str) {
         for decade in 0..=self.decades {
             let one = 10f64.powi(-decade);
             let y = self.y(one);
@@ -220,18 +243,16 @@ impl Picture<'_> {
                 }
             }
         }
-        for thousandths in self.plan.points() {
+        for thousandths in (self.from..=self.to).step_by(TICK) {
             let share = thousandths as f64 / 1000.0;
             let x = self.x(share);
             self.line((x, TOP), (x, BOTTOM), "stroke=\"#ddd\"");
-            self.write((x, BOTTOM + 20.0), "text-anchor=\"middle\"", &format!("{share:.3}"));
+            self.write((x, BOTTOM + 20.0), "text-anchor=\"middle\"", &format!("{share:.2}"));
         }
         let (width, height) = (RIGHT - LEFT, BOTTOM - TOP);
-        self.put(format_args!("<rect x=\"{LEFT}\" y=\"{TOP}\" width=\"{width}\" height=\"{height}\" fill=\"none\" stroke=\"#222\"/>"));
+        self.put(format_args!("<rect x=\"{LEFT}\" y=\"{TOP}\" width=\"{width}\" height=\"{height}\" fill=\"none\" stroke=\"{BLACK}\"/>"));
         let middle = (LEFT + RIGHT) / 2.0;
-        let code = self.plan.code;
-        let title = format!("{code} (n = {}, k = {}): blocks that do not close whole, by how many units are lost", code.n(), code.k());
-        self.write((middle, 30.0), "text-anchor=\"middle\" font-size=\"16\"", &title);
+        self.write((middle, 30.0), "text-anchor=\"middle\" font-size=\"16\"", title);
         self.write((middle, BOTTOM + 44.0), "text-anchor=\"middle\" font-size=\"14\"", "share of units lost");
         self.put(format_args!(
             "<text transform=\"translate(28 {}) rotate(-90)\" text-anchor=\"middle\" font-size=\"14\">share of blocks that do not close whole</text>",
@@ -239,107 +260,113 @@ impl Picture<'_> {
         ));
     }
 
-    fn bound(&mut self) {
-        let (from, to) = self.range();
-        let shares = (0..=200).map(|i| from + (to - from) * i as f64 / 200.0);
-        let curve = shares.map(|share| (share, singleton(self.plan.code, share))).filter(|&(_, bound)| bound >= 10f64.powi(-self.decades));
-        let curve: Vec<(f64, f64)> = curve.map(|(share, bound)| (self.x(share), self.y(bound))).collect();
-        self.path(&curve, &dashed());
+    fn bound(&mut self, curve: &Curve) {
+        let Plan { code, from, to, step } = *curve.plan;
+        let shares = (0..=200).map(|i| ((from - step) as f64 + (to - from + step) as f64 * i as f64 / 200.0) / 1000.0);
+        let bounds = shares.map(|share| (share, singleton(code, share))).filter(|&(_, bound)| bound >= 10f64.powi(-self.decades));
+        let bounds: Vec<(f64, f64)> = bounds.map(|(share, bound)| (self.x(share), self.y(bound))).collect();
+        self.path(&bounds, &dashed(curve.colour));
     }
 
     /// A vertical bar with a cap at each end.
-    fn bar(&mut self, x: f64, high: f64, low: f64) {
-        let style = format!("stroke=\"{BLUE}\" stroke-width=\"1.5\"");
-        self.path(&[(x - CAP, high), (x + CAP, high), (x, high), (x, low), (x - CAP, low), (x + CAP, low)], &style);
+    fn bar(&mut self, x: f64, high: f64, low: f64, colour: &str) {
+        self.path(&[(x - CAP, high), (x + CAP, high), (x, high), (x, low), (x - CAP, low), (x + CAP, low)], &solid(colour));
     }
 
-    /// A cap at an upper limit, and an arrow down from it. Answers where it ends.
-    fn arrow(&mut self, x: f64, high: f64, length: f64) -> f64 {
-        let style = format!("stroke=\"{BLUE}\" stroke-width=\"1.5\"");
+    /// A cap at an upper limit, and an arrow down from it.
+    fn arrow(&mut self, x: f64, high: f64, length: f64, colour: &str) {
         let end = high + length;
-        self.path(&[(x - CAP, high), (x + CAP, high), (x, high), (x, end)], &style);
-        self.path(&[(x - CAP, end - 7.0), (x, end), (x + CAP, end - 7.0)], &style);
-        end
+        self.path(&[(x - CAP, high), (x + CAP, high), (x, high), (x, end)], &solid(colour));
+        self.path(&[(x - CAP, end - 7.0), (x, end), (x + CAP, end - 7.0)], &solid(colour));
     }
 
-    fn dot(&mut self, x: f64, y: f64) {
-        self.put(format_args!("<circle cx=\"{x:.1}\" cy=\"{y:.1}\" r=\"2.5\" fill=\"{BLUE}\"/>"));
+    fn dot(&mut self, x: f64, y: f64, colour: &str) {
+        self.put(format_args!("<circle cx=\"{x:.1}\" cy=\"{y:.1}\" r=\"2.5\" fill=\"{colour}\"/>"));
     }
 
-    /// The rates with their intervals, and the numbers that they come from.
-    fn rates(&mut self, points: &[Point]) {
-        let seen = points.iter().filter(|point| point.failed > 0);
-        let curve: Vec<(f64, f64)> = seen.map(|point| (self.x(point.lost), self.y(point.rate()))).collect();
-        self.path(&curve, &format!("stroke=\"{BLUE}\" stroke-width=\"1.5\" stroke-opacity=\"0.6\""));
-        for point in points {
+    /// The rates with their intervals, and the code's name above the last of them.
+    fn rates(&mut self, curve: &Curve) {
+        let colour = curve.colour;
+        let seen = curve.points.iter().filter(|point| point.failed > 0);
+        let line: Vec<(f64, f64)> = seen.map(|point| (self.x(point.lost), self.y(point.rate()))).collect();
+        self.path(&line, &faint(colour));
+        for point in &curve.points {
             let (low, high) = point.interval();
             let (x, high) = (self.x(point.lost), self.y(high));
-            let (at, anchor) = if point.failed == 0 {
-                ((x, self.arrow(x, high, 32.0) + 15.0), "middle")
+            if point.failed == 0 {
+                self.arrow(x, high, 24.0, colour);
             } else {
-                self.bar(x, high, self.y(low));
-                self.dot(x, self.y(point.rate()));
-                // where the curve is flat, above it
-                if point.rate() > 0.7 {
-                    ((x, high - 7.0), "middle")
-                } else {
-                    ((x - CAP - 3.0, high + 3.0), "end")
-                }
-            };
-            let style = format!("text-anchor=\"{anchor}\" font-size=\"10\" stroke=\"#fff\" stroke-width=\"3\" paint-order=\"stroke\"");
-            self.write(at, &style, &format!("{}/{}", point.failed, grouped(point.blocks)));
+                self.bar(x, high, self.y(low), colour);
+                self.dot(x, self.y(point.rate()), colour);
+            }
         }
+        let at = (self.x(curve.plan.to as f64 / 1000.0) + CAP, ONE - 10.0);
+        let code = curve.plan.code;
+        self.write(at, &format!("text-anchor=\"end\" fill=\"{colour}\" font-weight=\"bold\""), &format!("{code}, n = {}", code.n()));
     }
 
-    fn legend(&mut self, arrows: bool) {
-        let (left, top) = (RIGHT - 448.0, BOTTOM - if arrows { 130.0 } else { 100.0 });
-        self.put(format_args!(
-            "<rect x=\"{left}\" y=\"{top}\" width=\"436\" height=\"{}\" fill=\"#fff\" stroke=\"#888\"/>",
-            BOTTOM - 12.0 - top
-        ));
-        let (from, middle, words) = (left + 12.0, left + 37.0, left + 76.0);
-        let mut y = top + 22.0;
-        self.line((from, y), (from + 50.0, y), &format!("stroke=\"{BLUE}\" stroke-width=\"1.5\" stroke-opacity=\"0.6\""));
-        self.bar(middle, y - 9.0, y + 9.0);
-        self.dot(middle, y);
-        self.write((words, y + 5.0), "", "measured, with 95 % interval");
-        if arrows {
-            y += 30.0;
-            self.arrow(middle, y - 10.0, 20.0);
-            self.write((words, y + 5.0), "", "no block failed: upper end of the 95 % interval");
-        }
-        y += 28.0;
-        self.write((middle, y + 4.0), "text-anchor=\"middle\" font-size=\"10\"", "20/20,000");
-        self.write((words, y + 5.0), "", "failed blocks / blocks");
-        y += 26.0;
-        self.line((from, y), (from + 50.0, y), &dashed());
-        self.write((words, y + 5.0), "", "Singleton bound: no code of this n and k does better");
+    /// What the lines and marks mean, whatever their colour.
+    fn legend(&mut self) {
+        let y = BOTTOM + 76.0;
+        let mut x = LEFT;
+        self.line((x, y), (x + 50.0, y), &faint(BLACK));
+        self.bar(x + 25.0, y - 9.0, y + 9.0, BLACK);
+        self.dot(x + 25.0, y, BLACK);
+        self.write((x + 60.0, y + 5.0), "", "measured, with 95 % interval");
+        x += 268.0;
+        self.arrow(x + 5.0, y - 10.0, 20.0, BLACK);
+        self.write((x + 20.0, y + 5.0), "", "no block failed: upper end of the interval");
+        x += 310.0;
+        self.line((x, y), (x + 50.0, y), &dashed(BLACK));
+        self.write((x + 60.0, y + 5.0), "", "Singleton bound");
     }
 }
 
-fn dashed() -> String {
-    format!("stroke=\"{RED}\" stroke-width=\"1.5\" stroke-dasharray=\"7 5\"")
+fn solid(colour: &str) -> String {
+    format!("stroke=\"{colour}\" stroke-width=\"1.5\"")
 }
 
-fn svg(plan: &Plan, points: &[Point], most: usize) -> String {
-    let lowest = points.iter().map(|point| point.interval().0).filter(|&low| low > 0.0).fold(0.1, f64::min);
-    let mut picture = Picture { plan, decades: -lowest.log10().floor() as i32, text: String::new() };
+fn faint(colour: &str) -> String {
+    solid(colour) + " stroke-opacity=\"0.6\""
+}
+
+fn dashed(colour: &str) -> String {
+    solid(colour) + " stroke-dasharray=\"7 5\""
+}
+
+fn svg(curves: &[Curve], most: usize) -> String {
+    let lows = curves.iter().flat_map(|curve| &curve.points).map(|point| point.interval().0);
+    let lowest = lows.filter(|&low| low > 0.0).fold(0.1, f64::min);
+    let first = curves.iter().map(|curve| curve.plan.from).min().unwrap();
+    let last = curves.iter().map(|curve| curve.plan.to).max().unwrap();
+    let mut picture = Picture {
+        from: (first - 5) / TICK * TICK,
+        to: (last + 5).next_multiple_of(TICK),
+        decades: -lowest.log10().floor() as i32,
+        text: String::new(),
+    };
     picture.put(format_args!(
         "<svg xmlns=\"http://www.w3.org/2000/svg\" viewBox=\"0 0 {WIDTH} {HEIGHT}\" width=\"{WIDTH}\" height=\"{HEIGHT}\" font-family=\"sans-serif\" \
-         font-size=\"13\" fill=\"#222\">"
+         font-size=\"13\" fill=\"{BLACK}\">"
     ));
     picture.put(format_args!("<rect width=\"{WIDTH}\" height=\"{HEIGHT}\" fill=\"#fff\"/>"));
-    picture.axes();
-    picture.bound();
-    picture.rates(points);
-    picture.legend(points.iter().any(|point| point.failed == 0));
+    let lengths: Vec<String> = curves.iter().rev().map(|curve| curve.plan.code.n().to_string()).collect();
+    let title =
+        format!("k = {}, n = {}: blocks that do not close whole, by how many units are lost", curves[0].plan.code.k(), lengths.join(", "));
+    picture.axes(&title);
+    curves.iter().for_each(|curve| picture.bound(curve));
+    curves.iter().for_each(|curve| picture.rates(curve));
+    picture.legend();
     let caption = [
         "Each unit is lost with the same probability, whatever else is lost. A block fails if it is not whole after close.",
-        &format!("A point stops at {ENOUGH} failed blocks, in batches of {BATCH} blocks, or at {} blocks.", grouped(most)),
-        "Where no bar can be seen, the dot covers it.",
+        &format!(
+            "A point stops at {ENOUGH} failed blocks, in batches of {BATCH} blocks, or at {} blocks; curves.csv has the numbers.",
+            grouped(most)
+        ),
+        "No code of the same n and k does better than the Singleton bound. Where no bar can be seen, the dot covers it.",
     ];
     for (i, words) in caption.iter().enumerate() {
-        picture.write((LEFT, BOTTOM + 76.0 + 19.0 * i as f64), "font-size=\"12\"", words);
+        picture.write((LEFT, BOTTOM + 108.0 + 19.0 * i as f64), "font-size=\"12\"", words);
     }
     picture.put(format_args!("</svg>"));
     picture.text
@@ -357,35 +384,39 @@ fn main() -> std::io::Result<()> {
     }
     let start = Instant::now();
     let terminal = std::io::stderr().is_terminal();
-    let all: usize = PLANS.iter().map(|plan| plan.points().count()).sum();
+    let all: usize = GROUPS.iter().flat_map(|group| &group.plans).map(|plan| plan.points().count()).sum();
     let mut done = 0;
     let mut csv = String::from("code,share_of_units_lost,blocks,failed_blocks,share_of_blocks_failed,low_95,high_95,singleton_bound\n");
-    for plan in &PLANS {
-        let code = plan.code;
-        let most = (plan.most as f64 * scale) as usize;
-        let mut points = Vec::new();
-        for thousandths in plan.points() {
-            let share = thousandths as f64 / 1000.0;
-            let point = measure(code, thousandths, most, |part| {
-                let percent = (done as f64 + part) / all as f64 * 100.0;
-                if terminal {
-                    eprint!("\rcurves {percent:3.0} %  {code}  {share:.3} of the units lost ");
-                }
-            });
-            done += 1;
-            eprintln!(
-                "{}curves {:3.0} %  {code}  {share:.3} of the units lost: {} of {} blocks failed",
-                if terminal { "\r" } else { "" },
-                done as f64 / all as f64 * 100.0,
-                point.failed,
-                grouped(point.blocks)
-            );
-            let (low, high) = point.interval();
-            let (rate, bound) = (point.rate(), singleton(code, share));
-            let _ = writeln!(csv, "{code},{share:.3},{},{},{rate:.4e},{low:.4e},{high:.4e},{bound:.4e}", point.blocks, point.failed);
-            points.push(point);
+    for group in &GROUPS {
+        let most = (group.most as f64 * scale) as usize;
+        let mut curves = Vec::new();
+        for (plan, colour) in group.plans.iter().zip(COLOURS) {
+            let code = plan.code;
+            let mut points = Vec::new();
+            for thousandths in plan.points() {
+                let share = thousandths as f64 / 1000.0;
+                let point = measure(code, thousandths, most, |part| {
+                    let percent = (done as f64 + part) / all as f64 * 100.0;
+                    if terminal {
+                        eprint!("\rcurves {percent:3.0} %  {code}  {share:.3} of the units lost ");
+                    }
+                });
+                done += 1;
+                eprintln!(
+                    "{}curves {:3.0} %  {code}  {share:.3} of the units lost: {} of {} blocks failed",
+                    if terminal { "\r" } else { "" },
+                    done as f64 / all as f64 * 100.0,
+                    point.failed,
+                    grouped(point.blocks)
+                );
+                let (low, high) = point.interval();
+                let (rate, bound) = (point.rate(), singleton(code, share));
+                let _ = writeln!(csv, "{code},{share:.3},{},{},{rate:.4e},{low:.4e},{high:.4e},{bound:.4e}", point.blocks, point.failed);
+                points.push(point);
+            }
+            curves.push(Curve { plan, points, colour });
         }
-        std::fs::write(folder.join(format!("curves-c{}.svg", code.number())), svg(plan, &points, most))?;
+        std::fs::write(folder.join(format!("curves-k{}.svg", group.plans[0].code.k())), svg(&curves, most))?;
     }
     std::fs::write(folder.join("curves.csv"), csv)?;
     eprintln!("curves written to {} after {:.0} s", folder.display(), start.elapsed().as_secs_f64());

@@ -9,6 +9,12 @@ mod blocks;
 mod buffer;
 #[cfg(earlier)]
 mod earlier;
+#[cfg(not(earlier))]
+mod earlier {
+    pub fn has(_: lipvezor::Code) -> bool {
+        false
+    }
+}
 mod layers;
 mod measure;
 mod plain_close;
@@ -39,10 +45,16 @@ const COLD: usize = 640 << 20;
 /// How much of m is missing in the cases of close, in percent.
 const MISSING: [usize; 6] = [0, 10, 50, 90, 97, 120];
 
-/// A run by each layer: ours, plain Rust's and, if there is one, the earlier archive's. One more side may come last.
+/// A code's run by each layer: ours, plain Rust's and, if there is one that has the code, the earlier archive's. One more side may come last.
 macro_rules! sides {
-    ($run:ident $(, $more:expr)?) => {
-        &[$run::<Ours>, $run::<Plain>, #[cfg(earlier)] $run::<Earlier>, $($more)?]
+    ($code:expr, $run:ident $(, $more:expr)?) => {
+        Vec::from_iter([
+            Some($run::<Ours> as Side<_>),
+            Some($run::<Plain>),
+            #[cfg(earlier)]
+            earlier::has($code).then_some($run::<Earlier>),
+            $(Some($more))?
+        ].into_iter().flatten())
     };
 }
 
@@ -62,10 +74,10 @@ fn hundredths(x: f64) -> f64 {
 }
 
 impl Line {
-    /// From how much one run does, in millions, and each side's seconds for it.
-    fn new(name: String, unit: &'static str, millions: f64, seconds: &[f64]) -> Line {
+    /// From how much one run does, in millions, and the seconds for it of each of the code's sides.
+    fn new(code: Code, name: String, unit: &'static str, millions: f64, seconds: &[f64]) -> Line {
         let speed = |side: usize| seconds.get(side).map(|seconds| millions / seconds);
-        let (earlier, simple) = if cfg!(earlier) { (speed(2), speed(3)) } else { (None, speed(2)) };
+        let (earlier, simple) = if earlier::has(code) { (speed(2), speed(3)) } else { (None, speed(2)) };
         Line { name, unit, ours: millions / seconds[0], rust: millions / seconds[1], earlier, simple }
     }
 
@@ -135,40 +147,43 @@ impl Bench {
     }
 
     fn encoding(&mut self, sent: &mut Sending) {
-        let name = format!("encode/{}/W{}", sent.record.code(), sent.record.w());
+        let code = sent.record.code();
+        let name = format!("encode/{code}/W{}", sent.record.w());
         if !self.wants(&name) {
             return;
         }
-        let sides: &[Side<Sending>] = sides!(encode);
+        let sides = &sides!(code, encode);
         Bench::agree(&name, sent, |s| s.parity.fill(0xA5), sides, |s| s.parity.to_vec());
         let seconds = rounds(sent, self.each, self.rounds[0], None, sides);
-        self.line(Line::new(name, "MB/s", sent.megabytes(), &seconds), "");
+        self.line(Line::new(code, name, "MB/s", sent.megabytes(), &seconds), "");
     }
 
     /// Units one after the other, or each on a border of so many bytes.
     fn writing(&mut self, record: Record, border: usize) {
+        let code = record.code();
         let place = if border > 1 { format!("/on{border}") } else { String::new() };
-        let name = format!("write/{}/W{}{place}", record.code(), record.w());
+        let name = format!("write/{code}/W{}{place}", record.w());
         if !self.wants(&name) {
             return;
         }
         let units = &mut Units::new(&Sending::new(record), border);
-        let sides: &[Side<Units>] = sides!(write);
+        let sides = &sides!(code, write);
         Bench::agree(&name, units, |u| u.bytes.fill(0xA5), sides, |u| u.bytes.to_vec());
         let seconds = rounds(units, self.each, self.rounds[0], None, sides);
-        self.line(Line::new(name, "Munits/s", record.n() as f64 / 1e6, &seconds), "");
+        self.line(Line::new(code, name, "Munits/s", record.n() as f64 / 1e6, &seconds), "");
     }
 
     fn taking(&mut self, sent: &Sending) {
-        let name = format!("take/{}/W{}", sent.record.code(), sent.record.w());
+        let code = sent.record.code();
+        let name = format!("take/{code}/W{}", sent.record.w());
         if !self.wants(&name) {
             return;
         }
         let taking = &mut Taking::new(sent);
-        let sides: &[Side<Taking>] = sides!(take);
+        let sides = &sides!(code, take);
         Bench::agree(&name, taking, open, sides, |t| (t.block.symbols.to_vec(), t.block.marks.to_vec()));
         let seconds = rounds(taking, self.each, self.rounds[0], Some(open), sides);
-        self.line(Line::new(name, "MB/s", sent.megabytes(), &seconds), "");
+        self.line(Line::new(code, name, "MB/s", sent.megabytes(), &seconds), "");
     }
 
     /// Each round has a loss pattern that none had before, and every side closes it once.
@@ -181,7 +196,7 @@ impl Bench {
         }
         let missing = (code.m() * percent + 50) / 100;
         let block = &mut Receiving::new(record);
-        let sides: &[Side<Receiving>] = sides!(close, close::<Simple>);
+        let sides = &sides!(code, close, close::<Simple>);
         let mut random = Random::new(seed(record) * 1000 + percent as u64);
         let mut times = vec![Vec::new(); sides.len()];
         let mut additions = [0, 0];
@@ -217,11 +232,12 @@ impl Bench {
         let seconds: Vec<f64> = times.into_iter().map(median).collect();
         let [ours, simple] = additions.map(|count| count as f64 / COUNTED.min(patterns) as f64);
         let more = format!(" additions={ours:.0} simple_additions={simple:.0} patterns={patterns}");
-        self.line(Line::new(name, "MB/s", sent.megabytes(), &seconds), &more);
+        self.line(Line::new(code, name, "MB/s", sent.megabytes(), &seconds), &more);
     }
 
     fn encoding_cold(&mut self, sent: &Sending) {
-        let name = format!("cold/encode/{}/W{}", sent.record.code(), sent.record.w());
+        let code = sent.record.code();
+        let name = format!("cold/encode/{code}/W{}", sent.record.w());
         if !self.wants(&name) {
             return;
         }
@@ -230,8 +246,8 @@ impl Bench {
             s.information.copy_from_slice(&sent.information);
             s.parity.fill(0xA5);
         };
-        let seconds = cold(&mut blocks, self.rounds[0] * 4, prepare, sides!(encode));
-        self.line(Line::new(name, "MB/s", sent.megabytes(), &seconds), "");
+        let seconds = cold(&mut blocks, self.rounds[0] * 4, prepare, &sides!(code, encode));
+        self.line(Line::new(code, name, "MB/s", sent.megabytes(), &seconds), "");
     }
 
     fn closing_cold(&mut self, sent: &Sending) {
@@ -251,9 +267,9 @@ impl Bench {
             let prepare =
                 |b: &mut Receiving, i: usize| b.hear(&word, &Random::new((percent << 16 | i) as u64).shuffled(code.n())[..missing]);
             let most = self.rounds[0] * 4;
-            let seconds = cold(&mut blocks, most, prepare, sides!(close));
+            let seconds = cold(&mut blocks, most, prepare, &sides!(code, close));
             let more = format!(" patterns={}", most.min(blocks.len()));
-            self.line(Line::new(name(percent), "MB/s", sent.megabytes(), &seconds), &more);
+            self.line(Line::new(code, name(percent), "MB/s", sent.megabytes(), &seconds), &more);
         }
     }
 
@@ -318,15 +334,15 @@ fn main() {
     );
     println!("  were written since these were.");
     #[cfg(earlier)]
-    {
-        earlier::check_shape();
-        println!("earlier: the archive of an earlier version; gain: ours to it.");
-    }
-    for code in [Code::C1, Code::C2] {
+    println!("earlier: the archive of version {}, where that has the code; gain: ours to it.", earlier::version());
+    for &code in Code::ALL {
+        let widths = if [Code::C1, Code::C2].contains(&code) { &[1, 16, 64, 1024][..] } else { &[16, 1024] };
         for (w, border) in [(1, 1), (16, 1), (1024, 1), (1024, 16)] {
-            bench.writing(record(code, w), border);
+            if widths.contains(&w) {
+                bench.writing(record(code, w), border);
+            }
         }
-        for w in [1, 16, 64, 1024] {
+        for &w in widths {
             let mut sent = Sending::new(record(code, w));
             bench.encoding(&mut sent);
             bench.taking(&sent);

@@ -2,7 +2,7 @@
 use crate::layers::Found;
 use crate::plain_gather::{cancels, put_sum, restore};
 use crate::plain_rows::{eliminate, only, System, Tally};
-use crate::plain_tables::{check_block, check_length, Layout, Positions, MOST};
+use crate::plain_tables::{by_most, check_block, check_length, Layout, Positions};
 use lipvezor::{Record, Refusal, Verdict};
 
 /// What is known of a position.
@@ -70,11 +70,12 @@ fn single(known: &[Known], xs: &[u32]) -> Option<usize> {
     (found == 1).then_some(at)
 }
 
-/// How the missing positions are restored: by steps, and by pivots that are put off. The first `early` steps came before any pivot.
-struct Plan {
+/// How the missing positions are restored: by steps, and by pivots that are put off. The first `early` steps came before any pivot. There is room for
+/// the largest code, as in `decoder`.
+struct Plan<const MOST: usize> {
     layout: &'static Layout,
     w: usize,
-    positions: Positions,
+    positions: Positions<MOST>,
     known: [Known; 3072],
     steps: [(u16, u16); 1024],
     turns: usize,
@@ -84,8 +85,8 @@ struct Plan {
     used: [bool; 1024],
 }
 
-impl Plan {
-    fn new(layout: &'static Layout, w: usize, marks: &[u8]) -> Plan {
+impl<const MOST: usize> Plan<MOST> {
+    fn new(layout: &'static Layout, w: usize, marks: &[u8]) -> Plan<MOST> {
         let mut known = [Known::Heard; 3072];
         for (known, &mark) in known.iter_mut().zip(marks) {
             *known = if mark == 1 { Known::Heard } else { Known::Open };
@@ -329,6 +330,25 @@ pub fn tell(ok: bool, marks: &[u8]) -> Found {
     (verdict, [heard, filled, left])
 }
 
+/// Answers whether there is a solution.
+fn solve<const MOST: usize>(
+    layout: &'static Layout,
+    w: usize,
+    symbols: &mut [u8],
+    marks: &mut [u8],
+    words: &mut [u64],
+    bytes: &mut [u8],
+    tally: &mut impl Tally,
+) -> bool {
+    let mut plan = Plan::<MOST>::new(layout, w, marks);
+    plan.peel(symbols, marks);
+    if plan.put_off == 0 {
+        finish(plan.hold(symbols), w, symbols, marks)
+    } else {
+        plan.by_pivots(symbols, marks, words, bytes, tally)
+    }
+}
+
 #[inline(never)]
 pub fn close<T: Tally>(
     record: Record,
@@ -339,11 +359,7 @@ pub fn close<T: Tally>(
     tally: &mut T,
 ) -> Result<Found, Refusal> {
     let layout = check_close(record, symbols, marks, words, bytes)?;
-    let w = record.w();
-    let mut plan = Plan::new(layout, w, marks);
-    plan.peel(symbols, marks);
-    let ok =
-        if plan.put_off == 0 { finish(plan.hold(symbols), w, symbols, marks) } else { plan.by_pivots(symbols, marks, words, bytes, tally) };
+    let ok = by_most!(layout, solve(layout, record.w(), symbols, marks, words, bytes, tally));
     words.fill(0);
     bytes.fill(0);
     Ok(tell(ok, marks))

@@ -1,15 +1,10 @@
 //! Encode in plain Rust: the steps of `ccsds::encode`.
 use crate::plain_gather::put_sum;
-use crate::plain_tables::{check_code, check_length, Positions, MOST};
+use crate::plain_tables::{by_most, check_code, check_length, Layout, Positions};
 use lipvezor::{Record, Refusal};
 
-#[inline(never)]
-pub fn encode(record: Record, information: &[u8], parity: &mut [u8]) -> Result<(), Refusal> {
-    let layout = check_code(record)?;
-    let w = record.w();
-    check_length(information.len(), layout.k * w)?;
-    check_length(parity.len(), layout.m * w)?;
-    let positions = Positions::lay(layout);
+fn encode_rows<const MOST: usize>(layout: &'static Layout, w: usize, information: &[u8], parity: &mut [u8]) {
+    let positions = Positions::<MOST>::lay(layout);
     let mut xs = [0; MOST];
     for s in 0..layout.q {
         for r in 0..layout.a {
@@ -18,5 +13,14 @@ pub fn encode(record: Record, information: &[u8], parity: &mut [u8]) -> Result<(
             put_sum(w, j, j > 0, &xs[..n], information, parity);
         }
     }
+}
+
+#[inline(never)]
+pub fn encode(record: Record, information: &[u8], parity: &mut [u8]) -> Result<(), Refusal> {
+    let layout = check_code(record)?;
+    let w = record.w();
+    check_length(information.len(), layout.k * w)?;
+    check_length(parity.len(), layout.m * w)?;
+    by_most!(layout, encode_rows(layout, w, information, parity));
     Ok(())
 }

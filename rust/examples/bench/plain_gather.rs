@@ -38,9 +38,7 @@ fn part<const N: usize>(bytes: &[u8], at: usize) -> [u8; N] {
 fn gather<const N: usize>(mut sum: [u8; N], w: usize, c: usize, xs: &[u32], from: &[u8]) -> [u8; N] {
     for &x in xs {
         let chunk: [u8; N] = part(from, x as usize * w + c);
-        for (s, b) in sum.iter_mut().zip(chunk) {
-            *s ^= b;
-        }
+        sum = std::array::from_fn(|i| sum[i] ^ chunk[i]);
     }
     sum
 }

@@ -1,4 +1,4 @@
-//! The two codes as plain Rust has them, and the checks that several calls share.
+//! The codes as plain Rust has them, and the checks that several calls share.
 use crate::tables;
 use lipvezor::{Code, Record, Refusal};
 
@@ -8,20 +8,39 @@ pub struct Layout {
     pub m: usize,
     pub q: usize,
     pub a: usize,
+    /// At least as many positions as a check row has: 16, 24 or 56.
+    pub most: usize,
     pub table: &'static [&'static [usize]],
 }
 
-static C1: Layout = Layout { k: 512, m: 256, q: 32, a: 8, table: &tables::C1 };
+/// By number.
+static LAYOUTS: [Option<Layout>; 9] = [
+    None,
+    Some(Layout { k: 512, m: 256, q: 32, a: 8, most: 16, table: &tables::C1 }),
+    Some(Layout { k: 2048, m: 1024, q: 128, a: 8, most: 16, table: &tables::C2 }),
+    None,
+    Some(Layout { k: 512, m: 128, q: 16, a: 8, most: 24, table: &tables::C4 }),
+    Some(Layout { k: 2048, m: 512, q: 64, a: 8, most: 24, table: &tables::C5 }),
+    None,
+    Some(Layout { k: 512, m: 64, q: 8, a: 8, most: 56, table: &tables::C7 }),
+    Some(Layout { k: 2048, m: 256, q: 32, a: 8, most: 56, table: &tables::C8 }),
+];
 
-static C2: Layout = Layout { k: 2048, m: 1024, q: 128, a: 8, table: &tables::C2 };
+/// A call of a function that is compiled for each `most`, its parameter, so that no code pays for the longer check rows of another.
+macro_rules! by_most {
+    ($layout:expr, $function:ident($($argument:expr),*)) => {
+        match $layout.most {
+            16 => $function::<16>($($argument),*),
+            24 => $function::<24>($($argument),*),
+            _ => $function::<56>($($argument),*),
+        }
+    };
+}
+pub(crate) use by_most;
 
 impl Layout {
     pub fn of(code: Code) -> Option<&'static Layout> {
-        match code.number() {
-            1 => Some(&C1),
-            2 => Some(&C2),
-            _ => None,
-        }
+        LAYOUTS.get(code.number())?.as_ref()
     }
 
     pub fn n(&self) -> usize {
@@ -59,20 +78,17 @@ impl Layout {
     }
 }
 
-/// At least as many positions as a check row has.
-pub const MOST: usize = 16;
-
 /// The positions of the check rows: the steps of `ccsds::positions`. An address belongs to the check rows of one remainder modulo a, its class; the
 /// table is laid out by class once, and then each position of a check row follows by one addition.
-pub struct Positions {
+pub struct Positions<const MOST: usize> {
     layout: &'static Layout,
     firsts: [[u32; MOST]; 8],
     ends: [[u32; MOST]; 8],
     counts: [usize; 8],
 }
 
-impl Positions {
-    pub fn lay(layout: &'static Layout) -> Positions {
+impl<const MOST: usize> Positions<MOST> {
+    pub fn lay(layout: &'static Layout) -> Positions<MOST> {
         // entries beyond a class's count stay in range too
         let mut all = Positions { layout, firsts: [[0; MOST]; 8], ends: [[u32::MAX; MOST]; 8], counts: [0; 8] };
         for (addresses, end) in layout.table.iter().zip((layout.q..).step_by(layout.q)) {
