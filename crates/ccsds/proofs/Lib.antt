@@ -3,6 +3,7 @@ pub mod Valid
 pub mod FlatTable
 pub mod RefusalOrder
 pub mod Refusals
+pub mod FillLaws
 pub mod ReaderLaws
 pub mod UnitLaws
 pub mod ShowLaws

@@ -102,6 +102,7 @@ no-zero : (r : Refusal) → numberOf r ≡ 0 → ⊥
 no-zero refusal.code e = omega arith
 no-zero refusal.width e = omega arith
 no-zero refusal.label e = omega arith
+no-zero refusal.fill e = omega arith
 no-zero refusal.length e = omega arith
 no-zero refusal.header e = omega arith
 no-zero refusal.extension e = omega arith
@@ -110,6 +111,7 @@ no-zero refusal.kind e = omega arith
 no-zero refusal.parameters e = omega arith
 no-zero refusal.foreign e = omega arith
 no-zero refusal.position e = omega arith
+no-zero refusal.idle e = omega arith
 no-zero refusal.symbol e = omega arith
 no-zero refusal.mark e = omega arith
 no-zero refusal.conflict e = omega arith

@@ -1,18 +1,19 @@
 -- The laws of refusals: what a condition that does not apply says, and what a call answers and leaves by the number of its refusal.
 -- Assumes nothing.
 use mathlib.Core.Path.{_≡_, refl, sym, ap, _∙_}
-use mathlib.Core.Bool.{Bool, true, false, not, cond, _||_, false≢true}
-use mathlib.Core.List.{List, [], _∷_}
-use Prim.Native.Nat.{ℕ, zero, suc, _*_, _<_, _≤_}
+use mathlib.Core.Bool.{Bool, true, false, not, cond, _&&_, _||_, false≢true}
+use mathlib.Core.List.{List}
+use Prim.Native.Nat.{ℕ, zero, suc, _*_, _-_, _<_, _≤_}
 use native.Mathlib.Decide.{decLt}
 use native.Mathlib.Omega.{arith}
-use lib.Dec.{eqb, ltb}
-use borrow.Author.Tests.{not-false, eq-eqb, ne-eqb, eqb-true, eqb-false, ltb-false, lt-ltb, le-ltb}
+use lib.Dec.{eqb, leb, ltb}
+use borrow.Author.Tests.{not-false, eq-eqb, ne-eqb, eqb-true, eqb-false, ltb-false, lt-ltb, le-ltb, le-leb, lt-leb}
 use Rattle.ccsds.specs.Tables.{codeOf, isCode, Known}
+use Rattle.ccsds.specs.Fill.{isIdle, wrongFill, idleLwc}
 use Rattle.ccsds.specs.RefusalTable.{Refusal}
 use Rattle.ccsds.specs.RefusalTable as refusal
-use Rattle.ccsds.specs.Refusals.{firstOf, wrongCode, wrongWidth, wrongLabel, wrongLength, wrongPosition, codeConditions, labelConditions, encoderConditions, Outcome, refused, answered, _⟫_, refuseIf, outcome, afterwards, bytesOf}
-use Rattle.ccsds.proofs.RefusalOrder.{chain, in-order, parts-none, first-is, first-on, first-end, first-none}
+use Rattle.ccsds.specs.Refusals.{wrongCode, wrongWidth, wrongLabel, wrongLength, wrongPosition, codeConditions, recordConditions, encoderConditions, Outcome, refused, answered, _⟫_, refuseIf, outcome, afterwards, bytesOf, informationBytes}
+use Rattle.ccsds.proofs.RefusalOrder.{chain, parts-none, first-none}
 
 -- ---- the conditions
 
@@ -62,6 +63,42 @@ pub position-is-right : (n lwc : ℕ) → 0 < lwc → lwc ≤ n → wrongPositio
 unfolding wrongPosition
 position-is-right n lwc h l = rw (ne-eqb lwc 0 (λ e. omega arith), le-ltb n lwc l)
 
+pub fill-right : (k fill : ℕ) → wrongFill k fill ≡ false → (0 < fill) × (fill ≤ k)
+unfolding wrongFill
+fill-right k fill e =
+    let p = or-false (eqb fill 0) (ltb k fill) e in
+    let h : fill ≡ 0 → ⊥ = eqb-false fill 0 (p .0) in
+    (omega arith, ltb-false k fill (p .1))
+
+pub fill-is-right : (k fill : ℕ) → 0 < fill → fill ≤ k → wrongFill k fill ≡ false
+unfolding wrongFill
+fill-is-right k fill h l = rw (ne-eqb fill 0 (λ e. omega arith), le-ltb k fill l)
+
+-- an LWC names an idle position; one that is sent; or a parity symbol's
+module _ (k fill lwc : ℕ) where
+  pub is-idle : fill ≤ lwc - 1 → lwc - 1 < k → idleLwc k fill lwc ≡ true
+  unfolding idleLwc isIdle
+  is-idle h l = rw (le-leb fill (lwc - 1) h, lt-ltb (lwc - 1) k l)
+
+  pub is-sent : lwc - 1 < fill → idleLwc k fill lwc ≡ false
+  unfolding idleLwc isIdle
+  is-sent h = rw (lt-leb fill (lwc - 1) h)
+
+  pub is-parity : k ≤ lwc - 1 → idleLwc k fill lwc ≡ false
+  unfolding idleLwc isIdle
+  is-parity h = go (leb fill (lwc - 1)) (le-ltb (lwc - 1) k h)
+    where
+      go : (b : Bool) {a : Bool} → a ≡ false → b && a ≡ false
+      go true e = e
+      go false e = refl
+
+  pub not-idle : idleLwc k fill lwc ≡ false → lwc - 1 < k → lwc - 1 < fill
+  not-idle e h = go (decLt (lwc - 1) fill)
+    where
+      go : Dec (lwc - 1 < fill) → lwc - 1 < fill
+      go (yes l) = l
+      go (no l) = absurd (false≢true (sym e ∙ is-idle (omega arith) h))
+
 pub length-right : (have size : ℕ) → wrongLength have size ≡ false → have ≡ size
 unfolding wrongLength
 length-right have size e = eqb-true have size (not-false (eqb have size) e)
@@ -82,6 +119,22 @@ pub bytes-wrong : (symbols w : ℕ) → wrongWidth w ≡ true → bytesOf symbol
 unfolding bytesOf
 bytes-wrong symbols w e = ap (λ (b : Bool). cond b 0 (symbols * w)) e
 
+pub information-right : (number w fill : ℕ) → wrongFill (codeOf number .k) fill ≡ false → informationBytes number w fill ≡ bytesOf fill w
+unfolding informationBytes bytesOf
+information-right number w fill e = go (wrongWidth w)
+  where
+    go : (b : Bool) → cond (b || wrongFill (codeOf number .k) fill) 0 (fill * w) ≡ cond b 0 (fill * w)
+    go true = refl
+    go false = rw e
+
+pub information-wrong : (number w fill : ℕ) → wrongFill (codeOf number .k) fill ≡ true → informationBytes number w fill ≡ 0
+unfolding informationBytes
+information-wrong number w fill e = go (wrongWidth w)
+  where
+    go : (b : Bool) → cond (b || wrongFill (codeOf number .k) fill) 0 (fill * w) ≡ 0
+    go true = refl
+    go false = rw e
+
 -- ---- where no condition of a part of the table applies
 
 pub code-none : (number w : ℕ) → chain (codeConditions number w) ≡ 0 → (wrongCode number ≡ false) × (wrongWidth w ≡ false)
@@ -89,42 +142,23 @@ code-none number w z =
     let a = first-none refusal.code (wrongCode number) _ z in
     (a .0, first-none refusal.width (wrongWidth w) _ (a .1) .0)
 
-pub label-none : (number w protocol lsc : ℕ) → chain (labelConditions number w protocol lsc) ≡ 0
-    → (wrongCode number ≡ false) × (wrongWidth w ≡ false) × (wrongLabel protocol lsc ≡ false)
-label-none number w protocol lsc z =
-    let a = parts-none (codeConditions number w) ((refusal.label, wrongLabel protocol lsc) ∷ []) z in
-    let c = code-none number w (a .0) in
-    (c .0, c .1, first-none refusal.label (wrongLabel protocol lsc) _ (a .1) .0)
-
--- the label's conditions, one after the other, by what known, the width and the label's test say
-module _ (number w protocol lsc : ℕ) where
-  pub label-code : (k : Bool) → k ≡ isCode number → not k ≡ true → 1 ≡ firstOf (labelConditions number w protocol lsc)
-  unfolding wrongCode
-  label-code k e h = sym (in-order _ refl ∙ first-is _ _ _ (ap not (sym e) ∙ h))
-
-  module _ (k : Bool) (e : k ≡ isCode number) (h : not k ≡ false) where
-    code : wrongCode number ≡ false
-    unfolding wrongCode
-    code = ap not (sym e) ∙ h
-
-    pub label-width : (t : Bool) → t ≡ wrongWidth w → t ≡ true → 2 ≡ firstOf (labelConditions number w protocol lsc)
-    label-width t f g = sym (in-order _ refl ∙ first-on _ _ _ code ∙ first-is _ _ _ (sym f ∙ g))
-
-    module _ (t : Bool) (f : t ≡ wrongWidth w) (g : t ≡ false) where
-      pub label-label : (l : Bool) → l ≡ wrongLabel protocol lsc → l ≡ true → 3 ≡ firstOf (labelConditions number w protocol lsc)
-      label-label l q r = sym (in-order _ refl ∙ first-on _ _ _ code ∙ first-on _ _ _ (sym f ∙ g) ∙ first-is _ _ _ (sym q ∙ r))
-
-      pub label-passed : (l : Bool) → l ≡ wrongLabel protocol lsc → l ≡ false → 0 ≡ firstOf (labelConditions number w protocol lsc)
-      label-passed l q r = sym (in-order _ refl ∙ first-on _ _ _ code ∙ first-on _ _ _ (sym f ∙ g) ∙ first-on _ _ _ (sym q ∙ r) ∙ first-end)
-
-pub encoder-none : (number w i p : ℕ) → chain (encoderConditions number w i p) ≡ 0
-    → (wrongCode number ≡ false) × (wrongWidth w ≡ false) × (i ≡ codeOf number .k * w) × (p ≡ codeOf number .m * w)
-encoder-none number w i p z =
+pub record-none : (number w protocol lsc fill : ℕ) → chain (recordConditions number w protocol lsc fill) ≡ 0
+    → (wrongCode number ≡ false) × (wrongWidth w ≡ false) × (wrongLabel protocol lsc ≡ false) × (wrongFill (codeOf number .k) fill ≡ false)
+record-none number w protocol lsc fill z =
     let a = parts-none (codeConditions number w) _ z in
     let c = code-none number w (a .0) in
-    let l = first-none refusal.length (wrongLength i (codeOf number .k * w)) _ (a .1) in
+    let l = first-none refusal.label (wrongLabel protocol lsc) _ (a .1) in
+    (c .0, c .1, l .0, first-none refusal.fill (wrongFill (codeOf number .k) fill) _ (l .1) .0)
+
+pub encoder-none : (number w fill i p : ℕ) → chain (encoderConditions number w fill i p) ≡ 0
+    → (wrongCode number ≡ false) × (wrongWidth w ≡ false) × (wrongFill (codeOf number .k) fill ≡ false) × (i ≡ fill * w) × (p ≡ codeOf number .m * w)
+encoder-none number w fill i p z =
+    let a = parts-none (codeConditions number w) _ z in
+    let c = code-none number w (a .0) in
+    let f = first-none refusal.fill (wrongFill (codeOf number .k) fill) _ (a .1) in
+    let l = first-none refusal.length (wrongLength i (fill * w)) _ (f .1) in
     let m = first-none refusal.length (wrongLength p (codeOf number .m * w)) _ (l .1) in
-    (c .0, c .1, length-right i _ (l .0), length-right p _ (m .0))
+    (c .0, c .1, f .0, length-right i _ (l .0), length-right p _ (m .0))
 
 -- ---- by the number r that a check found for the refusal n
 

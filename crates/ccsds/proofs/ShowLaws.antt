@@ -1,7 +1,7 @@
 -- What is known where a symbol is shown, and the two parts that it can be.
 -- Assumes nothing.
 use mathlib.Core.Path.{_≡_, refl, sym, _∙_}
-use mathlib.Core.List.{List, [], _∷_}
+use mathlib.Core.List.{List}
 use Prim.Native.Nat.{ℕ, _+_, _-_, _*_, _≤_, _<_}
 use native.Mathlib.Nat.{add-sub-cancel-left, add-comm}
 use native.Mathlib.Omega.{arith}
@@ -10,38 +10,42 @@ use denote.Ref.{RefT}
 use borrow.Author.Tests.{eq-eqb, ne-eqb, lt-ltb, le-ltb}
 use Rattle.ccsds.specs.Codes.{nOf}
 use Rattle.ccsds.specs.Tables.{codeOf, Known}
+use Rattle.ccsds.specs.Fill.{idleLwc}
 use Rattle.ccsds.specs.RefusalTable as refusal
 use Rattle.ccsds.specs.Refusals.{encoderConditions, wrongPosition}
 use Rattle.ccsds.specs.Show.{partOf, showRefusal, showOf}
 use Rattle.ccsds.proofs.RefusalOrder.{in-order, parts-none, first-none}
-use Rattle.ccsds.proofs.Refusals.{code-known, width-right, position-right, encoder-none}
+use Rattle.ccsds.proofs.Refusals.{code-known, width-right, position-right, not-idle, encoder-none}
 use Rattle.algebra.proofs.Codeword.{slot}
 
-pub record Showable (number w infoLength parityLength lwc : ℕ) : Type 0 where
+pub record Showable (number w fill infoLength parityLength lwc : ℕ) : Type 0 where
   pub known : Known number
   pub width : (0 < w) × (w ≤ 1024)
-  pub information : infoLength ≡ codeOf number .k * w
+  pub information : infoLength ≡ fill * w
   pub parity : parityLength ≡ codeOf number .m * w
   pub position : (0 < lwc) × (lwc ≤ nOf (codeOf number))
+  pub sent : lwc - 1 < codeOf number .k → lwc - 1 < fill
 
-pub showable : (number w infoLength parityLength lwc : ℕ) → showRefusal number w infoLength parityLength lwc ≡ 0
-    → Showable number w infoLength parityLength lwc
+pub showable : (number w fill infoLength parityLength lwc : ℕ) → showRefusal number w fill infoLength parityLength lwc ≡ 0
+    → Showable number w fill infoLength parityLength lwc
 unfolding showRefusal
-showable number w infoLength parityLength lwc e =
-    let a = parts-none (encoderConditions number w infoLength parityLength) ((refusal.position, wrongPosition (nOf (codeOf number)) lwc) ∷ []) (sym (in-order _ refl) ∙ e) in
-    let b = encoder-none number w infoLength parityLength (a .0) in
+showable number w fill infoLength parityLength lwc e =
+    let a = parts-none (encoderConditions number w fill infoLength parityLength) _ (sym (in-order _ refl) ∙ e) in
+    let b = encoder-none number w fill infoLength parityLength (a .0) in
+    let p = first-none refusal.position (wrongPosition (nOf (codeOf number)) lwc) _ (a .1) in
     record {
       known = code-known number (b .0);
       width = width-right w (b .1);
-      information = b .2;
-      parity = b .3;
-      position = position-right (nOf (codeOf number)) lwc (first-none refusal.position _ _ (a .1) .0);
+      information = b .3;
+      parity = b .4;
+      position = position-right (nOf (codeOf number)) lwc (p .0);
+      sent = not-idle (codeOf number .k) fill lwc (first-none refusal.idle (idleLwc (codeOf number .k) fill lwc) _ (p .1) .0);
     }
 
 -- the symbol lies within its buffer
-module _ {number w infoLength parityLength lwc : ℕ} (s : Showable number w infoLength parityLength lwc) where
+module _ {number w fill infoLength parityLength lwc : ℕ} (s : Showable number w fill infoLength parityLength lwc) where
   pub in-information : lwc - 1 < codeOf number .k → (lwc - 1) * w + w ≤ infoLength
-  in-information h = omega (arith, slot (lwc - 1) (codeOf number .k) w h, s .information)
+  in-information h = omega (arith, slot (lwc - 1) fill w (s .sent h), s .information)
 
   pub in-parity : codeOf number .k ≤ lwc - 1 → (lwc - 1 - codeOf number .k) * w + w ≤ parityLength
   in-parity h =
@@ -49,18 +53,18 @@ module _ {number w infoLength parityLength lwc : ℕ} (s : Showable number w inf
       omega (arith, slot (lwc - 1 - codeOf number .k) (codeOf number .m) w l, s .parity)
 
 -- what is shown, as the code's ranges have it
-module _ (number w : ℕ) (info parity : RefT (List ℕ)) (lwc : ℕ) where
-  pub shows-none : (showRefusal number w (length (info .now)) (length (parity .now)) lwc ≡ 0 → ⊥)
-      → showOf number w info parity lwc ≡ partOf info 0 0
+module _ (number w fill : ℕ) (info parity : RefT (List ℕ)) (lwc : ℕ) where
+  pub shows-none : (showRefusal number w fill (length (info .now)) (length (parity .now)) lwc ≡ 0 → ⊥)
+      → showOf number w fill info parity lwc ≡ partOf info 0 0
   unfolding showOf
   shows-none h = rw (ne-eqb _ _ h)
 
-  module _ (z : showRefusal number w (length (info .now)) (length (parity .now)) lwc ≡ 0) where
-    pub shows-information : lwc - 1 < codeOf number .k → showOf number w info parity lwc ≡ partOf info ((lwc - 1) * w) w
+  module _ (z : showRefusal number w fill (length (info .now)) (length (parity .now)) lwc ≡ 0) where
+    pub shows-information : lwc - 1 < codeOf number .k → showOf number w fill info parity lwc ≡ partOf info ((lwc - 1) * w) w
     unfolding showOf
     shows-information h = rw (eq-eqb _ _ z, lt-ltb _ _ h)
 
-    pub shows-parity : codeOf number .k ≤ lwc - 1 → showOf number w info parity lwc ≡ partOf parity ((lwc - 1 - codeOf number .k) * w) w
+    pub shows-parity : codeOf number .k ≤ lwc - 1 → showOf number w fill info parity lwc ≡ partOf parity ((lwc - 1 - codeOf number .k) * w) w
     unfolding showOf
     shows-parity h = rw (eq-eqb _ _ z, le-ltb _ _ h)
 

@@ -8,15 +8,16 @@ use native.Mathlib.Omega.{arith}
 use lib.ListN.{length, length-append}
 use Rattle.ccsds.specs.Codes.{Params, nOf}
 use Rattle.ccsds.specs.Tables.{codeOf, Known}
+use Rattle.ccsds.specs.Fill.{idleLwc}
 use Rattle.ccsds.specs.RefusalTable as refusal
-use Rattle.ccsds.specs.Refusals.{labelConditions, wrongCode, wrongWidth, wrongLength, wrongPosition}
+use Rattle.ccsds.specs.Refusals.{recordConditions, wrongCode, wrongWidth, wrongLength, wrongPosition}
 use Rattle.wire.specs.Sdnv.{sdnvBytes}
 use Rattle.ccsds.specs.inner.Compact.{Compact}
 use Rattle.ccsds.specs.inner.Layout.{LayoutOf}
 use Rattle.ccsds.specs.declared.tables.Layout.{Layout}
 use Rattle.ccsds.specs.Writer.{headerOf, valueBytes, extensionOf, unitOf, symbolStart, unitLength, unitBytes, writeRefusal}
 use Rattle.ccsds.proofs.RefusalOrder.{in-order, parts-none, first-none}
-use Rattle.ccsds.proofs.Refusals.{code-known, width-right, label-right, length-right, position-right, label-none}
+use Rattle.ccsds.proofs.Refusals.{code-known, width-right, label-right, length-right, position-right, record-none}
 use Rattle.wire.proofs.SdnvRound.{most-five, in-one, two-long}
 use Rattle.ccsds.proofs.Valid.{valid-of}
 
@@ -75,15 +76,16 @@ pub record Writable (number w protocol lsc lwc symbolLength outLength : ℕ) : T
   pub output : outLength ≡ unitLength (codeOf number) w
   pub symbol : symbolLength ≡ w
 
-pub writable : (number w protocol lsc lwc symbolLength outLength : ℕ) → writeRefusal number w protocol lsc lwc symbolLength outLength ≡ 0
+pub writable : (number w protocol lsc fill lwc symbolLength outLength : ℕ) → writeRefusal number w protocol lsc fill lwc symbolLength outLength ≡ 0
     → Writable number w protocol lsc lwc symbolLength outLength
 unfolding writeRefusal
-writable number w protocol lsc lwc symbolLength outLength e =
-    let a = parts-none (labelConditions number w protocol lsc) _ (sym (in-order _ refl) ∙ e) in
-    let b = label-none number w protocol lsc (a .0) in
+writable number w protocol lsc fill lwc symbolLength outLength e =
+    let a = parts-none (recordConditions number w protocol lsc fill) _ (sym (in-order _ refl) ∙ e) in
+    let b = record-none number w protocol lsc fill (a .0) in
     let c = first-none refusal.length (wrongLength outLength (unitLength (codeOf number) w)) _ (a .1) in
     let d = first-none refusal.position (wrongPosition (nOf (codeOf number)) lwc) _ (c .1) in
-    let f = first-none refusal.symbol (wrongLength symbolLength w) _ (d .1) in
+    let i = first-none refusal.idle (idleLwc (codeOf number .k) fill lwc) _ (d .1) in
+    let f = first-none refusal.symbol (wrongLength symbolLength w) _ (i .1) in
     record {
       known = code-known number (b .0);
       width = width-right w (b .1);

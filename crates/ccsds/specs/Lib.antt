@@ -1,5 +1,6 @@
 pub mod Codes
 pub mod Tables
+pub mod Fill
 pub mod RefusalTable
 pub mod Refusals
 pub mod Reader

@@ -5,6 +5,7 @@ use mathlib.Core.List.{List, [], _∷_, _++_}
 use Prim.Native.Nat.{ℕ, zero, suc, _*_}
 use lib.Dec.{eqb, ltb}
 use Rattle.ccsds.specs.Tables.{codeOf, isCode}
+use Rattle.ccsds.specs.Fill.{wrongFill}
 use Rattle.ccsds.specs.RefusalTable.{Refusal, numberOf, order}
 use Rattle.ccsds.specs.RefusalTable as refusal
 
@@ -56,15 +57,20 @@ wrongPosition n lwc = eqb lwc 0 || ltb n lwc
 abbrev pub codeConditions : ℕ → ℕ → Conditions
 codeConditions number w = (refusal.code, wrongCode number) ∷ (refusal.width, wrongWidth w) ∷ []
 
--- 1 to 3: with a protocol ID and an LSC
-abbrev pub labelConditions : ℕ → ℕ → ℕ → ℕ → Conditions
-labelConditions number w protocol lsc = codeConditions number w ++ (refusal.label, wrongLabel protocol lsc) ∷ []
-
--- 1, 2 and 4: with the lengths of the encoder's two buffers
-abbrev pub encoderConditions : ℕ → ℕ → ℕ → ℕ → Conditions
-encoderConditions number w infoLength parityLength =
+-- 1 to 3 and 13: of the numbers of a block's record, with a protocol ID, an LSC and a fill
+abbrev pub recordConditions : ℕ → ℕ → ℕ → ℕ → ℕ → Conditions
+recordConditions number w protocol lsc fill =
     codeConditions number w
-    ++ (refusal.length, wrongLength infoLength (codeOf number .k * w))
+    ++ (refusal.label, wrongLabel protocol lsc)
+    ∷ (refusal.fill, wrongFill (codeOf number .k) fill)
+    ∷ []
+
+-- 1, 2, 13 and 4: with a fill and the lengths of the encoder's two buffers
+abbrev pub encoderConditions : ℕ → ℕ → ℕ → ℕ → ℕ → Conditions
+encoderConditions number w fill infoLength parityLength =
+    codeConditions number w
+    ++ (refusal.fill, wrongFill (codeOf number .k) fill)
+    ∷ (refusal.length, wrongLength infoLength (fill * w))
     ∷ (refusal.length, wrongLength parityLength (codeOf number .m * w))
     ∷ []
 
@@ -103,3 +109,7 @@ afterwards (suc n) new old = old
 -- the size of a buffer of so many symbols of w bytes; 0 for a width that is refused
 unfoldable pub bytesOf : ℕ → ℕ → ℕ
 bytesOf symbols w = cond (wrongWidth w) 0 (symbols * w)
+
+-- the size of the information buffer; 0 for a width or a fill that is refused. For a number that is no code's k is 0, so every fill is refused.
+unfoldable pub informationBytes : ℕ → ℕ → ℕ → ℕ
+informationBytes number w fill = cond (wrongWidth w || wrongFill (codeOf number .k) fill) 0 (fill * w)

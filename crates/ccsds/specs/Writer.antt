@@ -1,4 +1,4 @@
--- Document 01, "The unit" and "Sending": write.
+-- Document 01, "The unit" and "Sending", with document 02, job 2: write. A unit does not carry the fill.
 -- Assumes nothing.
 use mathlib.Core.Bool.{cond, _||_}
 use mathlib.Core.List.{List, [], _∷_, _++_}
@@ -6,8 +6,9 @@ use Prim.Native.Nat.{ℕ, _+_, _*_}
 use lib.ListN.{length}
 use Rattle.ccsds.specs.Codes.{Params, nOf}
 use Rattle.ccsds.specs.Tables.{codeOf}
+use Rattle.ccsds.specs.Fill.{idleLwc}
 use Rattle.ccsds.specs.RefusalTable as refusal
-use Rattle.ccsds.specs.Refusals.{firstOf, labelConditions, wrongCode, wrongWidth, wrongLength, wrongPosition, Outcome, refused, answered}
+use Rattle.ccsds.specs.Refusals.{Conditions, firstOf, recordConditions, wrongCode, wrongWidth, wrongLength, wrongPosition, Outcome, refused, answered}
 use Rattle.wire.specs.Bytes.{twoBytes}
 use Rattle.wire.specs.Sdnv.{sdnvBytes}
 use Rattle.ccsds.specs.declared.writer.Written.{Written}
@@ -40,17 +41,19 @@ unitLength c w = symbolStart c w + w
 unfoldable pub unitBytes : ℕ → ℕ → ℕ
 unitBytes number w = cond (wrongCode number || wrongWidth w) 0 (unitLength (codeOf number) w)
 
--- the number of the refusal, or 0: of a code's number, a width, a protocol ID, an LSC, an LWC, and the lengths of the symbol and of
--- the output
-unfoldable pub writeRefusal : ℕ → ℕ → ℕ → ℕ → ℕ → ℕ → ℕ → ℕ
-writeRefusal number w protocol lsc lwc symbolLength outLength =
-    firstOf (
-    labelConditions number w protocol lsc
-    ++ (refusal.length, wrongLength outLength (unitLength (codeOf number) w))
+-- 4, 9, 14 and 10: of a code's number, a width, a fill, an LWC, and the lengths of the symbol and of the output
+abbrev pub unitConditions : ℕ → ℕ → ℕ → ℕ → ℕ → ℕ → Conditions
+unitConditions number w fill lwc symbolLength outLength =
+    (refusal.length, wrongLength outLength (unitLength (codeOf number) w))
     ∷ (refusal.position, wrongPosition (nOf (codeOf number)) lwc)
+    ∷ (refusal.idle, idleLwc (codeOf number .k) fill lwc)
     ∷ (refusal.symbol, wrongLength symbolLength w)
     ∷ []
-    )
+
+-- the number of the refusal, or 0: with a protocol ID and an LSC
+unfoldable pub writeRefusal : ℕ → ℕ → ℕ → ℕ → ℕ → ℕ → ℕ → ℕ → ℕ
+writeRefusal number w protocol lsc fill lwc symbolLength outLength =
+    firstOf (recordConditions number w protocol lsc fill ++ unitConditions number w fill lwc symbolLength outLength)
 
 -- the cases of write's answer in the paper's words
 abbrev pub writtenAs : Written → Outcome Unit

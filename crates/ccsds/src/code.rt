@@ -6,7 +6,7 @@ ghost use mathlib.Core.Path.{_≡_};
 ghost use Prim.Native.Nat.{_+_, _*_, _/_, _≤_};
 ghost use Rattle.ccsds.specs.Codes.{nOf};
 ghost use Rattle.ccsds.specs.Tables.{codeOf, isCode};
-ghost use Rattle.ccsds.specs.Refusals.{wrongWidth, wrongPosition, bytesOf};
+ghost use Rattle.ccsds.specs.Refusals.{wrongWidth, wrongPosition, bytesOf, informationBytes};
 ghost use Rattle.ccsds.specs.inner.Layout.{maxN};
 
 pub struct Code {
@@ -135,11 +135,14 @@ impl Code {
         checks::wrong_position(self.n(), lwc)
     }
 
-    // Bytes of the information buffer.
-    pub fn information_bytes(self, w: usize) -> usize
-        ensures { λ r. ⌜ r ≡ bytesOf (codeOf (self .number) .k) w ⌝ }
+    // Bytes of the information buffer: those of fill symbols. 0 for a fill that is refused too.
+    pub fn information_bytes(self, w: usize, fill: usize) -> usize
+        ensures { λ r. ⌜ r ≡ informationBytes (self .number) w fill ⌝ }
     {
-        bytes(self.k(), w)
+        if checks::wrong_fill(self.k(), fill) {
+            return 0;
+        }
+        bytes(fill, w)
     }
 
     // Bytes of the parity buffer, and of the second work buffer.

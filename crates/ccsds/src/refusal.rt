@@ -1,4 +1,4 @@
-// The numbers of the refusals, by the words of document 01's table.
+// The numbers of the refusals, by the words of document 01's table and of document 02, jobs 2 and 6.
 pub const CODE: u8 = 1;
 
 pub const WIDTH: u8 = 2;
@@ -22,6 +22,10 @@ pub const SYMBOL: u8 = 10;
 pub const MARK: u8 = 11;
 
 pub const CONFLICT: u8 = 12;
+
+pub const FILL: u8 = 13;
+
+pub const IDLE: u8 = 14;
 
 pub const NUMBER: u8 = 19;
 

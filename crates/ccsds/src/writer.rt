@@ -10,8 +10,8 @@ ghost use mathlib.Core.Path.{_≡_};
 ghost use Prim.Native.Nat.{_+_, _<_, _≤_};
 ghost use lib.ListN.{length};
 ghost use Rattle.ccsds.specs.Tables.{codeOf};
-ghost use Rattle.ccsds.specs.Refusals.{outcome, afterwards};
-ghost use Rattle.ccsds.specs.Writer.{headerOf, valueBytes, extensionOf, unitOf, unitBytes, writeRefusal, writtenAs};
+ghost use Rattle.ccsds.specs.Refusals.{firstOf, outcome, afterwards};
+ghost use Rattle.ccsds.specs.Writer.{headerOf, valueBytes, extensionOf, unitOf, unitBytes, unitConditions, writeRefusal, writtenAs};
 ghost use Rattle.wire.specs.inner.Appended.{Appended};
 ghost use Rattle.ccsds.specs.inner.Compact.{Compact};
 ghost use Rattle.ccsds.specs.inner.Layout.{LayoutOf};
@@ -55,29 +55,19 @@ pub enum Written {
     Refused(u8),
 }
 
-// The number of write's refusal, or 0.
-fn check_write(
+// 4, 9, 14 or 10, or 0: for a record that is not refused.
+fn check_unit(
     number: usize,
     l: Layout,
     w: usize,
-    protocol: usize,
-    lsc: usize,
+    fill: usize,
     lwc: usize,
     symbolLength: usize,
     outLength: usize,
 ) -> u8
-    requires { ⌜ LayoutOf (codeOf number) l ⌝ }
-    ensures { λ r. ⌜ r ≡ writeRefusal number w protocol lsc lwc symbolLength outLength ⌝ }
+    requires { ⌜ LayoutOf (codeOf number) l × Compact w (l .k) (l .k + l .m) ⌝ }
+    ensures { λ r. ⌜ r ≡ firstOf (unitConditions number w fill lwc symbolLength outLength) ⌝ }
 {
-    if !tables::is_code(number, l) {
-        return refusal::CODE;
-    }
-    if Code::wrong_width(w) {
-        return refusal::WIDTH;
-    }
-    if checks::wrong_label(protocol, lsc) {
-        return refusal::LABEL;
-    }
     let n = l.k + l.m;
     let size = unit_length(w, l.k, n);
     if outLength != size {
@@ -85,6 +75,9 @@ fn check_write(
     }
     if checks::wrong_position(n, lwc) {
         return refusal::POSITION;
+    }
+    if checks::idle_lwc(l.k, fill, lwc) {
+        return refusal::IDLE;
     }
     if symbolLength != w {
         return refusal::SYMBOL;
@@ -129,15 +122,20 @@ pub fn write(
     w: usize,
     protocol: usize,
     lsc: usize,
+    fill: usize,
     lwc: usize,
     symbol: &[u8],
     out: &mut [u8],
 ) -> Written
-    ensures answer { λ r. ⌜ writtenAs r ≡ outcome (writeRefusal code w protocol lsc lwc (length (now (symbol .entry))) (length (now (out .entry)))) tt ⌝ }
-    ensures output { λ _. ⌜ now (out .exit) ≡ afterwards (writeRefusal code w protocol lsc lwc (length (now (symbol .entry))) (length (now (out .entry)))) (unitOf (codeOf code) w protocol lsc lwc (now (symbol .entry))) (now (out .entry)) ⌝ }
+    ensures answer { λ r. ⌜ writtenAs r ≡ outcome (writeRefusal code w protocol lsc fill lwc (length (now (symbol .entry))) (length (now (out .entry)))) tt ⌝ }
+    ensures output { λ _. ⌜ now (out .exit) ≡ afterwards (writeRefusal code w protocol lsc fill lwc (length (now (symbol .entry))) (length (now (out .entry)))) (unitOf (codeOf code) w protocol lsc lwc (now (symbol .entry))) (now (out .entry)) ⌝ }
 {
     let l = tables::layout_of(code);
-    let refusal = check_write(code, l, w, protocol, lsc, lwc, symbol.len(), out.len());
+    let earlier = checks::check_record(code, l, w, protocol, lsc, fill);
+    if earlier != 0 {
+        return Written::Refused(earlier);
+    }
+    let refusal = check_unit(code, l, w, fill, lwc, symbol.len(), out.len());
     if refusal != 0 {
         return Written::Refused(refusal);
     }

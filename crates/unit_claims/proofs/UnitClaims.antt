@@ -1,7 +1,7 @@
--- What specs/UnitClaims.antt claims of units; proofs/SdnvRound.antt has what it claims of SDNV numbers.
+-- What specs/UnitClaims.antt claims of units that are written, read and sent.
 -- Assumes nothing.
 use mathlib.Core.Path.{_≡_, _∙_, sym, ap, refl}
-use mathlib.Core.Bool.{false}
+use mathlib.Core.Bool.{Bool, true, false, false≢true}
 use mathlib.Core.List.{List, [], _∷_, _++_, append-assoc, append-nil}
 use mathlib.Core.Option.{some}
 use Prim.Native.Nat.{ℕ, _+_, _-_, _*_, _/_, _%_, _≤_, _<_}
@@ -9,7 +9,7 @@ use native.Mathlib.Nat.{add-mul, add-sub-cancel-left, add-mul-div-right, add-mul
 use native.Mathlib.Decide.{decLt}
 use native.Mathlib.Omega.{arith}
 use lib.Dec.{lit<}
-use lib.ListN.{length, getD, take, drop, length-append, length-drop}
+use lib.ListN.{length, getD, take, drop, replicate, length-append, length-drop}
 use lib.Seq.{length-take-le, take-append-le, drop-append-le, drop-append-add, take-at, drop-at, getD-at}
 use denote.Ref.{RefT}
 use borrow.Author.Tests.{eq-eqb, le-ltb}
@@ -18,20 +18,22 @@ use Rattle.algebra.proofs.Lists.{length-tab}
 use Rattle.algebra.proofs.Codeword.{slot}
 use Rattle.ccsds.specs.Codes.{Params, nOf, encodeOf}
 use Rattle.ccsds.specs.Tables.{codeOf}
+use Rattle.ccsds.specs.Fill.{isIdle, wrongFill, idleLwc, padded}
 use Rattle.ccsds.specs.Refusals.{firstOf, firstIn, applies, wrongCode, wrongWidth, wrongLabel, wrongPosition, answered}
 use Rattle.wire.specs.Sdnv.{finished, numberAt, sdnvBytes}
 use Rattle.wire.specs.Bytes.{part}
 use Rattle.ccsds.specs.Reader.{lengthAt, codingOf, valueOf, wrongType, extensionAt, extensionsOf, wrongHeader, readUnit}
-use Rattle.unit_claims.specs.UnitClaims.{lwcOf, partsOf, ReadsAs, RoundTrip, SendsCodeword}
+use Rattle.unit_claims.specs.UnitClaims.{lwcOf, partsOf, ReadsAs, RoundTrip, SendsCodeword, IdleNotSent, SendsFull}
 use Rattle.ccsds.specs.Writer.{headerOf, valueBytes, extensionOf, unitOf, symbolStart, unitBytes, writeRefusal}
 use Rattle.ccsds.specs.Show.{Slice, showRefusal, showOf}
 use Rattle.algebra.specs.Codeword.{symbolAt}
-use Rattle.ccsds.proofs.Valid.{few-of}
-use Rattle.ccsds.proofs.Refusals.{length-same, position-is-right}
+use Rattle.ccsds.proofs.Valid.{few-of, valid-of}
+use Rattle.ccsds.proofs.Refusals.{code-known, length-same, position-is-right, fill-right, fill-is-right, is-sent, is-parity, not-idle}
+use Rattle.ccsds.proofs.FillLaws.{padded-length}
 use Rattle.wire.proofs.SdnvRound.{reads-back}
 use Rattle.ccsds.proofs.ReaderLaws.{from-value}
 use Rattle.ccsds.proofs.UnitLaws.{value-most, extension-length, unit-length, unit-right, writable}
-use Rattle.ccsds.proofs.ShowLaws.{shows-information, shows-parity}
+use Rattle.ccsds.proofs.ShowLaws.{showable, shows-none, shows-information, shows-parity}
 
 -- a number that stands at a position
 there : (v : ℕ) → v < 4294967296 → (s before after : List ℕ) (at : ℕ) → s ≡ before ++ (sdnvBytes v ++ after) → length before ≡ at
@@ -105,79 +107,139 @@ unit-reads c w protocol lsc lwc symbol hw hn hp =
     }
 
 pub round-trip : RoundTrip
-round-trip number w protocol lsc lwc symbol outs z =
-    let r = writable number w protocol lsc lwc (length symbol) outs z in
+round-trip number w protocol lsc fill lwc symbol outs z =
+    let r = writable number w protocol lsc fill lwc (length symbol) outs z in
     unit-reads (codeOf number) w protocol lsc lwc symbol (omega (arith, r .width)) (omega (arith, few-of number)) (r .label .1)
 
 -- ---- sending
 
 -- the symbol at a position of two buffers, one after the other
-module _ (k m w : ℕ) (info parity : List ℕ) (hi : length info ≡ k * w) (hp : length parity ≡ m * w) where
-  in-first : (i : ℕ) → i < k → symbolAt w (info ++ parity) i ≡ take w (drop (i * w) info)
+module _ (k w : ℕ) (first rest : List ℕ) (size : length first ≡ k * w) where
+  in-first : (i : ℕ) → i < k → symbolAt w (first ++ rest) i ≡ take w (drop (i * w) first)
   in-first i h =
-      let l : i * w ≤ length info = omega (arith, slot i k w h) in
-      let d : w ≤ length (drop (i * w) info) = rw length-drop (omega (arith, slot i k w h)) in
-      rw (drop-append-le (i * w) info parity l, take-append-le w (drop (i * w) info) parity d)
+      let l : i * w ≤ length first = omega (arith, slot i k w h) in
+      let d : w ≤ length (drop (i * w) first) = rw length-drop (omega (arith, slot i k w h)) in
+      rw (drop-append-le (i * w) first rest l, take-append-le w (drop (i * w) first) rest d)
 
-  in-second : (i : ℕ) → k ≤ i → symbolAt w (info ++ parity) i ≡ take w (drop ((i - k) * w) parity)
+  in-second : (i : ℕ) → k ≤ i → symbolAt w (first ++ rest) i ≡ take w (drop ((i - k) * w) rest)
   in-second i h =
-      let n : i * w ≡ length info + (i - k) * w = ap (λ (j : ℕ). j * w) (split i h) ∙ add-mul k (i - k) w ∙ omega arith in
-      rw (n, drop-append-add info parity ((i - k) * w))
+      let n : i * w ≡ length first + (i - k) * w = ap (λ (j : ℕ). j * w) (split i h) ∙ add-mul k (i - k) w ∙ omega arith in
+      rw (n, drop-append-add first rest ((i - k) * w))
     where
       split : (i : ℕ) → k ≤ i → i ≡ k + (i - k)
       split i h = omega arith
 
-  symbol-length : (i : ℕ) → i < k + m → length (symbolAt w (info ++ parity) i) ≡ w
-  symbol-length i h =
-      length-take-le w (drop (i * w) (info ++ parity))
+  symbol-length : (m i : ℕ) → length rest ≡ m * w → i < k + m → length (symbolAt w (first ++ rest) i) ≡ w
+  symbol-length m i l h =
+      length-take-le w (drop (i * w) (first ++ rest))
       (simp (length-drop, length-append) (omega (arith, slot i (k + m) w h, add-mul k m w)))
+
+-- an information symbol that is sent
+in-sent : (k w fill : ℕ) (u rest : List ℕ) → length u ≡ fill * w → (i : ℕ) → i < fill → symbolAt w (padded k w fill u ++ rest) i ≡ take w (drop (i * w) u)
+unfolding padded
+in-sent k w fill u rest l i h =
+    ap (λ (x : List ℕ). symbolAt w x i) (append-assoc u (replicate ((k - fill) * w) 0) rest) ∙ in-first fill w u _ l i h
 
 encoded-length : (c : Params) (w : ℕ) (u : List ℕ) → length (encodeOf c w u) ≡ c .m * w
 unfolding parityBytes
 encoded-length c w u = length-tab (c .m * w) _
 
--- the symbol of a position is shown, and can be written
-module _ (number w position : ℕ) (code : wrongCode number ≡ false) (width : wrongWidth w ≡ false) (below : position < nOf (codeOf number)) where
+back : (position : ℕ) → lwcOf position - 1 ≡ position
+back position = omega arith
+
+idle-of : (k fill position : ℕ) {b : Bool} → isIdle k fill position ≡ b → idleLwc k fill (lwcOf position) ≡ b
+unfolding idleLwc
+idle-of k fill position e = ap (isIdle k fill) (back position) ∙ e
+
+-- a code, a width and a fill that are not refused, and a position
+module _ (number w fill position : ℕ) (code : wrongCode number ≡ false) (width : wrongWidth w ≡ false) (fills : wrongFill (codeOf number .k) fill ≡ false)
+    (below : position < nOf (codeOf number)) where
   right : wrongPosition (nOf (codeOf number)) (lwcOf position) ≡ false
   right = position-is-right (nOf (codeOf number)) (lwcOf position) (omega arith) (omega arith)
 
-  show-admits : (infoLength parityLength : ℕ) → infoLength ≡ codeOf number .k * w → parityLength ≡ codeOf number .m * w
-      → showRefusal number w infoLength parityLength (lwcOf position) ≡ 0
-  unfolding showRefusal firstOf firstIn applies
-  show-admits infoLength parityLength hi hp = rw (code, width, length-same infoLength _ hi, length-same parityLength _ hp, right)
-
-  write-admits : (protocol lsc symbolLength : ℕ) → wrongLabel protocol lsc ≡ false → symbolLength ≡ w
-      → writeRefusal number w protocol lsc (lwcOf position) symbolLength (unitBytes number w) ≡ 0
+  -- it is idle: write refuses it
+  write-refuses : (protocol lsc symbolLength : ℕ) → wrongLabel protocol lsc ≡ false → isIdle (codeOf number .k) fill position ≡ true
+      → writeRefusal number w protocol lsc fill (lwcOf position) symbolLength (unitBytes number w) ≡ 14
   unfolding writeRefusal firstOf firstIn applies
-  write-admits protocol lsc symbolLength label h =
-      rw (code, width, label, length-same _ _ (unit-right number w code width), right, length-same symbolLength w h)
+  write-refuses protocol lsc symbolLength label idle =
+      rw (code, width, label, fills, length-same _ _ (unit-right number w code width), right, idle-of (codeOf number .k) fill position idle)
 
-  shown-is : (info parity : RefT (List ℕ)) → length (info .now) ≡ codeOf number .k * w → length (parity .now) ≡ codeOf number .m * w
-      → showOf number w info parity (lwcOf position) .bytes ≡ symbolAt w (info .now ++ parity .now) position
-  shown-is info parity hi hp = go (decLt position (codeOf number .k))
-    where
-      zero : showRefusal number w (length (info .now)) (length (parity .now)) (lwcOf position) ≡ 0
-      zero = show-admits _ _ hi hp
+  -- it is not: its symbol is shown, and can be written
+  module _ (sent : isIdle (codeOf number .k) fill position ≡ false) where
+    show-admits : (infoLength parityLength : ℕ) → infoLength ≡ fill * w → parityLength ≡ codeOf number .m * w
+        → showRefusal number w fill infoLength parityLength (lwcOf position) ≡ 0
+    unfolding showRefusal firstOf firstIn applies
+    show-admits infoLength parityLength hi hp =
+        rw (code, width, fills, length-same infoLength _ hi, length-same parityLength _ hp, right, idle-of (codeOf number .k) fill position sent)
 
-      back : position + 1 - 1 ≡ position
-      back = omega arith
+    write-admits : (protocol lsc symbolLength : ℕ) → wrongLabel protocol lsc ≡ false → symbolLength ≡ w
+        → writeRefusal number w protocol lsc fill (lwcOf position) symbolLength (unitBytes number w) ≡ 0
+    unfolding writeRefusal firstOf firstIn applies
+    write-admits protocol lsc symbolLength label h =
+        rw (code, width, label, fills, length-same _ _ (unit-right number w code width), right, idle-of (codeOf number .k) fill position sent, length-same symbolLength w h)
 
-      go : Dec (position < codeOf number .k) → showOf number w info parity (lwcOf position) .bytes ≡ symbolAt w (info .now ++ parity .now) position
-      go (yes h) =
-          ap (λ (s : Slice). s .bytes) (shows-information number w info parity (lwcOf position) zero (rw back h))
-          ∙ rw back (sym (in-first (codeOf number .k) (codeOf number .m) w (info .now) (parity .now) hi hp position h))
-      go (no h) =
-          let l : codeOf number .k ≤ position = omega arith in
-          ap (λ (s : Slice). s .bytes) (shows-parity number w info parity (lwcOf position) zero (rw back l))
-          ∙ rw back (sym (in-second (codeOf number .k) (codeOf number .m) w (info .now) (parity .now) hi hp position l))
+    shown-is : (info parity : RefT (List ℕ)) → length (info .now) ≡ fill * w → length (parity .now) ≡ codeOf number .m * w
+        → showOf number w fill info parity (lwcOf position) .bytes ≡ symbolAt w (padded (codeOf number .k) w fill (info .now) ++ parity .now) position
+    shown-is info parity hi hp = go (decLt position k)
+      where
+        k : ℕ
+        k = codeOf number .k
+
+        zero : showRefusal number w fill (length (info .now)) (length (parity .now)) (lwcOf position) ≡ 0
+        zero = show-admits _ _ hi hp
+
+        go : Dec (position < k) → showOf number w fill info parity (lwcOf position) .bytes ≡ symbolAt w (padded k w fill (info .now) ++ parity .now) position
+        go (yes h) =
+            let l : lwcOf position - 1 < k = rw (back position) h in
+            let f : position < fill = rw (back position) at (not-idle k fill (lwcOf position) (idle-of k fill position sent) l) in
+            ap (λ (s : Slice). s .bytes) (shows-information number w fill info parity (lwcOf position) zero l)
+            ∙ rw (back position) (sym (in-sent k w fill (info .now) (parity .now) hi position f))
+        go (no h) =
+            let l : k ≤ position = omega arith in
+            ap (λ (s : Slice). s .bytes) (shows-parity number w fill info parity (lwcOf position) zero (rw (back position) l))
+            ∙ rw (back position)
+            (sym (in-second k w (padded k w fill (info .now)) (parity .now) (padded-length k w fill (info .now) (fill-right k fill fills .1) hi) position l))
 
 pub sends-codeword : SendsCodeword
-sends-codeword number w protocol lsc position info parity code width label below size e =
+sends-codeword number w protocol lsc fill position info parity code width label fills below sent size e =
     let c = codeOf number in
-    let shown = showOf number w info parity (lwcOf position) .bytes in
-    let p : length (parity .now) ≡ c .m * w = ap length e ∙ encoded-length c w (info .now) in
-    let s : shown ≡ symbolAt w (info .now ++ parity .now) position = shown-is number w position code width below info parity size p in
-    let l : length shown ≡ w = ap length s ∙ symbol-length (c .k) (c .m) w (info .now) (parity .now) size p position below in
-    let o = write-admits number w position code width below protocol lsc (length shown) label l in
-    let r = round-trip number w protocol lsc (lwcOf position) shown (unitBytes number w) o in
-    (o, record { read = r .read; rest = r .rest ∙ s ∙ ap (λ (y : List ℕ). symbolAt w (info .now ++ y) position) e })
+    let u = padded (c .k) w fill (info .now) in
+    let shown = showOf number w fill info parity (lwcOf position) .bytes in
+    let p : length (parity .now) ≡ c .m * w = ap length e ∙ encoded-length c w u in
+    let q : length u ≡ c .k * w = padded-length (c .k) w fill (info .now) (fill-right (c .k) fill fills .1) size in
+    let s : shown ≡ symbolAt w (u ++ parity .now) position = shown-is number w fill position code width fills below sent info parity size p in
+    let l : length shown ≡ w = ap length s ∙ symbol-length (c .k) w u (parity .now) q (c .m) position p below in
+    let o = write-admits number w fill position code width fills below sent protocol lsc (length shown) label l in
+    let r = round-trip number w protocol lsc fill (lwcOf position) shown (unitBytes number w) o in
+    (o, record { read = r .read; rest = r .rest ∙ s })
+
+idle-below : (k fill position : ℕ) → isIdle k fill position ≡ true → position < k
+idle-below k fill position e = go (decLt position k)
+  where
+    go : Dec (position < k) → position < k
+    go (yes h) = h
+    go (no h) = absurd (false≢true (sym (is-parity k fill (lwcOf position) (omega arith)) ∙ idle-of k fill position e))
+
+pub idle-not-sent : IdleNotSent
+idle-not-sent number w protocol lsc fill position info parity symbolLength code width label fills idle =
+    let k = codeOf number .k in
+    let h : position < k = idle-below k fill position idle in (
+      shows-none number w fill info parity (lwcOf position) (λ z. false≢true (sym (is-sent k fill (lwcOf position) (showable number w fill _ _ _ z .sent (rw (back position) h))) ∙ idle-of k fill position idle)),
+      write-refuses number w fill position code width fills (omega arith) protocol lsc symbolLength label idle,
+    )
+
+-- with fill k
+none-idle : (k lwc : ℕ) → idleLwc k k lwc ≡ false
+none-idle k lwc = go (decLt (lwc - 1) k)
+  where
+    go : Dec (lwc - 1 < k) → idleLwc k k lwc ≡ false
+    go (yes h) = is-sent k k lwc h
+    go (no h) = is-parity k k lwc (omega arith)
+
+pub sends-full : SendsFull
+unfolding showRefusal writeRefusal firstOf firstIn applies
+sends-full number w protocol lsc lwc infoLength parityLength symbolLength outLength code =
+    let k = codeOf number .k in
+    let v = valid-of number (code-known number code) in
+    let f : wrongFill k k ≡ false = fill-is-right k k (omega (arith, v .large-k)) (omega arith) in
+    (rw (f, none-idle k lwc), rw (f, none-idle k lwc))

@@ -1,21 +1,23 @@
 -- What is claimed of units, beside the contracts. Proved in proofs/: FirstByte and EndsEarly (what decides), UnitClaims and CanonicalUnit.
 -- Assumes nothing.
 use mathlib.Core.Path.{_≡_}
-use mathlib.Core.Bool.{false}
-use mathlib.Core.List.{List, _++_}
+use mathlib.Core.Bool.{true, false}
+use mathlib.Core.List.{List, [], _∷_, _++_}
 use mathlib.Core.Option.{some}
 use Prim.Native.Nat.{ℕ, _+_, _*_, _≤_, _<_}
 use lib.ListN.{length, drop}
 use denote.Ref.{RefT, now}
 use Rattle.ccsds.specs.Codes.{Params, nOf, encodeOf}
 use Rattle.ccsds.specs.Tables.{codeOf}
+use Rattle.ccsds.specs.Fill.{wrongFill, isIdle, padded}
+use Rattle.ccsds.specs.RefusalTable.{numberOf}
 use Rattle.ccsds.specs.RefusalTable as refusal
-use Rattle.ccsds.specs.Refusals.{wrongCode, wrongWidth, wrongLabel, refusedFor, answered}
+use Rattle.ccsds.specs.Refusals.{firstOf, codeConditions, wrongCode, wrongWidth, wrongLabel, wrongLength, wrongPosition, refusedFor, answered}
 use Rattle.ccsds.specs.Reader.{Parts, readUnit}
 use Rattle.algebra.specs.Codeword.{symbolAt}
 use Rattle.wire.specs.Bytes.{OfBytes}
-use Rattle.ccsds.specs.Writer.{unitOf, symbolStart, unitBytes, writeRefusal}
-use Rattle.ccsds.specs.Show.{showOf}
+use Rattle.ccsds.specs.Writer.{unitOf, symbolStart, unitLength, unitBytes, writeRefusal}
+use Rattle.ccsds.specs.Show.{partOf, showRefusal, showOf}
 
 -- The first byte that can't be accepted decides: what a unit's bytes say, read or refused, stays so whatever bytes come after them, unless
 -- they ended early.
@@ -46,7 +48,7 @@ pub record ReadsAs (u : List ℕ) (parts : Parts) (symbol : List ℕ) : Type 0 w
 -- what write writes is read as its parts and its symbol
 abbrev pub RoundTrip : Type 0
 RoundTrip =
-    (number w protocol lsc lwc : ℕ) (symbol : List ℕ) (outLength : ℕ) → writeRefusal number w protocol lsc lwc (length symbol) outLength ≡ 0
+    (number w protocol lsc fill lwc : ℕ) (symbol : List ℕ) (outLength : ℕ) → writeRefusal number w protocol lsc fill lwc (length symbol) outLength ≡ 0
     → ReadsAs (unitOf (codeOf number) w protocol lsc lwc symbol) (partsOf (codeOf number) w protocol lsc lwc) symbol
 
 -- a unit of one extension that is read with a code's parameters is, byte for byte, what write makes of its numbers and its symbol
@@ -60,15 +62,52 @@ CanonicalUnit =
 abbrev pub lwcOf : ℕ → ℕ
 lwcOf position = position + 1
 
--- The information part in one buffer and its parity in the other, a position, and a label: the symbol that show shows for the
--- position's LWC can be written, into an output of the code's size for units, and the unit is read as one with that LWC whose symbol
--- is the codeword's at the position.
+-- The information symbols that are sent in one buffer and the parity in the other, a label, and a position that is not idle: the symbol that
+-- show shows for the position's LWC can be written, into an output of the code's size for units, and the unit is read as one with that LWC
+-- whose symbol is the codeword's at the position.
 abbrev pub SendsCodeword : Type 0
 SendsCodeword =
-    (number w protocol lsc position : ℕ) (info parity : RefT (List ℕ))
-    → wrongCode number ≡ false → wrongWidth w ≡ false → wrongLabel protocol lsc ≡ false → position < nOf (codeOf number)
-    → length (now info) ≡ codeOf number .k * w → now parity ≡ encodeOf (codeOf number) w (now info)
-    → let shown = showOf number w info parity (lwcOf position) .bytes in
-    (writeRefusal number w protocol lsc (lwcOf position) (length shown) (unitBytes number w) ≡ 0)
+    (number w protocol lsc fill position : ℕ) (info parity : RefT (List ℕ))
+    → wrongCode number ≡ false → wrongWidth w ≡ false → wrongLabel protocol lsc ≡ false → wrongFill (codeOf number .k) fill ≡ false
+    → position < nOf (codeOf number) → isIdle (codeOf number .k) fill position ≡ false
+    → length (now info) ≡ fill * w → now parity ≡ encodeOf (codeOf number) w (padded (codeOf number .k) w fill (now info))
+    → let shown = showOf number w fill info parity (lwcOf position) .bytes in
+    (writeRefusal number w protocol lsc fill (lwcOf position) (length shown) (unitBytes number w) ≡ 0)
     × ReadsAs (unitOf (codeOf number) w protocol lsc (lwcOf position) shown) (partsOf (codeOf number) w protocol lsc (lwcOf position))
-    (symbolAt w (now info ++ encodeOf (codeOf number) w (now info)) position)
+    (symbolAt w (padded (codeOf number .k) w fill (now info) ++ now parity) position)
+
+-- An idle position is never sent: show has the empty part for its LWC, whatever the buffers are, and write refuses it, whatever the symbol is.
+abbrev pub IdleNotSent : Type 0
+IdleNotSent =
+    (number w protocol lsc fill position : ℕ) (info parity : RefT (List ℕ)) (symbolLength : ℕ)
+    → wrongCode number ≡ false → wrongWidth w ≡ false → wrongLabel protocol lsc ≡ false → wrongFill (codeOf number .k) fill ≡ false
+    → isIdle (codeOf number .k) fill position ≡ true
+    → (showOf number w fill info parity (lwcOf position) ≡ partOf info 0 0)
+    × (writeRefusal number w protocol lsc fill (lwcOf position) symbolLength (unitBytes number w) ≡ numberOf refusal.idle)
+
+-- With fill k no position is idle: show and write turn down what document 01 says, by its lists, which know neither 13 nor 14.
+abbrev pub SendsFull : Type 0
+SendsFull =
+    (number w protocol lsc lwc infoLength parityLength symbolLength outLength : ℕ) → wrongCode number ≡ false
+    → let c = codeOf number in
+    (
+    showRefusal number w (c .k) infoLength parityLength lwc
+    ≡ firstOf (
+    codeConditions number w
+    ++ (refusal.length, wrongLength infoLength (c .k * w))
+    ∷ (refusal.length, wrongLength parityLength (c .m * w))
+    ∷ (refusal.position, wrongPosition (nOf c) lwc)
+    ∷ []
+    )
+    )
+    × (
+    writeRefusal number w protocol lsc (c .k) lwc symbolLength outLength
+    ≡ firstOf (
+    codeConditions number w
+    ++ (refusal.label, wrongLabel protocol lsc)
+    ∷ (refusal.length, wrongLength outLength (unitLength c w))
+    ∷ (refusal.position, wrongPosition (nOf c) lwc)
+    ∷ (refusal.symbol, wrongLength symbolLength w)
+    ∷ []
+    )
+    )
