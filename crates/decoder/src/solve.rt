@@ -16,14 +16,14 @@ use pivot_equations::restore;
 ghost use mathlib.Core.Path.{_≡_};
 ghost use mathlib.Core.Bool.{true};
 ghost use mathlib.Core.List.{List};
-ghost use Prim.Native.Nat.{ℕ, _+_, _*_, _/_, _<_};
+ghost use Prim.Native.Nat.{ℕ, _+_, _*_, _/_, _<_, _≤_};
 ghost use lib.ListN.{length, replicate};
-ghost use Rattle.ccsds.specs.Codes.{nOf, checksOf};
+ghost use Rattle.ccsds.specs.Codes.{nOf};
 ghost use Rattle.ccsds.specs.Tables.{codeOf, Known};
 ghost use Rattle.elimination.specs.System.{SameSolutions};
 ghost use Rattle.elimination.specs.Reduced.{Reduced};
 ghost use Rattle.elimination.specs.Consistency.{Consistent, ConsistentIs};
-ghost use Rattle.encoder.specs.inner.Positions.{checks, Table};
+ghost use Rattle.encoder.specs.inner.Positions.{checks, sentChecks, Table};
 ghost use Rattle.peeling.specs.Plan.{Unsolved, planSize};
 ghost use Rattle.peeling.specs.Values.{Peeled};
 ghost use Rattle.pivot_equations.specs.Express.{StepsExpressed, RestExpressed, Planned, Room};
@@ -209,31 +209,35 @@ fn blank() -> [u16; PLAN_SIZE]
     [0u16; PLAN_SIZE]
 }
 
-// Fills the symbols of a block that its known symbols determine, with state 2, and clears the others that are missing; false where no codeword agrees
+// Fills the symbols of a block of this fill that its known symbols determine, with state 2, and clears the others that are missing; false where no codeword agrees
 // with the known symbols.
 pub fn solve(
     number: usize,
     w: usize,
+    fill: usize,
     symbols: &mut [u8],
     states: &mut [u8],
     words: &mut [u64],
     bytes: &mut [u8],
 ) -> bool
-    requires { ⌜ Known number × (0 < w) ⌝ }
+    requires { ⌜ Known number × (0 < w) × (fill ≤ codeOf number .k) ⌝ }
     requires { ⌜ (length (now symbols) ≡ nOf (codeOf number) * w) × (length (now states) ≡ nOf (codeOf number)) ⌝ }
     requires { ⌜ (length (now words) ≡ codeOf number .m * (nOf (codeOf number) / 64 + 1)) × (length (now bytes) ≡ codeOf number .m * w) ⌝ }
-    ensures { λ ok. ⌜ Decoded (checksOf (codeOf number)) w (now (symbols .entry)) (now (states .entry)) (now (symbols .exit)) (now (states .exit)) ok ⌝ }
+    ensures { λ ok. ⌜ Decoded (sentChecks (codeOf number) fill) w (now (symbols .entry)) (now (states .entry)) (now (symbols .exit)) (now (states .exit)) ok ⌝ }
 {
     let mut flat = positions::no_addresses();
     let l = tables::layout_of(number);
+    let rows = positions::rows_to(fill, l.q);
     let s = Shape {
         number: number,
         layout: l,
         w: w,
+        fill: fill,
+        rows: rows,
     };
     let mut table = positions::blank();
     let mut plan = blank();
-    positions::lay(number, l, &mut flat, &mut table);
+    positions::lay(s, &mut flat, &mut table);
     let g = peel::peel(s, &table, states, &mut plan, symbols);
     if g.pivots == 0 {
         return by_steps(s, g, &table, &plan, symbols, states);

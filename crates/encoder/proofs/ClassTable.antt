@@ -11,8 +11,8 @@ use native.Mathlib.Decide.{decLt}
 use native.Mathlib.Numerals.{add-one}
 use native.Mathlib.Omega.{arith}
 use lib.Dec.{T, eqb, ltb, leb, leb→le}
-use lib.ListN.{length, getD, set, take, replicate, length-set, length-append, length-replicate, getD-replicate, List·getD-append}
-use lib.Seq.{getD-set-same, getD-set-other, getD-append-seam, take-suc, take-length, length-take-le}
+use lib.ListN.{length, getD, set, take, drop, replicate, length-set, length-append, length-replicate, getD-replicate, take-append-drop, List·getD-append}
+use lib.Seq.{getD-set-same, getD-set-other, getD-append-seam, getD-append-add, take-suc, take-length, length-take-le}
 use borrow.Author.Tests.{lt-ltb, le-ltb, eq-eqb, eqb-true}
 use Rattle.algebra.proofs.Codeword.{slot}
 use Rattle.ccsds.specs.Codes.{Params}
@@ -21,7 +21,7 @@ use Rattle.ccsds.specs.inner.Layout.{maxN}
 use Rattle.ccsds.specs.Tables.{codeOf, codes, Known, c1, c2, c4, c5, c7, c8, rows1, rows2, rows4, rows5, rows7, rows8}
 use Rattle.ccsds.proofs.Table.{every, upTo, in-range, both-left, both-right}
 use Rattle.ccsds.proofs.Valid.{Valid, valid-of, each-of, some-a, address-lt}
-use Rattle.encoder.specs.inner.Positions.{Entry, entryIf, classIn, classFrom, classOf, firstAt, endAt, countAt, addressAt, entryPut, entryAdded, entered, rowEntered, tableEntered, EntryBounds, Classes, maxClasses, tableSize}
+use Rattle.encoder.specs.inner.Positions.{Entry, entryIf, classIn, classFrom, classOf, firstAt, endAt, countAt, addressAt, entryPut, entryAdded, entered, rowEntered, tableEntered, entriesOf, EntryBounds, Classes, maxClasses, tableSize}
 use Rattle.encoder.proofs.Touched.{quotient-lt}
 
 -- ---- one address
@@ -218,6 +218,48 @@ classes-join a r row (x ∷ xs) ys =
     ap (λ (l : List Entry). classIn a r row x ++ l) (classes-join a r (suc row) xs ys ∙ ap (λ (n : ℕ). classFrom a r (suc row) xs ++ classFrom a r n ys) (suc-add row (length xs) ∙ sym (add-suc row (length xs))))
     ∙ sym (append-assoc (classIn a r row x) (classFrom a r (suc row) xs) (classFrom a r (row + suc (length xs)) ys))
 
+-- the entries of the first table rows come first
+module _ (c : Params) (r rows : ℕ) where
+  abbrev front : List Entry
+  front = classFrom (c .a) r 0 (take rows (c .rows))
+
+  abbrev behind : List Entry
+  behind = classFrom (c .a) r (length (take rows (c .rows))) (drop rows (c .rows))
+
+  pub class-parts : classOf c r ≡ front ++ behind
+  unfolding classOf
+  class-parts =
+      ap (classFrom (c .a) r 0) (sym (take-append-drop rows (c .rows))) ∙ classes-join (c .a) r 0 (take rows (c .rows)) (drop rows (c .rows))
+      ∙ ap (λ (n : ℕ). front ++ classFrom (c .a) r n (drop rows (c .rows))) (zero-add (length (take rows (c .rows))))
+
+  pub entries-few : entriesOf c r rows ≤ length (classOf c r)
+  entries-few = omega (arith, ap length class-parts, length-append front behind)
+
+  pub entry-front : (i : ℕ) → i < entriesOf c r rows → getD front i (0, 0) ≡ getD (classOf c r) i (0, 0)
+  entry-front i h = sym (ap (λ (l : List Entry). getD l i (0, 0)) class-parts ∙ List·getD-append front behind (0, 0) i h)
+
+  pub entry-behind : (i : ℕ) → entriesOf c r rows ≤ i → i < length (classOf c r)
+      → (d : ℕ) × ((d < length behind) × (getD (classOf c r) i (0, 0) ≡ getD behind d (0, 0)))
+  entry-behind i h l =
+      let e : entriesOf c r rows + (i - entriesOf c r rows) ≡ i = omega arith in (
+        i - entriesOf c r rows,
+        (
+          omega (arith, ap length class-parts, length-append front behind),
+          ap (λ (n : ℕ). getD (classOf c r) n (0, 0)) (sym e) ∙ ap (λ (k : List Entry). getD k (entriesOf c r rows + (i - entriesOf c r rows)) (0, 0)) class-parts
+              ∙ getD-append-add front behind (i - entriesOf c r rows) (0, 0),
+        ),
+      )
+
+-- one table row more
+pub class-row : (c : Params) (r n : ℕ) → n < length (c .rows)
+    → classFrom (c .a) r 0 (take (suc n) (c .rows)) ≡ classFrom (c .a) r 0 (take n (c .rows)) ++ classIn (c .a) r n (getD (c .rows) n [])
+unfolding classFrom
+class-row c r n k =
+    let ys = getD (c .rows) n [] in
+    ap (classFrom (c .a) r 0) (take-suc (c .rows) n [] k) ∙ classes-join (c .a) r 0 (take n (c .rows)) (ys ∷ [])
+    ∙ ap (λ (i : ℕ). classFrom (c .a) r 0 (take n (c .rows)) ++ (classIn (c .a) r i ys ++ [])) (zero-add (length (take n (c .rows))) ∙ length-take-le n (c .rows) (omega arith))
+    ∙ ap (λ (x : List Entry). classFrom (c .a) r 0 (take n (c .rows)) ++ x) (append-nil (classIn (c .a) r n ys))
+
 module _ (c : Params) (v : Valid c) (few : c .a ≤ maxClasses) (r : ℕ) (hr : r < maxClasses) where
   row-held : (row : ℕ) (t : List ℕ) (l : List Entry) → length t ≡ tableSize → row < length (c .rows) → (length l ≤ maxPositions → Held (c .q) r l t)
       → (n : ℕ) → n ≤ length (getD (c .rows) row [])
@@ -244,9 +286,7 @@ module _ (c : Params) (v : Valid c) (few : c .a ≤ maxClasses) (r : ℕ) (hr : 
   table-held t e (suc n) k =
       let ys = getD (c .rows) n [] in
       let f : classFrom (c .a) r 0 (take (suc n) (c .rows)) ≡ classFrom (c .a) r 0 (take n (c .rows)) ++ classIn (c .a) r n (take (length ys) ys) =
-      ap (classFrom (c .a) r 0) (take-suc (c .rows) n [] k) ∙ classes-join (c .a) r 0 (take n (c .rows)) (ys ∷ [])
-      ∙ ap (λ (i : ℕ). classFrom (c .a) r 0 (take n (c .rows)) ++ (classIn (c .a) r i ys ++ [])) (zero-add (length (take n (c .rows))) ∙ length-take-le n (c .rows) (omega arith))
-      ∙ ap (λ (x : List Entry). classFrom (c .a) r 0 (take n (c .rows)) ++ x) (append-nil (classIn (c .a) r n ys) ∙ ap (classIn (c .a) r n) (sym (take-length ys))) in
+      class-row c r n k ∙ ap (λ (x : List ℕ). classFrom (c .a) r 0 (take n (c .rows)) ++ classIn (c .a) r n x) (sym (take-length ys)) in
       subst⁻¹ (λ (x : List Entry). length x ≤ maxPositions → Held (c .q) r x (tableEntered c (suc n) t)) f
       (row-held n (tableEntered c n t) (classFrom (c .a) r 0 (take n (c .rows))) (table-size c t n ∙ ap length e ∙ length-replicate {A = ℕ} tableSize 0) k (table-held t e n (omega arith)) (length ys) (omega arith))
 
@@ -275,15 +315,14 @@ module _ (number : ℕ) (known : Known number) where
       (subst (λ (n : ℕ). T (leb (length (classOf c n) + 2) maxPositions)) (zero-add r)
       (in-range (λ s. leb (length (classOf c s) + 2) maxPositions) (c .a) 0 (both-right (leb (c .a) maxClasses) (upTo (λ s. leb (length (classOf c s) + 2) maxPositions) 0 (c .a)) sizes) r h))
 
-  class : (t : List ℕ) → t ≡ replicate tableSize 0 → (r : ℕ) → r < c .a → Held (c .q) r (classOf c r) (tableEntered c (length (c .rows)) t)
-  unfolding classOf
-  class t e r h =
-      let all : take (length (c .rows)) (c .rows) ≡ c .rows = take-length (c .rows) in
-      let held = table-held c (valid-of number known) few-classes r (omega (arith, few-classes)) t e (length (c .rows)) (omega arith) in
-      (subst (λ (x : List (List ℕ)). length (classFrom (c .a) r 0 x) ≤ maxPositions → Held (c .q) r (classFrom (c .a) r 0 x) (tableEntered c (length (c .rows)) t)) all held) (omega (arith, few-entries r h))
-
-  pub all-laid : (rows : ℕ) {s t : List ℕ} → rows ≡ length (c .rows) → s ≡ replicate tableSize 0 → t ≡ tableEntered c rows s → length t ≡ tableSize → Classes c t
+  pub all-laid : (rows : ℕ) {s t : List ℕ} → rows ≤ length (c .rows) → s ≡ replicate tableSize 0 → t ≡ tableEntered c rows s → length t ≡ tableSize → Classes c rows t
   all-laid rows {s} {t} k hs h size =
-      let e : tableEntered c (length (c .rows)) s ≡ t = sym (h ∙ ap (λ (i : ℕ). tableEntered c i s) k) in
-      let held : (r : ℕ) → r < c .a → Held (c .q) r (classOf c r) t = λ r g. subst (Held (c .q) r (classOf c r)) e (class s hs r g) in
-      record { few = record { classes = few-classes; entries = few-entries }; size = size; counts = λ r g. held r g .count; each = λ r g i j. held r g .each i j }
+      let held : (r : ℕ) → r < c .a → Held (c .q) r (classFrom (c .a) r 0 (take rows (c .rows))) t =
+      λ r g. subst⁻¹ (Held (c .q) r (classFrom (c .a) r 0 (take rows (c .rows)))) h
+      (table-held c (valid-of number known) few-classes r (omega (arith, few-classes)) s hs rows k (omega (arith, few-entries r g, entries-few c r rows))) in
+      record {
+        few = record { classes = few-classes; entries = few-entries };
+        size = size;
+        counts = λ r g. held r g .count;
+        each = λ r g i j. bounds-kept (sym (entry-front c r rows i j)) refl refl (held r g .each i j);
+      }

@@ -1,5 +1,6 @@
 pub mod Cycle
 pub mod Touched
+pub mod Sent
 pub mod ClassTable
 pub mod WholeRow
 pub mod Parity

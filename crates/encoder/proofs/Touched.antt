@@ -4,7 +4,7 @@ use mathlib.Core.Path.{_≡_, refl, sym, ap, ap₂, _∙_, subst}
 use mathlib.Core.Bool.{Bool, true, false, xor, _||_, false≢true}
 use mathlib.Core.List.{List, [], _∷_, _++_, map}
 use Prim.Native.Nat.{ℕ, zero, suc, _+_, _-_, _*_, _/_, _%_, _<_, _≤_}
-use native.Mathlib.Nat.{not-suc-le-zero, le-of-suc-le-suc, mod-lt, div-add-mod', div-lt-iff-lt-mul, add-mul}
+use native.Mathlib.Nat.{zero-add, not-suc-le-zero, le-of-suc-le-suc, mod-lt, div-add-mod', div-lt-iff-lt-mul, add-mul}
 use native.Mathlib.Decide.{ℕ-discrete}
 use native.Mathlib.Omega.{arith}
 use lib.Arith.{digits-div, digits-mod, digits-lt}
@@ -79,7 +79,7 @@ folded op f [] j = false
 folded op f (y ∷ ys) j = op (eqb (f y) j) (folded op f ys j)
 
 -- all are below m
-abbrev Below : ℕ → List ℕ → Type 0
+abbrev pub Below : ℕ → List ℕ → Type 0
 Below m [] = Unit {0}
 Below m (y ∷ ys) = (y < m) × Below m ys
 
@@ -114,46 +114,57 @@ module _ (op : Bool → Bool → Bool) (unit : (b : Bool) → op false b ≡ b) 
 
 -- ---- entries
 
--- a table row below n, and a quotient below q
-abbrev Good : ℕ → ℕ → List Entry → Type 0
-Good n q [] = Unit {0}
-Good n q (e ∷ es) = ((e .0 < n) × (e .1 < q)) × Good n q es
+-- every entry has the property
+abbrev All : (Entry → Type 0) → List Entry → Type 0
+All P [] = Unit {0}
+All P (e ∷ es) = P e × All P es
 
-good-join : (n q : ℕ) (l k : List Entry) → Good n q l → Good n q k → Good n q (l ++ k)
-good-join n q [] k a b = b
-good-join n q (e ∷ l) k a b = (a .0, good-join n q l k (a .1) b)
+all-join : (P : Entry → Type 0) (l k : List Entry) → All P l → All P k → All P (l ++ k)
+all-join P [] k a b = b
+all-join P (e ∷ l) k a b = (a .0, all-join P l k (a .1) b)
 
-good-at : (n q : ℕ) (l : List Entry) → Good n q l → (i : ℕ) → i < length l → (getD l i (0, 0) .0 < n) × (getD l i (0, 0) .1 < q)
-good-at n q [] g i h = absurd (not-suc-le-zero h)
-good-at n q (e ∷ l) g zero h = g .0
-good-at n q (e ∷ l) g (suc i) h = good-at n q l (g .1) i (le-of-suc-le-suc h)
+all-at : (P : Entry → Type 0) (l : List Entry) → All P l → (i : ℕ) → i < length l → P (getD l i (0, 0))
+all-at P [] g i h = absurd (not-suc-le-zero h)
+all-at P (e ∷ l) g zero h = g .0
+all-at P (e ∷ l) g (suc i) h = all-at P l (g .1) i (le-of-suc-le-suc h)
+
+-- a table row from `from` on and below n, and a quotient below q
+abbrev Good : ℕ → ℕ → ℕ → Entry → Type 0
+Good from n q e = (from ≤ e .0) × (e .0 < n) × (e .1 < q)
 
 module _ (c : Params) (v : Valid c) where
   -- every address is below m
-  table-below : (row : ℕ) → row < length (c .rows) → Below (c .m) (getD (c .rows) row [])
+  pub table-below : (row : ℕ) → row < length (c .rows) → Below (c .m) (getD (c .rows) row [])
   table-below row h = below-of (c .m) (getD (c .rows) row []) (address-lt c v row h)
 
   module _ (r : ℕ) where
-    classIn-good : (n row : ℕ) (ys : List ℕ) → row < n → Below (c .m) ys → Good n (c .q) (classIn (c .a) r row ys)
-    unfolding classIn
-    classIn-good n row [] h b = tt
-    classIn-good n row (y ∷ ys) h b = go (eqb (y % c .a) r) (classIn-good n row ys h (b .1))
-      where
-        go : (t : Bool) → Good n (c .q) (classIn (c .a) r row ys) → Good n (c .q) (entryIf t (row, y / c .a) (classIn (c .a) r row ys))
-        go true g = ((h, quotient-lt c v y (b .0)), g)
-        go false g = g
+    module _ (from n : ℕ) where
+      classIn-good : (row : ℕ) (ys : List ℕ) → from ≤ row → row < n → Below (c .m) ys → All (Good from n (c .q)) (classIn (c .a) r row ys)
+      unfolding classIn
+      classIn-good row [] l h b = tt
+      classIn-good row (y ∷ ys) l h b = go (eqb (y % c .a) r) (classIn-good row ys l h (b .1))
+        where
+          go : (t : Bool) → All (Good from n (c .q)) (classIn (c .a) r row ys) → All (Good from n (c .q)) (entryIf t (row, y / c .a) (classIn (c .a) r row ys))
+          go true g = ((l, h, quotient-lt c v y (b .0)), g)
+          go false g = g
 
-    classFrom-good : (n row : ℕ) (rest : List (List ℕ)) → row + length rest ≤ n → ((i : ℕ) → i < length rest → Below (c .m) (getD rest i []))
-        → Good n (c .q) (classFrom (c .a) r row rest)
-    unfolding classFrom
-    classFrom-good n row [] h b = tt
-    classFrom-good n row (ys ∷ rest) h b =
-        good-join n (c .q) (classIn (c .a) r row ys) (classFrom (c .a) r (suc row) rest) (classIn-good n row ys (omega arith) (b 0 (omega arith)))
-        (classFrom-good n (suc row) rest (omega arith) (λ i g. b (suc i) (omega arith)))
+      classFrom-good : (row : ℕ) (rest : List (List ℕ)) → from ≤ row → row + length rest ≤ n → ((i : ℕ) → i < length rest → Below (c .m) (getD rest i []))
+          → All (Good from n (c .q)) (classFrom (c .a) r row rest)
+      unfolding classFrom
+      classFrom-good row [] l h b = tt
+      classFrom-good row (ys ∷ rest) l h b =
+          all-join (Good from n (c .q)) (classIn (c .a) r row ys) (classFrom (c .a) r (suc row) rest) (classIn-good row ys l (omega arith) (b 0 (omega arith)))
+          (classFrom-good (suc row) rest (omega arith) (omega arith) (λ i g. b (suc i) (omega arith)))
 
-    pub entry-good : (i : ℕ) → i < length (classOf c r) → (getD (classOf c r) i (0, 0) .0 < length (c .rows)) × (getD (classOf c r) i (0, 0) .1 < c .q)
+    -- the entries of some rows of the table
+    pub entry-good : (row : ℕ) (rest : List (List ℕ)) → ((i : ℕ) → i < length rest → Below (c .m) (getD rest i [])) → (i : ℕ) → i < length (classFrom (c .a) r row rest)
+        → Good row (row + length rest) (c .q) (getD (classFrom (c .a) r row rest) i (0, 0))
+    entry-good row rest b i h =
+        all-at (Good row (row + length rest) (c .q)) (classFrom (c .a) r row rest) (classFrom-good row (row + length rest) row rest (omega arith) (omega arith) b) i h
+
+    pub class-good : (i : ℕ) → i < length (classOf c r) → Good 0 (length (c .rows)) (c .q) (getD (classOf c r) i (0, 0))
     unfolding classOf
-    entry-good i h = good-at (length (c .rows)) (c .q) (classFrom (c .a) r 0 (c .rows)) (classFrom-good (length (c .rows)) 0 (c .rows) (omega arith) table-below) i h
+    class-good i h = subst (λ (n : ℕ). Good 0 n (c .q) (getD (classFrom (c .a) r 0 (c .rows)) i (0, 0))) (zero-add (length (c .rows))) (entry-good 0 (c .rows) table-below i h)
 
 -- ---- the table
 
@@ -218,6 +229,18 @@ module _ (c : Params) (v : Valid c) (op : Bool → Bool → Bool) (unit : (b : B
   unfolding positions classOf rowOf
   positions-folded = from-row 0 (c .rows) (table-below c v) (x / c .q) (omega arith)
 
+-- ---- what a list has stands somewhere
+
+pub hit-at : (l : List ℕ) (x : ℕ) → hits (λ z. z) l x ≡ true → (i : ℕ) × ((i < length l) × (getD l i 0 ≡ x))
+unfolding hits
+hit-at [] x h = absurd (false≢true h)
+hit-at (y ∷ l) x h = go (eqb y x) refl h (hit-at l x)
+  where
+    go : (b : Bool) → eqb y x ≡ b → (b || hits (λ z. z) l x) ≡ true → (hits (λ z. z) l x ≡ true → (i : ℕ) × ((i < length l) × (getD l i 0 ≡ x)))
+        → (i : ℕ) × ((i < length (y ∷ l)) × (getD (y ∷ l) i 0 ≡ x))
+    go true e g r = (0, (omega arith, eqb-true y x e))
+    go false e g r = let s = r g in (suc (s .0), (omega (arith, s .1 .0), s .1 .1))
+
 -- ---- so their sum is the check row's
 
 hits-folded : (f : ℕ → ℕ) (ys : List ℕ) (j : ℕ) → hits f ys j ≡ folded _||_ f ys j
@@ -267,7 +290,7 @@ module _ (c : Params) (v : Valid c) (j : ℕ) where
       let e : Entry = getD (classOf c (j % c .a)) i (0, 0) in
       subst (λ (n : ℕ). getD (positions c j) i 0 < n) (v .whole)
       (subst (λ (n : ℕ). n < length (c .rows) * c .q) (sym (positions-each i g))
-      (digits-lt (entry-good c v (j % c .a) i g .0) (mod-lt (c .q - e .1 + j / c .a) (v .some-q))))
+      (digits-lt (class-good c v (j % c .a) i g .1) (mod-lt (c .q - e .1 + j / c .a) (v .some-q))))
 
   module _ (hj : j < c .m) where
     -- The positions of check row j: x below k is one of them just when it touches j.
@@ -290,23 +313,20 @@ module _ (c : Params) (v : Valid c) (r s : ℕ) (hr : r < c .a) (hs : s < c .q) 
   pub row-lt′ : s * c .a + r < c .m
   row-lt′ = subst (λ (n : ℕ). s * c .a + r < n) (v .step) (digits-lt hs hr)
 
-  pub row-count : length (positions c (s * c .a + r)) ≡ length (classOf c r)
-  row-count = positions-count c v (s * c .a + r) ∙ ap (λ (n : ℕ). length (classOf c n)) (digits-mod s hr)
-
   module _ (i : ℕ) (hi : i < length (classOf c r)) {first end : ℕ} (p : EntryBounds (c .q) (getD (classOf c r) i (0, 0)) first end) where
     pub entry-fits : WithinRow first end (c .q) s
     entry-fits =
-        let g = entry-good c v r i hi in
+        let g = class-good c v r i hi in
         let e : Entry = getD (classOf c r) i (0, 0) in
-        let b : e .0 * c .q + c .q ≤ c .k = omega (arith, slot (e .0) (length (c .rows)) (c .q) (g .0), v .whole) in
-        record { start = (omega (arith, p .start), omega (arith, p .start, g .1)); row = (omega (arith, p .last), omega (arith, p .last, v .few)); step = hs }
+        let b : e .0 * c .q + c .q ≤ c .k = omega (arith, slot (e .0) (length (c .rows)) (c .q) (g .1), v .whole) in
+        record { start = (omega (arith, p .start), omega (arith, p .start, g .2)); row = (omega (arith, p .last), omega (arith, p .last, v .few)); step = hs }
 
     pub row-each : end - c .q + (first + c .q - end + s) % c .q ≡ getD (positions c (s * c .a + r)) i 0
     row-each =
         let e : Entry = getD (classOf c r) i (0, 0) in
-        let g = entry-good c v r i hi in
+        let g = class-good c v r i hi in
         let a : end - c .q ≡ e .0 * c .q = omega (arith, p .last) in
-        let b : first + c .q - end ≡ c .q - e .1 = omega (arith, p .start, g .1) in
+        let b : first + c .q - end ≡ c .q - e .1 = omega (arith, p .start, g .2) in
         let m : r ≡ (s * c .a + r) % c .a = sym (digits-mod s hr) in
         let d : s ≡ (s * c .a + r) / c .a = sym (digits-div s hr) in
         ap₂ (λ (x y : ℕ). x + (y + s) % c .q) a b

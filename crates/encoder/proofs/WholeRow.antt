@@ -1,18 +1,18 @@
 -- The positions of a check row in an array: the information positions, and then those of the parity symbols.
 -- Assumes nothing.
 use mathlib.Core.Path.{_≡_, refl, sym, ap, ap₂, _∙_, subst, subst⁻¹}
-use mathlib.Core.Bool.{Bool, true, false, _||_, false≢true}
-use mathlib.Core.List.{List, [], _∷_}
+use mathlib.Core.Bool.{Bool, true, false, _&&_, _||_, false≢true}
+use mathlib.Core.List.{List}
 use Prim.Native.Nat.{ℕ, zero, suc, _+_, _-_, _*_, _<_, _≤_}
 use native.Mathlib.Nat.{not-suc-le-zero}
 use native.Mathlib.Decide.{decLt}
 use native.Mathlib.Numerals.{add-one}
 use native.Mathlib.Omega.{arith}
-use lib.Dec.{eqb}
-use lib.ListN.{length, getD, set, length-set}
+use lib.Dec.{eqb, ltb}
+use lib.ListN.{getD, set, length-set}
 use lib.Seq.{getD-set-same, getD-set-other}
-use borrow.Author.Tests.{eqb-true}
-use Rattle.algebra.specs.Sums.{_⊕_, sum}
+use borrow.Author.Tests.{eqb-true, ltb-true, lt-ltb, le-ltb}
+use Rattle.algebra.specs.Sums.{_⊕_, pick, sum}
 use Rattle.algebra.specs.Lists.{tab}
 use Rattle.algebra.specs.Codeword.{byteAt, rowSum}
 use Rattle.algebra.specs.Staircase.{stair, staircase, before}
@@ -20,10 +20,9 @@ use Rattle.algebra.proofs.Sums as sums
 use Rattle.algebra.proofs.Lists.{getD-tab}
 use Rattle.algebra.proofs.Staircase.{has-info, has-parity, check-row}
 use Rattle.symbol_sums.specs.Gather.{gathered}
-use Rattle.ccsds.specs.Codes.{Params, hits, touches, checksOf}
-use Rattle.encoder.specs.inner.Positions.{positions, Information, RowOf}
-use Rattle.ccsds.proofs.Valid.{Valid}
-use Rattle.encoder.proofs.Touched.{positions-lt, positions-touch, positions-sum}
+use Rattle.ccsds.specs.Codes.{Params, touches}
+use Rattle.encoder.specs.inner.Positions.{sentChecks, Information, RowOf}
+use Rattle.encoder.proofs.Sent.{sum-front}
 
 -- ---- a check row's sum, for any numbers at the positions
 
@@ -47,120 +46,117 @@ before-at : (p : ℕ → ℕ) (j : ℕ) → 0 < j → before p j ≡ p (j - 1)
 before-at p zero h = absurd (not-suc-le-zero h)
 before-at p (suc j) h = let e : j ≡ suc j - 1 = omega arith in ap p e
 
--- ---- what a row has stands somewhere
-
-hit-at : (l : List ℕ) (x : ℕ) → hits (λ z. z) l x ≡ true → (i : ℕ) × ((i < length l) × (getD l i 0 ≡ x))
-unfolding hits
-hit-at [] x h = absurd (false≢true h)
-hit-at (y ∷ l) x h = go (eqb y x) refl h (hit-at l x)
-  where
-    go : (b : Bool) → eqb y x ≡ b → (b || hits (λ z. z) l x) ≡ true → (hits (λ z. z) l x ≡ true → (i : ℕ) × ((i < length l) × (getD l i 0 ≡ x)))
-        → (i : ℕ) × ((i < length (y ∷ l)) × (getD (y ∷ l) i 0 ≡ x))
-    go true e g r = (0, (omega arith, eqb-true y x e))
-    go false e g r = let s = r g in (suc (s .0), (omega (arith, s .1 .0), s .1 .1))
-
 -- ---- the information positions
 
-pub information-at : {c : Params} {i j n : ℕ} {xs : List ℕ} → Information c i n xs → i ≡ j → Information c j n xs
-information-at {c} {n = n} {xs} r e = subst (λ (k : ℕ). Information c k n xs) e r
+module _ {c : Params} {fill : ℕ} where
+  pub information-at : {i j n : ℕ} {xs : List ℕ} → Information c fill i n xs → i ≡ j → Information c fill j n xs
+  information-at {n = n} {xs} r e = subst (λ (k : ℕ). Information c fill k n xs) e r
 
-module _ (c : Params) (v : Valid c) {j n : ℕ} {xs : List ℕ} (r : Information c j n xs) where
-  pub information-lt : (i : ℕ) → i < n → getD xs i 0 < c .k
-  information-lt i h = subst⁻¹ (λ (x : ℕ). x < c .k) (r .each i h) (positions-lt c v j i (omega (arith, r .count)))
-
-  pub information-kept : (i x : ℕ) → n ≤ i → Information c j n (set xs i x)
-  information-kept i x h = record {
+  pub information-kept : {j n : ℕ} {xs : List ℕ} → Information c fill j n xs → (i x : ℕ) → n ≤ i → Information c fill j n (set xs i x)
+  information-kept {j} {n} {xs} r i x h = record {
     size = length-set xs i x ∙ r .size;
     few = r .few;
-    count = r .count;
-    each = λ y g. getD-set-other xs i y x 0 (λ e. omega arith) ∙ r .each y g;
+    below = λ y g. subst⁻¹ (λ (p : ℕ). p < fill) (same y g) (r .below y g);
+    found = λ p l t. let s = r .found p l t in (s .0, (s .1 .0, same (s .0) (s .1 .0) ∙ s .1 .1));
+    total = λ f. sums.sum-ext (λ y. true) (λ y. f (getD (set xs i x) y 0)) (λ y. f (getD xs y 0)) n (λ y g. ap f (same y g)) ∙ r .total f;
   }
+    where
+      same : (y : ℕ) → y < n → getD (set xs i x) y 0 ≡ getD xs y 0
+      same y g = getD-set-other xs i y x 0 (λ e. omega arith)
 
-  module _ (hj : j < c .m) where
-    pub information-sum : (f : ℕ → ℕ) → gathered f xs n ≡ sum (λ x. touches c x j) f (c .k)
-    information-sum f =
-        sums.sum-ext (λ i. true) (λ i. f (getD xs i 0)) (λ i. f (getD (positions c j) i 0)) n (λ i g. ap f (r .each i g))
-        ∙ ap (gathered f (positions c j)) (r .count) ∙ positions-sum c v j hj f
+-- whether information symbol x is sent and touches check row j
+abbrev sent : Params → ℕ → ℕ → ℕ → Bool
+sent c fill j x = ltb x fill && touches c x j
 
-    -- ---- with the parity symbol behind them
+-- the sum of those that are
+sent-sum : (c : Params) (fill j : ℕ) (f : ℕ → ℕ) → fill ≤ c .k → sum (sent c fill j) f (c .k) ≡ sum (λ x. touches c x j) f fill
+sent-sum c fill j f most =
+    sum-front (sent c fill j) f fill (c .k) most (λ p h l. ap (λ (b : Bool). pick (b && touches c p j) (f p)) (le-ltb p fill h))
+    ∙ sums.sum-tests (sent c fill j) (λ x. touches c x j) f fill (λ p l. ap (λ (b : Bool). b && touches c p j) (lt-ltb p fill l))
 
-    module _ (own : getD xs n 0 ≡ c .k + j) where
-      one-more : (f : ℕ → ℕ) (i : ℕ) → gathered f xs (i + 1) ≡ gathered f xs i ⊕ f (getD xs i 0)
-      one-more f i = ap (gathered f xs) (add-one i) ∙ sums.sum-suc (λ y. true) (λ y. f (getD xs y 0)) i
+and-both : (a b : Bool) → a && b ≡ true → (a ≡ true) × (b ≡ true)
+and-both true b e = (refl, e)
+and-both false b e = absurd (false≢true e)
 
-      own-sum : (f : ℕ → ℕ) → gathered f xs (n + 1) ≡ sum (λ x. touches c x j) f (c .k) ⊕ f (c .k + j)
-      own-sum f = one-more f n ∙ ap₂ _⊕_ (information-sum f) (ap f own)
+-- ---- with the parity symbol behind them
 
-      -- position p is that of an information symbol, of parity symbol j or of the one before it
-      found-at : (u : ℕ) → n < u → ((i : ℕ) → suc i ≡ j → (n + 1 < u) × (getD xs (n + 1) 0 ≡ c .k + i))
-          → (p : ℕ) → p < c .k + c .m → checksOf c .has j p ≡ true → (i : ℕ) × ((i < u) × (getD xs i 0 ≡ p))
-      unfolding stair
-      found-at u hu prior p hp t = go (decLt p (c .k))
-        where
-          parity : (i : ℕ) → c .k + i ≡ p → (b : Bool) → eqb i j ≡ b → (b || eqb (suc i) j) ≡ true → (y : ℕ) × ((y < u) × (getD xs y 0 ≡ p))
-          parity i e true a h = (n, (hu, own ∙ ap (λ (x : ℕ). c .k + x) (sym (eqb-true i j a)) ∙ e))
-          parity i e false a h = let d = prior i (eqb-true (suc i) j h) in (n + 1, (d .0, d .1 ∙ e))
+module _ (c : Params) (fill : ℕ) (most : fill ≤ c .k) {j n : ℕ} {xs : List ℕ} (r : Information c fill j n xs) (hj : j < c .m) (own : getD xs n 0 ≡ c .k + j) where
+  one-more : (f : ℕ → ℕ) (i : ℕ) → gathered f xs (i + 1) ≡ gathered f xs i ⊕ f (getD xs i 0)
+  one-more f i = ap (gathered f xs) (add-one i) ∙ sums.sum-suc (λ y. true) (λ y. f (getD xs y 0)) i
 
-          go : Dec (p < c .k) → (i : ℕ) × ((i < u) × (getD xs i 0 ≡ p))
-          go (yes h) =
-              let a = hit-at (positions c j) p (positions-touch c v j hj p ∙ sym (has-info (c .k) (c .m) (λ y x. touches c x y) j p h) ∙ t) in
-              let b : a .0 < n = omega (arith, a .1 .0, r .count) in
-              (a .0, (omega arith, r .each (a .0) b ∙ a .1 .1))
-          go (no h) =
-              let e : c .k + (p - c .k) ≡ p = omega arith in
-              parity (p - c .k) e (eqb (p - c .k) j) refl
-              (sym (has-parity (c .k) (c .m) (λ y x. touches c x y) j (p - c .k)) ∙ ap (checksOf c .has j) e ∙ t)
+  own-sum : (f : ℕ → ℕ) → gathered f xs (n + 1) ≡ sum (sent c fill j) f (c .k) ⊕ f (c .k + j)
+  own-sum f = one-more f n ∙ ap₂ _⊕_ (r .total f ∙ sym (sent-sum c fill j f most)) (ap f own)
 
-      first-whole : j ≡ 0 → RowOf (checksOf c) j (n + 1) xs
-      unfolding staircase
-      first-whole z = record {
-        size = r .size;
-        few = omega (arith, r .few);
-        below = λ i h. go i h (decLt i n);
-        found = found-at (n + 1) (omega arith) (λ i e. absurd (omega arith));
-        total = λ f.
-            own-sum f ∙ ap (λ (x : ℕ). sum (λ y. touches c y j) f (c .k) ⊕ x) (sym (ap (λ (i : ℕ). f (c .k + j) ⊕ before (λ y. f (c .k + y)) i) z ∙ sums.unit (f (c .k + j))))
-            ∙ sym (row-sum (c .k) (c .m) (λ y x. touches c x y) f j hj);
-      }
-        where
-          go : (i : ℕ) → i < n + 1 → Dec (i < n) → getD xs i 0 < c .k + c .m
-          go i h (yes l) = omega (arith, information-lt i l)
-          go i h (no l) = let e : i ≡ n = omega arith in subst⁻¹ (λ (y : ℕ). getD xs y 0 < c .k + c .m) e (omega arith)
+  -- position p is that of an information symbol, of parity symbol j or of the one before it
+  found-at : (u : ℕ) → n < u → ((i : ℕ) → suc i ≡ j → (n + 1 < u) × (getD xs (n + 1) 0 ≡ c .k + i))
+      → (p : ℕ) → p < c .k + c .m → sentChecks c fill .has j p ≡ true → (i : ℕ) × ((i < u) × (getD xs i 0 ≡ p))
+  unfolding stair
+  found-at u hu prior p hp t = go (decLt p (c .k))
+    where
+      parity : (i : ℕ) → c .k + i ≡ p → (b : Bool) → eqb i j ≡ b → (b || eqb (suc i) j) ≡ true → (y : ℕ) × ((y < u) × (getD xs y 0 ≡ p))
+      parity i e true a h = (n, (hu, own ∙ ap (λ (x : ℕ). c .k + x) (sym (eqb-true i j a)) ∙ e))
+      parity i e false a h = let d = prior i (eqb-true (suc i) j h) in (n + 1, (d .0, d .1 ∙ e))
 
-      later-whole : 0 < j → getD xs (n + 1) 0 ≡ c .k + j - 1 → RowOf (checksOf c) j (n + 2) xs
-      unfolding staircase
-      later-whole z e = record {
-        size = r .size;
-        few = omega (arith, r .few);
-        below = λ i h. go i h (decLt i n) (decLt i (n + 1));
-        found = found-at (n + 2) (omega arith) (λ i g. (omega arith, e ∙ omega arith));
-        total = λ f.
-            let s : ℕ = sum (λ y. touches c y j) f (c .k) in
-            let two : n + 2 ≡ n + 1 + 1 = omega arith in
-            let last : c .k + j - 1 ≡ c .k + (j - 1) = omega arith in
-            ap (gathered f xs) two ∙ one-more f (n + 1) ∙ ap₂ _⊕_ (own-sum f) (ap f (e ∙ last)) ∙ sums.assoc s (f (c .k + j)) (f (c .k + (j - 1)))
-            ∙ ap (λ (x : ℕ). s ⊕ (f (c .k + j) ⊕ x)) (sym (before-at (λ y. f (c .k + y)) j z))
-            ∙ sym (row-sum (c .k) (c .m) (λ y x. touches c x y) f j hj);
-      }
-        where
-          go : (i : ℕ) → i < n + 2 → Dec (i < n) → Dec (i < n + 1) → getD xs i 0 < c .k + c .m
-          go i h (yes l) g = omega (arith, information-lt i l)
-          go i h (no l) (yes g) = let d : i ≡ n = omega arith in subst⁻¹ (λ (y : ℕ). getD xs y 0 < c .k + c .m) d (omega arith)
-          go i h (no l) (no g) = let d : i ≡ n + 1 = omega arith in subst⁻¹ (λ (y : ℕ). getD xs y 0 < c .k + c .m) d (omega arith)
+      go : Dec (p < c .k) → (i : ℕ) × ((i < u) × (getD xs i 0 ≡ p))
+      go (yes h) =
+          let b = and-both (ltb p fill) (touches c p j) (sym (has-info (c .k) (c .m) (sent c fill) j p h) ∙ t) in
+          let a = r .found p (ltb-true p fill (b .0)) (b .1) in
+          (a .0, (omega (arith, a .1 .0), a .1 .1))
+      go (no h) =
+          let e : c .k + (p - c .k) ≡ p = omega arith in
+          parity (p - c .k) e (eqb (p - c .k) j) refl
+          (sym (has-parity (c .k) (c .m) (sent c fill) j (p - c .k)) ∙ ap (sentChecks c fill .has j) e ∙ t)
+
+  first-whole : j ≡ 0 → RowOf (sentChecks c fill) j (n + 1) xs
+  unfolding staircase
+  first-whole z = record {
+    size = r .size;
+    few = omega (arith, r .few);
+    below = λ i h. go i h (decLt i n);
+    found = found-at (n + 1) (omega arith) (λ i e. absurd (omega arith));
+    total = λ f.
+        own-sum f ∙ ap (λ (x : ℕ). sum (sent c fill j) f (c .k) ⊕ x) (sym (ap (λ (i : ℕ). f (c .k + j) ⊕ before (λ y. f (c .k + y)) i) z ∙ sums.unit (f (c .k + j))))
+        ∙ sym (row-sum (c .k) (c .m) (sent c fill) f j hj);
+  }
+    where
+      go : (i : ℕ) → i < n + 1 → Dec (i < n) → getD xs i 0 < c .k + c .m
+      go i h (yes l) = omega (arith, r .below i l)
+      go i h (no l) = let e : i ≡ n = omega arith in subst⁻¹ (λ (y : ℕ). getD xs y 0 < c .k + c .m) e (omega arith)
+
+  later-whole : 0 < j → getD xs (n + 1) 0 ≡ c .k + j - 1 → RowOf (sentChecks c fill) j (n + 2) xs
+  unfolding staircase
+  later-whole z e = record {
+    size = r .size;
+    few = omega (arith, r .few);
+    below = λ i h. go i h (decLt i n) (decLt i (n + 1));
+    found = found-at (n + 2) (omega arith) (λ i g. (omega arith, e ∙ omega arith));
+    total = λ f.
+        let s : ℕ = sum (sent c fill j) f (c .k) in
+        let two : n + 2 ≡ n + 1 + 1 = omega arith in
+        let last : c .k + j - 1 ≡ c .k + (j - 1) = omega arith in
+        ap (gathered f xs) two ∙ one-more f (n + 1) ∙ ap₂ _⊕_ (own-sum f) (ap f (e ∙ last)) ∙ sums.assoc s (f (c .k + j)) (f (c .k + (j - 1)))
+        ∙ ap (λ (x : ℕ). s ⊕ (f (c .k + j) ⊕ x)) (sym (before-at (λ y. f (c .k + y)) j z))
+        ∙ sym (row-sum (c .k) (c .m) (sent c fill) f j hj);
+  }
+    where
+      go : (i : ℕ) → i < n + 2 → Dec (i < n) → Dec (i < n + 1) → getD xs i 0 < c .k + c .m
+      go i h (yes l) g = omega (arith, r .below i l)
+      go i h (no l) (yes g) = let d : i ≡ n = omega arith in subst⁻¹ (λ (y : ℕ). getD xs y 0 < c .k + c .m) d (omega arith)
+      go i h (no l) (no g) = let d : i ≡ n + 1 = omega arith in subst⁻¹ (λ (y : ℕ). getD xs y 0 < c .k + c .m) d (omega arith)
 
 -- as the code writes them
-module _ (c : Params) (v : Valid c) {j n : ℕ} {xs : List ℕ} (r : Information c j n xs) (hj : j < c .m) (k : ℕ) (e : k ≡ c .k) where
-  written : Information c j n (set xs n (k + j))
-  written = information-kept c v r n (k + j) (omega arith)
+module _ (c : Params) (fill : ℕ) (most : fill ≤ c .k) {j n : ℕ} {xs : List ℕ} (r : Information c fill j n xs) (hj : j < c .m) (k : ℕ) (e : k ≡ c .k) where
+  written : Information c fill j n (set xs n (k + j))
+  written = information-kept r n (k + j) (omega arith)
 
   own-written : getD (set xs n (k + j)) n 0 ≡ c .k + j
   own-written = getD-set-same xs n (k + j) 0 (omega (arith, r .size, r .few)) ∙ ap (λ (x : ℕ). x + j) e
 
-  pub first-row : j ≡ 0 → RowOf (checksOf c) j (n + 1) (set xs n (k + j))
-  first-row z = first-whole c v written hj own-written z
+  pub first-row : j ≡ 0 → RowOf (sentChecks c fill) j (n + 1) (set xs n (k + j))
+  first-row z = first-whole c fill most written hj own-written z
 
-  pub later-row : 0 < j → RowOf (checksOf c) j (n + 2) (set (set xs n (k + j)) (n + 1) (k + j - 1))
+  pub later-row : 0 < j → RowOf (sentChecks c fill) j (n + 2) (set (set xs n (k + j)) (n + 1) (k + j - 1))
   later-row z =
-      later-whole c v (information-kept c v written (n + 1) (k + j - 1) (omega arith)) hj
+      later-whole c fill most (information-kept written (n + 1) (k + j - 1) (omega arith)) hj
       (getD-set-other (set xs n (k + j)) (n + 1) n (k + j - 1) 0 (λ q. omega arith) ∙ own-written) z
       (getD-set-same (set xs n (k + j)) (n + 1) (k + j - 1) 0 (omega (arith, r .few, written .size)) ∙ ap (λ (x : ℕ). x + j - 1) e)

@@ -3,16 +3,14 @@ use crate::positions;
 use crate::positions::Shape;
 use crate::positions::TABLE_SIZE;
 use ccsds::checks;
-use ccsds::code::Code;
 use ccsds::tables;
 use symbol_sums::MAX_POSITIONS;
 ghost use mathlib.Core.Path.{_≡_};
 ghost use Prim.Native.Nat.{_<_, _+_, _*_};
 ghost use lib.ListN.{length};
-ghost use Rattle.ccsds.specs.Codes.{encodeOf};
 ghost use Rattle.ccsds.specs.Tables.{codeOf, Known};
 ghost use Rattle.ccsds.specs.Refusals.{outcome, afterwards};
-ghost use Rattle.encoder.specs.Encode.{encodeRefusal, encodedAs};
+ghost use Rattle.encoder.specs.Encode.{encodeRefusal, parityOf, encodedAs};
 ghost use Rattle.encoder.specs.inner.Positions.{Table};
 ghost use Rattle.encoder.specs.inner.Steps.{Sized, Done};
 ghost use Rattle.symbol_sums.specs.Gather.{maxPositions};
@@ -35,7 +33,7 @@ fn put_row(
 )
     requires { ⌜ Table s (now table) × (length (now xs) ≡ maxPositions) ⌝ }
     requires { ⌜ (i < codeOf (s .number) .q) × (r < codeOf (s .number) .a) ⌝ }
-    requires { ⌜ (length (now info) ≡ codeOf (s .number) .k * s .w) × Done (codeOf (s .number)) (s .w) (now info) (i * codeOf (s .number) .a + r) (now parity) ⌝ }
+    requires { ⌜ (length (now info) ≡ s .fill * s .w) × Done (codeOf (s .number)) (s .w) (now info) (i * codeOf (s .number) .a + r) (now parity) ⌝ }
     ensures { λ _. ⌜ (length (now (xs .exit)) ≡ maxPositions) × Done (codeOf (s .number)) (s .w) (now (info .entry)) (i * codeOf (s .number) .a + r + 1) (now (parity .exit)) ⌝ }
 {
     let l = s.layout;
@@ -55,7 +53,7 @@ fn put_rows(
 )
     requires { ⌜ Table s (now table) × (length (now xs) ≡ maxPositions) ⌝ }
     requires { ⌜ i < codeOf (s .number) .q ⌝ }
-    requires { ⌜ (length (now info) ≡ codeOf (s .number) .k * s .w) × Done (codeOf (s .number)) (s .w) (now info) (i * codeOf (s .number) .a) (now parity) ⌝ }
+    requires { ⌜ (length (now info) ≡ s .fill * s .w) × Done (codeOf (s .number)) (s .w) (now info) (i * codeOf (s .number) .a) (now parity) ⌝ }
     ensures { λ _. ⌜ (length (now (xs .exit)) ≡ maxPositions) × Done (codeOf (s .number)) (s .w) (now (info .entry)) (i * codeOf (s .number) .a + codeOf (s .number) .a) (now (parity .exit)) ⌝ }
 {
     let l = s.layout;
@@ -68,23 +66,25 @@ fn put_rows(
 }
 
 // Encodes into buffers of the right sizes.
-fn encode_sized(number: usize, w: usize, info: &[u8], parity: &mut [u8])
+fn encode_sized(number: usize, w: usize, fill: usize, info: &[u8], parity: &mut [u8])
     requires { ⌜ Known number × (0 < w) ⌝ }
-    requires { ⌜ Sized (codeOf number) w (length (now info)) (length (now parity)) ⌝ }
-    ensures { λ _. ⌜ now (parity .exit) ≡ encodeOf (codeOf number) w (now (info .entry)) ⌝ }
+    requires { ⌜ Sized (codeOf number) w fill (length (now info)) (length (now parity)) ⌝ }
+    ensures { λ _. ⌜ now (parity .exit) ≡ parityOf (codeOf number) w fill (now (info .entry)) ⌝ }
 {
     let mut flat = positions::no_addresses();
     let l = tables::layout_of(number);
-    let code = Code { number };
-    let q = code.q();
+    let q = l.q;
+    let rows = positions::rows_to(fill, q);
     let s = Shape {
         number: number,
         layout: l,
         w: w,
+        fill: fill,
+        rows: rows,
     };
     let mut table = positions::blank();
     let mut xs = [0u16; MAX_POSITIONS];
-    positions::lay(number, l, &mut flat, &mut table);
+    positions::lay(s, &mut flat, &mut table);
     let mut i = 0;
     while i < q {
         put_rows(s, &table, i, &mut xs, info, parity);
@@ -92,15 +92,15 @@ fn encode_sized(number: usize, w: usize, info: &[u8], parity: &mut [u8])
     }
 }
 
-// The parity bytes of the information bytes, into a buffer of m * w bytes; or a refusal, which changes nothing.
-pub fn encode(code: usize, w: usize, info: &[u8], parity: &mut [u8]) -> Encoded
-    ensures answer { λ r. ⌜ encodedAs r ≡ outcome (encodeRefusal code w (length (now (info .entry))) (length (now (parity .entry)))) tt ⌝ }
-    ensures parity { λ _. ⌜ now (parity .exit) ≡ afterwards (encodeRefusal code w (length (now (info .entry))) (length (now (parity .entry)))) (encodeOf (codeOf code) w (now (info .entry))) (now (parity .entry)) ⌝ }
+// The parity bytes of the fill * w information bytes, into a buffer of m * w bytes; or a refusal, which changes nothing.
+pub fn encode(code: usize, w: usize, fill: usize, info: &[u8], parity: &mut [u8]) -> Encoded
+    ensures answer { λ r. ⌜ encodedAs r ≡ outcome (encodeRefusal code w fill (length (now (info .entry))) (length (now (parity .entry)))) tt ⌝ }
+    ensures parity { λ _. ⌜ now (parity .exit) ≡ afterwards (encodeRefusal code w fill (length (now (info .entry))) (length (now (parity .entry)))) (parityOf (codeOf code) w fill (now (info .entry))) (now (parity .entry)) ⌝ }
 {
-    let refusal = checks::check_encoder(code, w, info.len(), parity.len());
+    let refusal = checks::check_encoder(code, w, fill, info.len(), parity.len());
     if refusal != 0 {
         return Encoded::Refused(refusal);
     }
-    encode_sized(code, w, info, parity);
+    encode_sized(code, w, fill, info, parity);
     Encoded::Done
 }

@@ -4,15 +4,18 @@
 use ccsds::tables;
 use ccsds::tables::Layout;
 use ccsds::tables::MAX_ADDRESSES;
+use ccsds::tables::MAX_DEGREE;
 use std::num;
 use symbol_sums::MAX_POSITIONS;
 ghost use mathlib.Core.Path.{_≡_};
+ghost use mathlib.Core.Bool.{cond};
 ghost use mathlib.Core.List.{[]};
-ghost use Prim.Native.Nat.{_+_, _-_, _*_, _/_, _%_, _<_, _≤_};
+ghost use Prim.Native.Nat.{ℕ, _+_, _-_, _*_, _/_, _%_, _<_, _≤_};
+ghost use lib.Dec.{ltb};
 ghost use lib.ListN.{length, getD, replicate};
 ghost use Rattle.ccsds.specs.Tables.{codeOf, Known};
-ghost use Rattle.ccsds.specs.inner.Layout.{LayoutOf, FrontIs, joined, maxN, maxRows, maxDegree, maxAddresses};
-ghost use Rattle.encoder.specs.inner.Positions.{entered, rowEntered, Classes, WithinRow, checks, Table, Information, RowOf, maxClasses, tableSize};
+ghost use Rattle.ccsds.specs.inner.Layout.{LayoutOf, FrontIs, joined, maxN, maxM, maxRows, maxDegree, maxAddresses};
+ghost use Rattle.encoder.specs.inner.Positions.{entered, rowEntered, Classes, WithinRow, checks, Shaped, Table, Entries, Kept, Information, RowOf, endAt, maxClasses, tableSize};
 ghost use Rattle.symbol_sums.specs.Gather.{maxPositions};
 
 // The most classes of a code.
@@ -32,11 +35,21 @@ pub const ADDRESSES: usize = COUNTS + MAX_CLASSES;
 // All of it.
 pub const TABLE_SIZE: usize = ADDRESSES + MAX_ADDRESSES;
 
-// The shape of a block: its code's number and layout, and the bytes of a symbol.
+// The shape of a block: its code's number and layout, the bytes of a symbol, its fill, and how many table rows have a position that is sent.
 pub struct Shape {
     pub number: usize,
     pub layout: Layout,
     pub w: usize,
+    pub fill: usize,
+    pub rows: usize,
+}
+
+// How many table rows of q positions have one below fill.
+pub fn rows_to(fill: usize, q: usize) -> usize
+    requires { ⌜ (fill ≤ maxN) × (0 < q) × (q ≤ maxM) ⌝ }
+    ensures { λ r. ⌜ (fill ≤ r * q) × (r * q < fill + q) ⌝ }
+{
+    (fill + q - 1) / q
 }
 
 // A table before any entry.
@@ -77,7 +90,7 @@ fn enter(q: usize, a: usize, row: usize, i: usize, y: usize, table: &mut [u16; T
 {
     let r = remainder(y, a);
     let d = quotient(y, a);
-    table[ADDRESSES + row * tables::MAX_DEGREE + i] = y as u16;
+    table[ADDRESSES + row * MAX_DEGREE + i] = y as u16;
     let n = tables::wide(table[COUNTS + r]);
     if n >= MAX_POSITIONS {
         return;
@@ -119,14 +132,17 @@ pub fn no_addresses() -> [u16; MAX_ADDRESSES]
     [0u16; MAX_ADDRESSES]
 }
 
-// Lays out the table of a code. The array for its addresses is the caller's, so that no call stands on two large frames.
-pub fn lay(number: usize, l: Layout, flat: &mut [u16; MAX_ADDRESSES], table: &mut [u16; TABLE_SIZE])
-    requires { ⌜ Known number × LayoutOf (codeOf number) l ⌝ }
+// Lays out the table of a code, as far as positions are sent. The array for its addresses is the caller's, so that no call stands on two large
+// frames.
+pub fn lay(s: Shape, flat: &mut [u16; MAX_ADDRESSES], table: &mut [u16; TABLE_SIZE])
+    requires { ⌜ Shaped s ⌝ }
     requires { ⌜ (length (now flat) ≡ maxAddresses) × (now table ≡ replicate tableSize 0) ⌝ }
-    ensures { λ _. ⌜ Classes (codeOf number) (now (table .exit)) ⌝ }
+    ensures { λ _. ⌜ Classes (codeOf (s .number)) (s .rows) (now (table .exit)) ⌝ }
 {
+    let number = s.number;
+    let l = s.layout;
+    let rows = s.rows;
     tables::put_addresses(number, flat);
-    let rows = l.rows;
     let mut row = 0;
     while row < rows {
         enter_row(number, l, flat, row, table);
@@ -146,9 +162,9 @@ fn further(first: u16, end: u16, q: u16, i: u16) -> u16
     num::wrapping_sub_u16(x, q)
 }
 
-// The information positions of check row i * a + r, at the front of xs; answers how many. Whole groups of 16 are made, whatever lies behind
+// The positions of check row i * a + r in the rows that are laid out, at the front of xs; answers how many. Whole groups of 16 are made, whatever lies behind
 // the entries: the vector instructions that this is compiled to then have no rest, which would be a branch that can't be foreseen.
-pub fn information(
+fn entries(
     s: Shape,
     table: &[u16; TABLE_SIZE],
     i: usize,
@@ -158,7 +174,7 @@ pub fn information(
     requires { ⌜ Table s (now table) ⌝ }
     requires { ⌜ (r < codeOf (s .number) .a) × (i < codeOf (s .number) .q) ⌝ }
     requires { ⌜ length (now xs) ≡ maxPositions ⌝ }
-    ensures { λ n. ⌜ Information (codeOf (s .number)) (i * codeOf (s .number) .a + r) n (now (xs .exit)) ⌝ }
+    ensures { λ n. ⌜ Entries (codeOf (s .number)) (s .rows) (i * codeOf (s .number) .a + r) n (now (xs .exit)) ⌝ }
 {
     let n = tables::wide(table[COUNTS + r]);
     let full = (n + 15) / 16 * 16;
@@ -175,7 +191,75 @@ pub fn information(
     n
 }
 
-// All positions of check row j, at the front of xs; answers how many. The last two, or the last where j is 0, are those of the parity
+// The place after x where x is below fill, else the same place.
+fn place_after(place: usize, x: u16, fill: usize) -> usize
+    requires { ⌜ place < maxPositions ⌝ }
+    ensures { λ r. ⌜ r ≡ cond (ltb x fill) (place + 1) place ⌝ }
+{
+    if (x as usize) < fill {
+        place + 1
+    } else {
+        place
+    }
+}
+
+// Of the n positions at the front of xs, those below fill, without gaps; answers how many. Those before `from` are below it.
+fn keep_sent(fill: usize, from: usize, n: usize, xs: &mut [u16; MAX_POSITIONS]) -> usize
+    requires { ⌜ (from ≤ n) × (n ≤ maxPositions) × (length (now xs) ≡ maxPositions) ⌝ }
+    requires { ⌜ ((i : ℕ) → i < from → getD (now xs) i 0 < fill) ⌝ }
+    ensures { λ r. ⌜ Kept fill n (now (xs .entry)) r (now (xs .exit)) ⌝ }
+{
+    let mut kept = from;
+    let mut e = from;
+    while e < n {
+        let x = xs[e];
+        xs[kept] = x;
+        kept = place_after(kept, x, fill);
+        e += 1;
+    }
+    kept
+}
+
+// How many of the first n entries of class r come before the last table row, if that goes beyond fill.
+fn before_last_row(fill: usize, table: &[u16; TABLE_SIZE], r: usize, n: usize) -> usize
+    requires { ⌜ (length (now table) ≡ tableSize) × (r < maxClasses) × (n ≤ maxPositions) ⌝ }
+    ensures { λ e. ⌜ (e ≤ n) × (0 < e → getD (now (table .entry)) (endAt r (e - 1)) 0 ≤ fill) ⌝ }
+{
+    let mut e = n;
+    while e > 0 {
+        if tables::wide(table[ENDS + r * MAX_POSITIONS + e - 1]) <= fill {
+            return e;
+        }
+        e -= 1;
+    }
+    e
+}
+
+// The information positions of check row i * a + r that are sent, at the front of xs; answers how many. Only of the last table row may some be
+// idle, and its entries are the last of a class.
+pub fn information(
+    s: Shape,
+    table: &[u16; TABLE_SIZE],
+    i: usize,
+    r: usize,
+    xs: &mut [u16; MAX_POSITIONS],
+) -> usize
+    requires { ⌜ Table s (now table) ⌝ }
+    requires { ⌜ (r < codeOf (s .number) .a) × (i < codeOf (s .number) .q) ⌝ }
+    requires { ⌜ length (now xs) ≡ maxPositions ⌝ }
+    ensures { λ n. ⌜ Information (codeOf (s .number)) (s .fill) (i * codeOf (s .number) .a + r) n (now (xs .exit)) ⌝ }
+{
+    let n = entries(s, table, i, r, xs);
+    let fill = s.fill;
+    let l = s.layout;
+    if s.rows * l.q == fill {
+        return n;
+    }
+    let from = before_last_row(fill, table, r, n);
+    keep_sent(fill, from, n, xs)
+}
+
+// All positions of check row j that are sent, at the front of xs; answers how many. The last two, or the last where j is 0, are those of the parity
 // symbols.
 pub fn of_row(s: Shape, table: &[u16; TABLE_SIZE], j: usize, xs: &mut [u16; MAX_POSITIONS]) -> usize
     requires { ⌜ Table s (now table) ⌝ }

@@ -1,15 +1,16 @@
 -- The positions of a check row, computed from the table's addresses, and the array that holds them. Internal: no public contract cites it.
 -- Assumes nothing.
 use mathlib.Core.Path.{_≡_}
-use mathlib.Core.Bool.{Bool, true, false, cond}
+use mathlib.Core.Bool.{Bool, true, false, _&&_, cond}
 use mathlib.Core.List.{List, [], _∷_, _++_, map}
 use Prim.Native.Nat.{ℕ, zero, suc, _+_, _-_, _*_, _/_, _%_, _<_, _≤_}
 use lib.Dec.{eqb, ltb}
-use lib.ListN.{length, getD, set}
-use Rattle.algebra.specs.Sums.{sum}
+use lib.ListN.{length, getD, set, take}
+use Rattle.algebra.specs.Sums.{pick, sum}
 use Rattle.algebra.specs.Codeword.{Checks}
+use Rattle.algebra.specs.Staircase.{staircase}
 use Rattle.symbol_sums.specs.Gather.{gathered, maxPositions}
-use Rattle.ccsds.specs.Codes.{Params, checksOf}
+use Rattle.ccsds.specs.Codes.{Params, touches}
 use Rattle.ccsds.specs.Tables.{codeOf, Known}
 use Rattle.ccsds.specs.inner.Layout.{LayoutOf, maxRows, maxDegree}
 use Rattle.encoder.specs.declared.positions.Shape.{Shape}
@@ -117,27 +118,60 @@ pub record ClassSizes (c : Params) : Type 0 where
   pub classes : c .a ≤ maxClasses
   pub entries : (r : ℕ) → r < c .a → length (classOf c r) + 2 ≤ maxPositions
 
--- the classes of c stand in the table
-pub record Classes (c : Params) (t : List ℕ) : Type 0 where
+-- how many entries of class r are of the first `rows` table rows; they are its first ones
+abbrev pub entriesOf : Params → ℕ → ℕ → ℕ
+entriesOf c r rows = length (classFrom (c .a) r 0 (take rows (c .rows)))
+
+-- the classes of c stand in the table, as far as the first `rows` table rows go
+pub record Classes (c : Params) (rows : ℕ) (t : List ℕ) : Type 0 where
   pub few : ClassSizes c
   pub size : length t ≡ tableSize
-  pub counts : (r : ℕ) → r < c .a → getD t (countAt r) 0 ≡ length (classOf c r)
-  pub each : (r : ℕ) → r < c .a → (i : ℕ) → i < length (classOf c r)
+  pub counts : (r : ℕ) → r < c .a → getD t (countAt r) 0 ≡ entriesOf c r rows
+  pub each : (r : ℕ) → r < c .a → (i : ℕ) → i < entriesOf c r rows
       → EntryBounds (c .q) (getD (classOf c r) i (0, 0)) (getD t (firstAt r i) 0) (getD t (endAt r i) 0)
 
--- the check rows of a shape's code
-abbrev pub checks : Shape → Checks
-checks s = checksOf (codeOf (s .number))
+-- ---- the positions that are sent
 
--- a block's shape is that of a code, whose classes stand in the table
-pub record Table (s : Shape) (t : List ℕ) : Type 0 where
+-- the check rows of a code on the positions that are sent: an idle position is in none of them
+abbrev pub sentChecks : Params → ℕ → Checks
+sentChecks c fill = staircase (c .k) (c .m) (λ j x. ltb x fill && touches c x j)
+
+abbrev pub checks : Shape → Checks
+checks s = sentChecks (codeOf (s .number)) (s .fill)
+
+-- a block's shape is that of a code; its rows are the table rows with a position that is sent
+pub record Shaped (s : Shape) : Type 0 where
   pub known : Known (s .number)
   pub given : LayoutOf (codeOf (s .number)) (s .layout)
-  pub laid : Classes (codeOf (s .number)) t
+  pub most : s .fill ≤ codeOf (s .number) .k
+  pub enough : s .fill ≤ s .rows * codeOf (s .number) .q
+  pub no-more : s .rows * codeOf (s .number) .q < s .fill + codeOf (s .number) .q
+  pub within : s .rows ≤ length (codeOf (s .number) .rows)
 
--- the n information positions of check row j, at the front of an array
-pub record Information (c : Params) (j n : ℕ) (xs : List ℕ) : Type 0 where
+-- the classes of these rows stand in the table
+pub record Table (s : Shape) (t : List ℕ) : Type 0 where
+  pub shaped : Shaped s
+  pub laid : Classes (codeOf (s .number)) (s .rows) t
+
+-- the n information positions of check row j in the first `rows` table rows, at the front of an array
+pub record Entries (c : Params) (rows j n : ℕ) (xs : List ℕ) : Type 0 where
   pub size : length xs ≡ maxPositions
   pub few : n + 2 ≤ maxPositions
-  pub count : n ≡ length (positions c j)
+  pub count : n ≡ entriesOf c (j % c .a) rows
   pub each : (i : ℕ) → i < n → getD xs i 0 ≡ getD (positions c j) i 0
+
+-- of the first n of xs, those below fill are the first r of ys
+pub record Kept (fill n : ℕ) (xs : List ℕ) (r : ℕ) (ys : List ℕ) : Type 0 where
+  pub size : length ys ≡ length xs
+  pub few : r ≤ n
+  pub below : (i : ℕ) → i < r → getD ys i 0 < fill
+  pub found : (i : ℕ) → i < n → getD xs i 0 < fill → (y : ℕ) × ((y < r) × (getD ys y 0 ≡ getD xs i 0))
+  pub total : (f : ℕ → ℕ) → gathered f ys r ≡ gathered (λ x. pick (ltb x fill) (f x)) xs n
+
+-- the n information positions of check row j that are sent, at the front of an array
+pub record Information (c : Params) (fill j n : ℕ) (xs : List ℕ) : Type 0 where
+  pub size : length xs ≡ maxPositions
+  pub few : n + 2 ≤ maxPositions
+  pub below : (i : ℕ) → i < n → getD xs i 0 < fill
+  pub found : (x : ℕ) → x < fill → touches c x j ≡ true → (i : ℕ) × ((i < n) × (getD xs i 0 ≡ x))
+  pub total : (f : ℕ → ℕ) → gathered f xs n ≡ sum (λ x. touches c x j) f fill

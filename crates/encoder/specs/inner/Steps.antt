@@ -2,15 +2,17 @@
 -- Assumes nothing.
 use mathlib.Core.Path.{_≡_}
 use mathlib.Core.List.{List}
-use Prim.Native.Nat.{ℕ, _*_, _<_}
+use Prim.Native.Nat.{ℕ, _*_, _<_, _≤_}
 use lib.ListN.{length}
 use Rattle.algebra.specs.Codeword.{byteAt}
 use Rattle.algebra.specs.Staircase.{parity}
 use Rattle.ccsds.specs.Codes.{Params, touches}
 
--- buffers of i and p bytes hold the information and the parity symbols of the code, of w bytes each
-pub record Sized (c : Params) (w i p : ℕ) : Type 0 where
-  pub info : i ≡ c .k * w
+-- buffers of i and p bytes hold the information symbols that are sent and the parity symbols of the code, of w bytes each
+pub record Sized (c : Params) (w fill i p : ℕ) : Type 0 where
+  pub some : 0 < fill
+  pub most : fill ≤ c .k
+  pub info : i ≡ fill * w
   pub parity : p ≡ c .m * w
 
 -- the parity symbols before j are there

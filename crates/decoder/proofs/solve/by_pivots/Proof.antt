@@ -22,7 +22,7 @@ rows s =
     record { early = g .early; steps = g .steps; rest = s .args .s .layout .m - g .steps; pivots = g .pivots; packed = (g .pivots + 63) / 64 }
 
 room : (s : tie.Start) → Room (checks (s .args .s)) (rows s) (checks (s .args .s) .m * (checks (s .args .s) .n / 64 + 1))
-room s = room-of (s .args .s) (s .pre .0 .known) (s .pre .1 .0 .made) refl _
+room s = room-of (s .args .s) (s .pre .0 .shaped .known) (s .pre .1 .0 .made) refl _
 
 all : (s : tie.Start) → rows s .steps + rows s .rest ≡ checks (s .args .s) .m
 all s = omega (arith, few-steps (s .pre .1 .0 .made) .0, layout-rows (s .pre .0))

@@ -1,9 +1,12 @@
 -- `decoder::solve::solve` meets its contract.
 -- Assumes nothing.
 use Rattle.algebra.specs.Staircase.{staircase}
-use Rattle.ccsds.specs.Codes.{checksOf}
 use Rattle.ccsds.specs.Tables.{codeOf}
-use Rattle.encoder.specs.inner.Positions.{Table}
+use Rattle.encoder.specs.inner.Positions.{sentChecks, Shaped, Table}
+use Rattle.encoder.specs.declared.positions.Shape.{Shape}
+use Rattle.encoder.proofs.Sent.{row-width, shaped}
+use Rattle.ccsds.proofs.Valid.{valid-of}
+use native.Mathlib.Omega.{arith}
 use Rattle.decoder.proofs.OutcomeLaws.{decoded}
 use Rattle.decoder.proofs.Assembly.{peeled-here, outcome-same}
 use borrow.Author.Needs.{needs}
@@ -16,20 +19,35 @@ no-addresses-requires c κs = search needs
 layout-of-requires : tie.Need-layout-of-requires
 layout-of-requires c κs = search needs
 
+rows-to-requires : tie.Need-rows-to-requires
+rows-to-requires c κs =
+    let s = c .before .before .before .before .before .before in
+    let q = row-width _ _ (s .pre .0 .0) (c .layout-of .ensures) in
+    (omega (arith, s .pre .0 .2, valid-of _ (s .pre .0 .0) .few), q .0, q .1)
+
 blank-requires : tie.Need-blank-requires
 blank-requires c κs = search needs
 
 blank-requires-2 : tie.Need-blank-requires-2
 blank-requires-2 c κs = search needs
 
-lay-requires : tie.Need-lay-requires
-lay-requires c κs = ((c .before .before .before .before .before .before .before .before .before .before .pre .0 .0, c .before .before .before .before .layout-of .ensures), (c .before .before .before .before .before .no-addresses .ensures, c .before .before .before .blank .ensures))
+-- the shape that peeling and what comes after it go by
+module _ (c : tie.After-rows-to) where
+  abbrev start : tie.Start
+  start = c .before .before .before .before .before .before .before
 
--- the table that peeling and what comes after it go by
-table : (c : tie.After-lay)
-    → let s = c .before .before .before .before .before .before .before .before .before .before .before .args in
-    Table (record { number = s .number; layout = c .before .before .before .before .before .layout-of .result; w = s .w }) (c .lay .last .1 .1 .1 .0)
-table c = record { known = c .before .before .before .before .before .before .before .before .before .before .before .pre .0 .0; given = c .before .before .before .before .before .layout-of .ensures; laid = c .lay .ensures }
+  abbrev shape : Shape
+  shape = record { number = start .args .number; layout = c .before .layout-of .result; w = start .args .w; fill = start .args .fill; rows = c .rows-to .result }
+
+  is-shaped : Shaped shape
+  is-shaped = shaped shape (start .pre .0 .0) (c .before .layout-of .ensures) (start .pre .0 .2) (c .rows-to .ensures)
+
+lay-requires : tie.Need-lay-requires
+lay-requires c κs = (is-shaped (c .before .before .before .before), (c .before .before .before .before .before .before .no-addresses .ensures, c .before .before .before .blank .ensures))
+
+-- and the table
+table : (c : tie.After-lay) → Table (shape (c .before .before .before .before .before)) (c .lay .last .1 .1 .0)
+table c = record { shaped = is-shaped (c .before .before .before .before .before); laid = c .lay .ensures }
 
 slice-aggregate-peel : tie.Need-slice-aggregate-peel
 slice-aggregate-peel c = search needs
@@ -37,7 +55,7 @@ slice-aggregate-peel c = search needs
 peel-requires : tie.Need-peel-requires
 unfolding staircase
 peel-requires c κs =
-    let p = c .before .before .before .before .before .before .before .before .before .before .before .before .before .before .before .pre in
+    let p = c .before .before .before .before .before .before .before .before .before .before .before .before .before .before .before .before .pre in
     (table (c .before .before .before .before), (c .before .before .before .before .before .before .before .blank2 .ensures, (p .1 .0 .1, p .1 .0 .0)))
 
 slice-aggregate-by-steps : tie.Need-slice-aggregate-by-steps
@@ -46,7 +64,7 @@ slice-aggregate-by-steps c = search needs
 by-steps-requires : tie.Need-by-steps-requires
 unfolding staircase
 by-steps-requires c κs =
-    let p = c .before .before .before .before .before .before .before .before .before .before .before .before .before .before .before .before .before .before .before .before .before .before .before .before .before .pre in
+    let p = c .before .before .before .before .before .before .before .before .before .before .before .before .before .before .before .before .before .before .before .before .before .before .before .before .before .before .pre in
     (table (c .before .before .before .before .before .before .before .before .before .before .before .before .before .before), ((peeled-here (c .before .before .before .before .before .before .before .before .before .peel .ensures), c .before .before .before .before .if1 .taken), p .1 .0 .1))
 
 same-length : tie.Need-same-length
@@ -57,10 +75,10 @@ same-length-2 c = search needs
 
 returns : tie.Need-returns
 returns c =
-    let s = c .before .before .before .before .before .before .before .before .before .before .before .before .before .before .before .before .before .before .before .before .before .before .before .before .before .before .before .before .before .before in
+    let s = c .before .before .before .before .before .before .before .before .before .before .before .before .before .before .before .before .before .before .before .before .before .before .before .before .before .before .before .before .before .before .before in
     let g = c .before .before .before .before .before .before .before .before .before .before .before .before .before .before .peel in
     let e = c .before .before .before .before .by-steps in
-    let code = checksOf (codeOf (s .args .number)) in
+    let code = sentChecks (codeOf (s .args .number)) (s .args .fill) in
     let block = s .args .symbols .now in
     let states = s .args .states .now in
     let s′ = e .last .1 .1 .1 .1 .0 in
@@ -73,7 +91,7 @@ slice-aggregate-by-pivots c = search needs
 by-pivots-requires : tie.Need-by-pivots-requires
 unfolding staircase
 by-pivots-requires c κs =
-    let p = c .before .before .before .before .before .before .before .before .before .before .before .before .before .before .before .before .before .before .before .before .before .before .before .before .before .before .before .pre in
+    let p = c .before .before .before .before .before .before .before .before .before .before .before .before .before .before .before .before .before .before .before .before .before .before .before .before .before .before .before .before .pre in
     (table (c .before .before .before .before .before .before .before .before .before .before .before .before .before .before .before .before), (peeled-here (c .before .before .before .before .before .before .before .before .before .before .before .peel .ensures), ((p .1 .1 .0, p .1 .1 .1), (p .0 .1, p .1 .0 .1))))
 
 same-length-3 : tie.Need-same-length-3
@@ -90,10 +108,10 @@ same-length-6 c = search needs
 
 returns-2 : tie.Need-returns-2
 returns-2 c =
-    let s = c .before .before .before .before .before .before .before .before .before .before .before .before .before .before .before .before .before .before .before .before .before .before .before .before .before .before .before .before .before .before .before .before .before .before .before .before .before in
+    let s = c .before .before .before .before .before .before .before .before .before .before .before .before .before .before .before .before .before .before .before .before .before .before .before .before .before .before .before .before .before .before .before .before .before .before .before .before .before .before in
     let g = c .before .before .before .before .before .before .before .before .before .before .before .before .before .before .before .before .before .before .before .before .before .peel in
     let e = c .before .before .before .before .before .before .before .before .before .by-pivots in
-    let code = checksOf (codeOf (s .args .number)) in
+    let code = sentChecks (codeOf (s .args .number)) (s .args .fill) in
     let block = s .args .symbols .now in
     let states = s .args .states .now in
     let s′ = e .last .1 .1 .1 .1 .0 in
@@ -106,6 +124,7 @@ solve-spec =
     (tie.spec
     no-addresses-requires
     layout-of-requires
+    rows-to-requires
     blank-requires
     blank-requires-2
     lay-requires

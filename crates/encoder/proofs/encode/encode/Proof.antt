@@ -22,7 +22,7 @@ returns c =
 encode-sized-requires : tie.Need-encode-sized-requires
 unfolding encodeRefusal
 encode-sized-requires c κs =
-    let r = ready _ _ _ _ (not-refused _ _ (c .before .before .check-encoder .ensures) (c .before .if1 .left)) in
+    let r = ready _ _ _ _ _ (not-refused _ _ (c .before .before .check-encoder .ensures) (c .before .if1 .left)) in
     ((r .known, r .some), r .sized)
 
 same-length : tie.Need-same-length

@@ -8,19 +8,35 @@ use native.Mathlib.Omega.{arith}
 use lib.ListN.{length}
 use borrow.Author.Needs.{needs}
 use Rattle.symbol_sums.specs.Gather.{maxPositions}
-use Rattle.ccsds.specs.Tables.{codeOf}
+use Rattle.ccsds.specs.Tables.{codeOf, Known}
+use Rattle.ccsds.specs.inner.Layout.{LayoutOf}
 use Rattle.encoder.specs.inner.Steps.{Done}
 use Rattle.ccsds.proofs.Valid.{valid-of}
-use Rattle.encoder.proofs.Parity.{done-at, done-none, done-all}
+use Rattle.encoder.proofs.Sent.{row-width, shaped}
+use Rattle.encoder.proofs.Parity.{done-at, done-none, done-all, padded-parity}
 use Rattle.encoder.proofs.encode.encode_sized.Statement.{statement}
 use Rattle.encoder.proofs.encode.encode_sized.Tie as tie
 
 abbrev Inv-loop : tie.InvT-loop
-Inv-loop number w info parity₀ q s table xs₀ i₀ parity xs i =
+Inv-loop number w fill info parity₀ q rows s table xs₀ i₀ parity xs i =
     (i ≤ q) × (length xs ≡ maxPositions) × Done (codeOf number) w info (i * codeOf number .a) parity
 
 abbrev μ-loop : tie.MeasureT-loop
-μ-loop number w info parity₀ q s table xs₀ i₀ parity xs i = q - i
+μ-loop number w fill info parity₀ q rows s table xs₀ i₀ parity xs i = q - i
+
+-- the shape
+module _ (c : tie.After-rows-to Inv-loop μ-loop) where
+  abbrev start : tie.Start Inv-loop μ-loop
+  start = c .before .before .before .before .before
+
+  known : Known (start .args .number)
+  known = start .pre .0 .0
+
+  given : LayoutOf (codeOf (start .args .number)) (c .before .layout-of .result)
+  given = c .before .layout-of .ensures
+
+  most : start .args .fill ≤ codeOf (start .args .number) .k
+  most = start .pre .1 .most
 
 no-addresses-requires : tie.Need-no-addresses-requires Inv-loop μ-loop
 no-addresses-requires c κs = tt
@@ -28,25 +44,30 @@ no-addresses-requires c κs = tt
 layout-of-requires : tie.Need-layout-of-requires Inv-loop μ-loop
 layout-of-requires c κs = search needs
 
-q-requires : tie.Need-q-requires Inv-loop μ-loop
-q-requires c κs = search needs
+rows-to-requires : tie.Need-rows-to-requires Inv-loop μ-loop
+rows-to-requires c κs =
+    let s = c .before .before .before .before in
+    let q = row-width _ _ (s .pre .0 .0) (c .layout-of .ensures) in
+    (omega (arith, s .pre .1 .most, valid-of _ (s .pre .0 .0) .few), q .0, q .1)
 
 blank-requires : tie.Need-blank-requires Inv-loop μ-loop
 blank-requires c κs = tt
 
 lay-requires : tie.Need-lay-requires Inv-loop μ-loop
-lay-requires c κs = ((c .before .before .before .before .before .before .before .before .pre .0 .0, c .before .before .before .before .layout-of .ensures), (c .before .before .before .before .before .no-addresses .ensures, c .before .before .blank .ensures))
+lay-requires c κs =
+    let r = c .before .before .before in
+    (shaped _ (known r) (given r) (most r) (r .rows-to .ensures), (c .before .before .before .before .before .no-addresses .ensures, c .before .before .blank .ensures))
 
 loop-holds : tie.Need-loop-holds Inv-loop μ-loop
 loop-holds c =
     let s = c .before .before .before .before .before .before .before .before .before in
-    (omega arith, refl, done-at (done-none _ (valid-of _ (s .pre .0 .0)) _ _ (s .pre .1 .parity)) (sym (zero-mul (codeOf (s .args .number) .a))))
+    (omega arith, refl, done-at (done-none _ _ _ (s .pre .1 .parity)) (sym (zero-mul (codeOf (s .args .number) .a))))
 
 put-rows-requires : tie.Need-put-rows-requires Inv-loop μ-loop
 put-rows-requires c κs =
-    let s = c .before .before .before .before .before .before .before .before .before .before .before .before .before .before in
+    let r = c .before .before .before .before .before .before .before .before .before in
     let l = c .before .before .before .before .loop in
-    ((record { known = s .pre .0 .0; given = c .before .before .before .before .before .before .before .before .before .before .layout-of .ensures; laid = c .before .before .before .before .before .lay .ensures }, l .inv .1), (omega (arith, c .before .before .before .before .before .before .before .before .before .q .ensures), (s .pre .1 .info, l .inv .2)))
+    ((record { shaped = shaped _ (known r) (given r) (most r) (r .rows-to .ensures); laid = c .before .before .before .before .before .lay .ensures }, l .inv .1), (omega (arith, given r .q), (start r .pre .1 .info, l .inv .2)))
 
 add-i : tie.Need-add-i Inv-loop μ-loop
 add-i c = omega arith
@@ -66,10 +87,11 @@ same-length c = c .before .loop .inv .2 .size ∙ sym (c .before .before .before
 
 returns : tie.Need-returns Inv-loop μ-loop
 returns c =
-    let s = c .before .before .before .before .before .before .before .before .before .before .before in
-    let v = valid-of _ (s .pre .0 .0) in
-    let e : c .before .loop .i ≡ codeOf (s .args .number) .q = omega (arith, c .before .before .before .before .before .before .q .ensures) in
-    done-all _ v _ _ (s .pre .0 .1) (done-at (c .before .loop .inv .2) (ap (λ (k : ℕ). k * codeOf (s .args .number) .a) e ∙ v .step))
+    let r = c .before .before .before .before .before .before in
+    let s = start r in
+    let e : c .before .loop .i ≡ codeOf (s .args .number) .q = omega (arith, given r .q) in
+    done-all _ _ _ (s .pre .0 .1) (done-at (c .before .loop .inv .2) (ap (λ (k : ℕ). k * codeOf (s .args .number) .a) e ∙ valid-of _ (known r) .step))
+    ∙ sym (padded-parity _ _ (s .args .fill) _)
 
 pub encode-sized-spec : {M : Type 1} → statement M
 encode-sized-spec =
@@ -79,7 +101,7 @@ encode-sized-spec =
     μ-loop
     no-addresses-requires
     layout-of-requires
-    q-requires
+    rows-to-requires
     blank-requires
     lay-requires
     loop-holds

@@ -22,10 +22,10 @@ module _ (s : tie.Start) where
   j = s .args .i * s .args .s .layout .a + s .args .r
 
   v : Valid code
-  v = valid-of _ (s .pre .0 .0 .known)
+  v = valid-of _ (s .pre .0 .0 .shaped .known)
 
   row-is : j ≡ s .args .i * code .a + s .args .r
-  row-is = ap (λ (a : ℕ). s .args .i * a + s .args .r) (s .pre .0 .0 .given .a)
+  row-is = ap (λ (a : ℕ). s .args .i * a + s .args .r) (s .pre .0 .0 .shaped .given .a)
 
   below : s .args .i * code .a + s .args .r < code .m
   below = row-lt′ _ v (s .args .r) (s .args .i) (s .pre .1 .0 .1) (s .pre .1 .0 .0)
@@ -46,7 +46,7 @@ put-sum-requires : tie.Need-put-sum-requires
 put-sum-requires c κs =
     let s = c .before .before .before .before .before .before .before .before in (
       (omega arith, omega (arith, slot (j s) _ (s .args .s .w) (here s), s .pre .1 .1 .1 .size)),
-      row-inside _ (v s) (s .args .s .w) (s .args .info .now) (c .before .before .information .ensures) (s .pre .1 .1 .0),
+      row-inside _ (s .args .s .w) (s .args .info .now) _ (s .pre .1 .1 .0) (c .before .before .information .ensures),
     )
 
 same-length : tie.Need-same-length
@@ -56,7 +56,7 @@ returns : tie.Need-returns
 returns c =
     let s = c .before .before .before .before .before .before .before .before .before .before .before in
     let i = c .before .before .before .before .before .information .ensures in
-    (i .size, done-more _ (v s) (s .args .s .w) (s .args .info .now) (s .pre .1 .1 .1) i (below s) (row-is s) (c .before .before .put-sum .ensures))
+    (i .size, done-more _ (s .args .s .w) (s .args .info .now) (s .pre .1 .1 .0) (s .pre .0 .0 .shaped .most) (s .pre .1 .1 .1) i (row-is s) (c .before .before .put-sum .ensures))
 
 pub put-row-spec : {M : Type 1} → statement M
 put-row-spec =

@@ -28,7 +28,7 @@ put-row-requires : tie.Need-put-row-requires Inv-loop μ-loop
 put-row-requires c κs =
     let s = c .before .before .before .before .before .before .before in
     let l = c .before .before .before .loop in
-    ((s .pre .0 .0, l .inv .1), ((s .pre .1 .0, omega (arith, s .pre .0 .0 .given .a)), (s .pre .1 .1 .0, l .inv .2)))
+    ((s .pre .0 .0, l .inv .1), ((s .pre .1 .0, omega (arith, s .pre .0 .0 .shaped .given .a)), (s .pre .1 .1 .0, l .inv .2)))
 
 add-r : tie.Need-add-r Inv-loop μ-loop
 add-r c = omega arith
@@ -48,7 +48,7 @@ same-length c = c .before .loop .inv .2 .size ∙ sym (c .before .before .before
 returns : tie.Need-returns Inv-loop μ-loop
 returns c =
     let s = c .before .before .before .before .before in
-    let e : c .before .loop .r ≡ codeOf (s .args .s .number) .a = omega (arith, s .pre .0 .0 .given .a) in
+    let e : c .before .loop .r ≡ codeOf (s .args .s .number) .a = omega (arith, s .pre .0 .0 .shaped .given .a) in
     (c .before .loop .inv .1, done-at (c .before .loop .inv .2) (ap (λ (k : ℕ). s .args .i * codeOf (s .args .s .number) .a + k) e))
 
 pub put-rows-spec : {M : Type 1} → statement M

@@ -12,27 +12,27 @@ use Rattle.encoder.proofs.positions.lay.Statement.{statement}
 use Rattle.encoder.proofs.positions.lay.Tie as tie
 
 abbrev Inv-loop : tie.InvT-loop
-Inv-loop number l flat table₀ rows row₀ table row = (row ≤ rows) × (length table ≡ tableSize) × (table ≡ tableEntered (codeOf number) row table₀)
+Inv-loop flat table₀ number l rows row₀ table row = (row ≤ rows) × (length table ≡ tableSize) × (table ≡ tableEntered (codeOf number) row table₀)
 
 abbrev μ-loop : tie.MeasureT-loop
-μ-loop number l flat table₀ rows row₀ table row = rows - row
+μ-loop flat table₀ number l rows row₀ table row = rows - row
 
 put-addresses-requires : tie.Need-put-addresses-requires Inv-loop μ-loop
-put-addresses-requires c κs = c .before .pre .1 .0
+put-addresses-requires c κs = c .before .before .pre .1 .0
 
 loop-holds : tie.Need-loop-holds Inv-loop μ-loop
 unfolding tableEntered
-loop-holds c = (omega arith, ap length (c .before .before .pre .1 .1) ∙ length-replicate {A = ℕ} tableSize 0, refl)
+loop-holds c = (omega arith, ap length (c .before .before .before .pre .1 .1) ∙ length-replicate {A = ℕ} tableSize 0, refl)
 
 enter-row-requires : tie.Need-enter-row-requires Inv-loop μ-loop
 enter-row-requires c κs =
-    let s = c .before .before .before .before .before .before in
-    ((s .pre .0 .0, s .pre .0 .1, c .before .before .before .before .put-addresses .ensures), ((omega (arith, s .pre .0 .1 .rows), few-classes _ (s .pre .0 .0)), c .before .before .before .loop .inv .1))
+    let s = c .before .before .before .before .before .before .before in
+    ((s .pre .0 .known, s .pre .0 .given, c .before .before .before .before .put-addresses .ensures), ((omega (arith, s .pre .0 .within), few-classes _ (s .pre .0 .known)), c .before .before .before .loop .inv .1))
 
 add-row : tie.Need-add-row Inv-loop μ-loop
 add-row c =
-    let s = c .before .before .before .before .before .before .before in
-    omega (arith, s .pre .0 .1 .rows, s .pre .0 .1 .short)
+    let s = c .before .before .before .before .before .before .before .before in
+    omega (arith, s .pre .0 .within, s .pre .0 .given .short)
 
 loop-less : tie.Need-loop-less Inv-loop μ-loop
 loop-less c = omega arith
@@ -41,13 +41,13 @@ loop-again : tie.Need-loop-again Inv-loop μ-loop
 loop-again c =
     let l = c .before .before .before .before .loop in
     let e = row-more _ _ _ (l .inv .2) (c .enter-row .ensures) in
-    (omega arith, ap length e ∙ table-size _ _ _ ∙ ap length (c .before .before .before .before .before .before .before .pre .1 .1) ∙ length-replicate {A = ℕ} tableSize 0, e)
+    (omega arith, ap length e ∙ table-size _ _ _ ∙ ap length (c .before .before .before .before .before .before .before .before .pre .1 .1) ∙ length-replicate {A = ℕ} tableSize 0, e)
 
 returns : tie.Need-returns Inv-loop μ-loop
 returns c =
-    let s = c .before .before .before .before in
-    let e : c .before .loop .row ≡ length (codeOf (s .args .number) .rows) = omega (arith, s .pre .0 .1 .rows) in
-    all-laid _ (s .pre .0 .0) _ e (s .pre .1 .1) (c .before .loop .inv .2) (c .before .loop .inv .1)
+    let s = c .before .before .before .before .before in
+    let e : c .before .loop .row ≡ s .args .s .rows = omega arith in
+    all-laid _ (s .pre .0 .known) _ (s .pre .0 .within) (s .pre .1 .1) (c .before .loop .inv .2 ∙ ap (λ (t : ℕ). tableEntered (codeOf (s .args .s .number)) t (s .args .table .now)) e) (c .before .loop .inv .1)
 
 pub lay-spec : {M : Type 1} → statement M
 lay-spec =

@@ -22,27 +22,27 @@ module _ (s : tie.Start) where
   a = s .args .s .layout .a
 
   v : Valid code
-  v = valid-of _ (s .pre .0 .known)
+  v = valid-of _ (s .pre .0 .shaped .known)
 
   some : 0 < a
-  some = omega (arith, some-a _ v, s .pre .0 .given .a)
+  some = omega (arith, some-a _ v, s .pre .0 .shaped .given .a)
 
 module _ (c : tie.After-remainder) where
   abbrev start : tie.Start
   start = c .before .before .before
 
   class-lt : c .remainder .result < code start .a
-  class-lt = omega (arith, c .remainder .ensures, mod-lt (start .args .j) (some start), start .pre .0 .given .a)
+  class-lt = omega (arith, c .remainder .ensures, mod-lt (start .args .j) (some start), start .pre .0 .shaped .given .a)
 
   step-lt : c .before .quotient .result < code start .q
   step-lt =
-      subst⁻¹ (λ (t : ℕ). t < code start .q) (c .before .quotient .ensures ∙ ap (λ (t : ℕ). start .args .j / t) (start .pre .0 .given .a))
+      subst⁻¹ (λ (t : ℕ). t < code start .q) (c .before .quotient .ensures ∙ ap (λ (t : ℕ). start .args .j / t) (start .pre .0 .shaped .given .a))
       (quotient-lt _ (v start) (start .args .j) (start .pre .1 .0))
 
   row-is : c .before .quotient .result * code start .a + c .remainder .result ≡ start .args .j
   row-is =
       ap₂ (λ (t u : ℕ). t * code start .a + u) (c .before .quotient .ensures) (c .remainder .ensures)
-      ∙ ap (λ (t : ℕ). start .args .j / a start * t + start .args .j % a start) (sym (start .pre .0 .given .a)) ∙ div-add-mod' (start .args .j) (a start)
+      ∙ ap (λ (t : ℕ). start .args .j / a start * t + start .args .j % a start) (sym (start .pre .0 .shaped .given .a)) ∙ div-add-mod' (start .args .j) (a start)
 
 quotient-requires : tie.Need-quotient-requires
 quotient-requires c κs = some (c .before)
@@ -59,7 +59,7 @@ add-xs : tie.Need-add-xs
 add-xs c = search needs
 
 cast-xs : tie.Need-cast-xs
-cast-xs c = let s = c .before .before .before .before .before .before in omega (arith, s .pre .0 .given .few, s .pre .0 .given .m, s .pre .1 .0)
+cast-xs c = let s = c .before .before .before .before .before .before in omega (arith, s .pre .0 .shaped .given .few, s .pre .0 .shaped .given .m, s .pre .1 .0)
 
 mul-xs : tie.Need-mul-xs
 mul-xs c = search needs
@@ -73,7 +73,7 @@ add-result c = search needs
 returns : tie.Need-returns
 returns c =
     let s = c .before .before .before .before .before .before .before in
-    first-row _ (v s) (information-at (c .before .before .information .ensures) (row-is (c .before .before .before .before))) (s .pre .1 .0) _ (s .pre .0 .given .k) (c .if1 .taken)
+    first-row _ _ (s .pre .0 .shaped .most) (information-at (c .before .before .information .ensures) (row-is (c .before .before .before .before))) (s .pre .1 .0) _ (s .pre .0 .shaped .given .k) (c .if1 .taken)
 
 add-xs-2 : tie.Need-add-xs-2
 add-xs-2 c = search needs
@@ -82,7 +82,7 @@ sub-xs : tie.Need-sub-xs
 sub-xs c = search needs
 
 cast-xs-2 : tie.Need-cast-xs-2
-cast-xs-2 c = let s = c .before .before .before .before .before .before .before .before in omega (arith, s .pre .0 .given .few, s .pre .0 .given .m, s .pre .1 .0)
+cast-xs-2 c = let s = c .before .before .before .before .before .before .before .before in omega (arith, s .pre .0 .shaped .given .few, s .pre .0 .shaped .given .m, s .pre .1 .0)
 
 add-xs-3 : tie.Need-add-xs-3
 add-xs-3 c = search needs
@@ -99,7 +99,7 @@ add-result-2 c = search needs
 returns-2 : tie.Need-returns-2
 returns-2 c =
     let s = c .before .before .before .before .before .before .before .before in
-    later-row _ (v s) (information-at (c .before .before .before .information .ensures) (row-is (c .before .before .before .before .before))) (s .pre .1 .0) _ (s .pre .0 .given .k) (omega arith)
+    later-row _ _ (s .pre .0 .shaped .most) (information-at (c .before .before .before .information .ensures) (row-is (c .before .before .before .before .before))) (s .pre .1 .0) _ (s .pre .0 .shaped .given .k) (omega arith)
 
 pub of-row-spec : {M : Type 1} → statement M
 of-row-spec =

@@ -6,7 +6,7 @@ use Rattle.peeling.proofs.peel.advance.Statement.{statement}
 use Rattle.peeling.proofs.peel.advance.Tie as tie
 
 put-off-requires : tie.Need-put-off-requires
-put-off-requires c κs = let p = c .before .before .before .before .before .before .before .pre in (p .0 .given, (p .1 .1 .0 .0, p .1 .1 .1))
+put-off-requires c κs = let p = c .before .before .before .before .before .before .before .pre in (p .0 .shaped .given, (p .1 .1 .0 .0, p .1 .1 .1))
 
 same-length : tie.Need-same-length
 same-length c = search needs
@@ -21,7 +21,7 @@ try-row-requires : tie.Need-try-row-requires
 try-row-requires c κs =
     let p = c .before .before .before .before .before .before .before .before .pre in
     let h = c .before .before .before .if1 .left in
-    (p .0, (p .1 .0, ((omega (arith, p .0 .given .m, h), p .1 .1 .0 .1 (omega (arith, h))), p .1 .1 .1)))
+    (p .0, (p .1 .0, ((omega (arith, p .0 .shaped .given .m, h), p .1 .1 .0 .1 (omega (arith, h))), p .1 .1 .1)))
 
 same-length-3 : tie.Need-same-length-3
 same-length-3 c = search needs

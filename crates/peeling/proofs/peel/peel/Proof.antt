@@ -15,7 +15,7 @@ use Rattle.peeling.proofs.peel.peel.Statement.{statement}
 use Rattle.peeling.proofs.peel.peel.Tie as tie
 
 few : (s : tie.Start) → length (s .args .states .now) ≤ 3072
-few s = omega (arith, few-positions (s .args .s .number), s .pre .1 .1 .0)
+few s = omega (arith, few-positions (s .args .s), s .pre .1 .1 .0)
 
 open-missing-requires : tie.Need-open-missing-requires
 open-missing-requires c κs = (few (c .before .before .before .before), c .before .before .before .before .pre .1 .0)
@@ -34,7 +34,7 @@ returns c =
     let s = c .before .before .before .before .before .before .before .before .before .before in
     let o = c .before .before .before .before .before .open-missing .ensures in
     subst⁻¹ (λ (g : Progress). Peeled (checks (s .args .s)) (s .args .s .w) (s .args .symbols .now) (s .args .states .now) (c .before .before .before .before .before .open-missing .last .1 .0) (s .args .symbols .now) (g .early) (g .steps) (g .pivots)) (c .beginning .ensures)
-    (nothing-missing (few-positions (s .args .s .number)) (few-rows (s .pre .0)) (s .pre .1 .1 .1) (s .pre .1 .1 .0) o (subst (AllKnownIs (s .args .states .now)) (c .before .if1 .taken) (c .before .before .none-missing .ensures)))
+    (nothing-missing (few-positions (s .args .s)) (few-rows (s .pre .0)) (s .pre .1 .1 .1) (s .pre .1 .1 .0) o (subst (AllKnownIs (s .args .states .now)) (c .before .if1 .taken) (c .before .before .none-missing .ensures)))
 
 peel-open-requires : tie.Need-peel-open-requires
 peel-open-requires c κs = search needs

@@ -21,15 +21,15 @@ abbrev μ-loop : tie.MeasureT-loop
 μ-loop s table states plan₀ symbols₀ xs₀ counts₀ ready₀ g₀ plan symbols xs counts ready g = left (checks s .n) g
 
 few : (s : tie.Start Inv-loop μ-loop) → length (s .args .states .now) ≤ 3072
-few s = omega (arith, few-positions (s .args .s .number), s .pre .1 .1 .0)
+few s = omega (arith, few-positions (s .args .s), s .pre .1 .1 .0)
 
 fits : (s : tie.Start Inv-loop μ-loop) → Fits (s .args .s .layout)
-fits s = fits-of _ _ (s .pre .0 .known) (s .pre .0 .given)
+fits s = fits-of _ _ (s .pre .0 .shaped .known) (s .pre .0 .shaped .given)
 
 start : (s : tie.Start Inv-loop μ-loop)
     → let a = s .args in
     State (checks (a .s)) (a .s .w) (a .symbols .now) (a .states .now) (a .plan .now) (a .symbols .now) (record { steps = 0; pivots = 0; early = 0; cursor = 0; fuel = 32768; last = 65535 })
-start s = state-start _ (s .args .s .w) _ _ _ _ 32768 65535 (few-positions (s .args .s .number)) (few-rows (s .pre .0)) (s .pre .1 .1 .1) (s .pre .1 .1 .0) (s .pre .1 .0)
+start s = state-start _ (s .args .s .w) _ _ _ _ 32768 65535 (few-positions (s .args .s)) (few-rows (s .pre .0)) (s .pre .1 .1 .1) (s .pre .1 .1 .0) (s .pre .1 .0)
 
 no-positions-requires : tie.Need-no-positions-requires Inv-loop μ-loop
 no-positions-requires c κs = tt

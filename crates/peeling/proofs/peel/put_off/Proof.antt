@@ -16,7 +16,7 @@ use Rattle.peeling.proofs.peel.put_off.Statement.{statement}
 use Rattle.peeling.proofs.peel.put_off.Tie as tie
 
 all : (s : tie.Start) → s .args .s .layout .k + s .args .s .layout .m ≡ checks (s .args .s) .n
-all s = symbols-of _ _ (s .pre .0)
+all s = symbols-of (s .args .s) (s .pre .0)
 
 abbrev start : tie.After-next-open → tie.Start
 start o = o .before .before .before .before .before .before

@@ -12,7 +12,7 @@ use Rattle.peeling.proofs.peel.try_row.Statement.{statement}
 use Rattle.peeling.proofs.peel.try_row.Tie as tie
 
 row-lt : (s : tie.Start) → s .args .r < checks (s .args .s) .m
-row-lt s = omega (arith, s .pre .1 .1 .0 .0, row-count (s .args .s .number))
+row-lt s = omega (arith, s .pre .1 .1 .0 .0, row-count (s .args .s))
 
 -- the row has one open position, and no step used it
 module _ (e : tie.Else2) where

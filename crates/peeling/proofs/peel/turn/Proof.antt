@@ -16,7 +16,7 @@ advance-requires c κs =
 close-requires : tie.Need-close-requires
 close-requires c κs =
     let p = c .before .before .before .before .before .before .before .before .before .before .before .before .before .before .before .pre in
-    ((fits-of _ _ (p .0 .known) (p .0 .given), p .0 .laid .size), (p .1 .0 .counts-size, c .before .before .before .before .before .before .before .before .before .before .next-row .ensures .1))
+    ((fits-of _ _ (p .0 .shaped .known) (p .0 .shaped .given), p .0 .laid .size), (p .1 .0 .counts-size, c .before .before .before .before .before .before .before .before .before .before .next-row .ensures .1))
 
 same-length : tie.Need-same-length
 same-length c = search needs

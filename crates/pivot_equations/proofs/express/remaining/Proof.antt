@@ -52,7 +52,7 @@ remaining-row-requires c κs =
           p .0,
           (
             record { few = p .1 .0 .few; fit = omega (arith, p .1 .0 .fit, i .steps .size); enough = p .1 .0 .enough },
-            (places, (p .1 .1 .1, ((omega (arith, s .pre .0 .given .m), i .next), i .expressed))),
+            (places, (p .1 .1 .1, ((omega (arith, s .pre .0 .shaped .given .m), i .next), i .expressed))),
           ),
         ),
       ),
@@ -77,7 +77,7 @@ returns : tie.Need-returns Inv-loop μ-loop
 returns c =
     let i = c .before .loop .inv in
     let s = c .before .before .before .before .before .before in
-    let e : c .before .loop .j ≡ checks (s .args .s) .m = omega (arith, i .to, s .pre .0 .given .m, row-count (s .args .s .number)) in
+    let e : c .before .loop .j ≡ checks (s .args .s) .m = omega (arith, i .to, s .pre .0 .shaped .given .m, row-count (s .args .s)) in
     (rw e at (i .expressed), i .steps)
 
 pub remaining-spec : {M : Type 1} → statement M

@@ -21,7 +21,7 @@ mul-if1 : tie.Need-mul-if1
 mul-if1 c = search needs
 
 shared-slice-read-if1 : tie.Need-shared-slice-read-if1
-shared-slice-read-if1 c = omega (arith, c .before .before .before .pre .1 .1 .0 .made .rows, c .before .before .before .pre .1 .1 .0 .made .size, row-count (c .before .before .before .args .s .number))
+shared-slice-read-if1 c = omega (arith, c .before .before .before .pre .1 .1 .0 .made .rows, c .before .before .before .pre .1 .1 .0 .made .size, row-count (c .before .before .before .args .s))
 
 returns : tie.Need-returns
 returns c =
@@ -32,10 +32,10 @@ returns c =
 row-requires : tie.Need-row-requires
 row-requires c κs =
     let k : Checks = checks (c .before .before .before .before .before .before .args .s) in
-    let e : c .before .before .before .before .before .before .args .s .layout .m ≡ k .m = c .before .before .before .before .before .before .pre .0 .given .m ∙ sym (row-count (c .before .before .before .before .before .before .args .s .number)) in
+    let e : c .before .before .before .before .before .before .args .s .layout .m ≡ k .m = c .before .before .before .before .before .before .pre .0 .shaped .given .m ∙ sym (row-count (c .before .before .before .before .before .before .args .s)) in
     let f = ap (λ (x : ℕ). x * (c .before .before .before .before .before .before .args .r .packed + 1)) e in
     let unused : usedBy (c .before .before .before .before .before .before .args .plan .now) (c .before .before .before .before .before .before .args .j) ≡ 0 = omega arith in
-    let h : c .before .before .before .before .before .before .args .j < k .m = omega (arith, row-count (c .before .before .before .before .before .before .args .s .number)) in
+    let h : c .before .before .before .before .before .before .args .j < k .m = omega (arith, row-count (c .before .before .before .before .before .before .args .s)) in
     let b = rest-below (c .before .before .before .before .before .before .pre .1 .1 .0 .made) (c .before .before .before .before .before .before .pre .1 .1 .0 .closed) (c .before .before .before .before .before .before .pre .1 .1 .1 .1 .1 .0) (c .before .before .before .before .before .before .args .j) h unused in
     (c .before .before .before .before .before .before .pre .0, (c .before .before .before .before .before .before .pre .1 .0, ((c .before .before .before .before .before .before .pre .1 .1 .1 .0 .few, omega (arith, c .before .before .before .before .before .before .pre .1 .1 .1 .0 .fit)), ((omega arith, (c .before .before .before .before .before .before .pre .1 .1 .1 .1 .1 .1 .0 .0, c .before .before .before .before .before .before .pre .1 .1 .0 .made .size)), reads-rows e (reads-rest (c .before .before .before .before .before .before .pre .1 .1 .0 .made) (c .before .before .before .before .before .before .pre .1 .1 .0 .closed) (c .before .before .before .before .before .before .pre .1 .1 .1 .1 .1 .0) (c .before .before .before .before .before .before .pre .1 .1 .1 .1 .0) (omega arith))))))
 
@@ -43,7 +43,7 @@ add-result : tie.Need-add-result
 add-result c =
     let k : Checks = checks (c .before .before .before .before .before .before .before .before .before .args .s) in
     let unused : usedBy (c .before .before .before .before .before .before .before .before .before .args .plan .now) (c .before .before .before .before .before .before .before .before .before .args .j) ≡ 0 = omega arith in
-    let h : c .before .before .before .before .before .before .before .before .before .args .j < k .m = omega (arith, c .before .before .before .before .before .before .before .before .before .pre .1 .1 .1 .1 .1 .1 .0 .0, row-count (c .before .before .before .before .before .before .before .before .before .args .s .number)) in
+    let h : c .before .before .before .before .before .before .before .before .before .args .j < k .m = omega (arith, c .before .before .before .before .before .before .before .before .before .pre .1 .1 .1 .1 .1 .1 .0 .0, row-count (c .before .before .before .before .before .before .before .before .before .args .s)) in
     omega (arith, c .before .before .before .before .before .before .before .before .before .pre .1 .1 .1 .1 .1 .1 .0 .1, rest-below (c .before .before .before .before .before .before .before .before .before .pre .1 .1 .0 .made) (c .before .before .before .before .before .before .before .before .before .pre .1 .1 .0 .closed) (c .before .before .before .before .before .before .before .before .before .pre .1 .1 .1 .1 .1 .0) (c .before .before .before .before .before .before .before .before .before .args .j) h unused, c .before .before .before .before .before .before .before .before .before .pre .1 .1 .0 .made .rows)
 
 same-length : tie.Need-same-length

@@ -3,6 +3,7 @@
 use mathlib.Core.Path.{_≡_, sym, subst}
 use mathlib.Core.List.{List, _++_}
 use Prim.Native.Nat.{ℕ, _+_, _-_, _*_, _<_, _≤_}
+use native.Mathlib.Nat.{mul-le-mul-left, mul-le-mul-right}
 use native.Mathlib.Omega.{arith}
 use lib.ListN.{length, getD, take, drop}
 use Rattle.algebra.proofs.Codeword.{slot}
@@ -27,6 +28,14 @@ room : (s : tie.Start Inv-loop μ-loop)
 room s =
     let a = s .args in
     omega (arith, s .pre .1 .1 .0 .1, slot (a .e .row) (a .s .layout .m) (a .r .packed + 1) (s .pre .1 .1 .1 .0 .0))
+
+-- its numbers are small
+small : (s : tie.Start Inv-loop μ-loop) → let a = s .args in a .e .row * (a .r .packed + 1) + (a .r .packed + 1) ≤ 3072 * 49
+small s =
+    let a = s .args in
+    let m : a .s .layout .m ≤ 3072 = omega (arith, s .pre .0 .shaped .given .few) in
+    let p : a .r .packed + 1 ≤ 49 = omega (arith, s .pre .1 .1 .0 .0) in
+    omega (arith, slot (a .e .row) (a .s .layout .m) (a .r .packed + 1) (s .pre .1 .1 .1 .0 .0), mul-le-mul-right (a .r .packed + 1) m, mul-le-mul-left 3072 p)
 
 -- and is cleared
 zeroed : (c : tie.After-clear-words Inv-loop μ-loop)
@@ -53,13 +62,13 @@ add-stride : tie.Need-add-stride Inv-loop μ-loop
 add-stride c = omega arith
 
 mul-at : tie.Need-mul-at Inv-loop μ-loop
-mul-at c = let s = c .before .before .before in omega (arith, room s)
+mul-at c = omega (arith, small (c .before .before .before))
 
 add-clear-words : tie.Need-add-clear-words Inv-loop μ-loop
-add-clear-words c = let s = c .before .before .before in omega (arith, room s)
+add-clear-words c = omega (arith, small (c .before .before .before))
 
 mul-clear-words : tie.Need-mul-clear-words Inv-loop μ-loop
-mul-clear-words c = let s = c .before .before .before in omega (arith, room s)
+mul-clear-words c = omega (arith, small (c .before .before .before))
 
 sub-clear-words : tie.Need-sub-clear-words Inv-loop μ-loop
 sub-clear-words c = omega arith
@@ -96,7 +105,7 @@ add-other-requires c κs =
     let l = c .before .before .before .before .loop in
     let e = c .before .wide .ensures .0 in
     let x = c .before .before .before .before .before .of-row .ensures .below (l .i) (omega arith) in
-    ((s .pre .1 .1 .0 .0, omega (arith, s .pre .1 .1 .0 .1, zeroed (c .before .before .before .before .before .before .before .before .before) .only .size, l .inv .1 .1 .only .size)), ((s .pre .1 .1 .1 .0 .0, (omega (arith, e, x, few-positions (s .args .s .number)), s .pre .1 .1 .1 .0 .1 .1)), reads-kind (s .args .plan .now) (s .args .e .but) (sym e) (reads-same (l .inv .1 .1 .only) (l .inv .1 .0 (l .i) (omega arith)))))
+    ((s .pre .1 .1 .0 .0, omega (arith, s .pre .1 .1 .0 .1, zeroed (c .before .before .before .before .before .before .before .before .before) .only .size, l .inv .1 .1 .only .size)), ((s .pre .1 .1 .1 .0 .0, (omega (arith, e, x, few-positions (s .args .s)), s .pre .1 .1 .1 .0 .1 .1)), reads-kind (s .args .plan .now) (s .args .e .but) (sym e) (reads-same (l .inv .1 .1 .only) (l .inv .1 .0 (l .i) (omega arith)))))
 
 add-i : tie.Need-add-i Inv-loop μ-loop
 add-i c = omega arith

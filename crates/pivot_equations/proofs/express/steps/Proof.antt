@@ -73,7 +73,7 @@ row-requires c κs =
     let a = s .args in
     let p = s .pre .1 .0 in
     let l = c .before .before .before .before .before .before .loop in
-    let e : a .s .layout .m ≡ checks (a .s) .m = s .pre .0 .given .m ∙ sym (row-count (a .s .number)) in
+    let e : a .s .layout .m ≡ checks (a .s) .m = s .pre .0 .shaped .given .m ∙ sym (row-count (a .s)) in
     let f = ap (λ (x : ℕ). x * (a .r .packed + 1)) e in
     let small = few-steps (p .made) in
     let h : l .t < a .r .steps = omega arith in (
@@ -83,7 +83,7 @@ row-requires c κs =
         (
           (s .pre .1 .1 .0 .few, omega (arith, l .inv .behind .size, s .pre .1 .1 .0 .fit)),
           (
-            (omega arith, (omega (arith, p .made .step (l .t) h .row, row-count (a .s .number)), p .made .size)),
+            (omega arith, (omega (arith, p .made .step (l .t) h .row, row-count (a .s)), p .made .size)),
             reads-rows e (reads-step (p .made) (p .closed) (places s (l .inv)) h),
           ),
         ),
