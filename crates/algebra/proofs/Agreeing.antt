@@ -131,7 +131,7 @@ module _ (c : Checks) (w : ℕ) (known : ℕ → Bool) (s : List ℕ) where
 -- ---- the agreeing codewords, in logical form
 
 module _ (c : Checks) (w : ℕ) (known : ℕ → Bool) (s : List ℕ) where
-  agrees-iff : (x : List ℕ) → (agrees c w known s x ≡ true) ↔ ((i : ℕ) → i < c .n → known i ≡ true → (b : ℕ) → b < w → byteAt w x b i ≡ byteAt w s b i)
+  pub agrees-iff : (x : List ℕ) → (agrees c w known s x ≡ true) ↔ ((i : ℕ) → i < c .n → known i ≡ true → (b : ℕ) → b < w → byteAt w x b i ≡ byteAt w s b i)
   unfolding agrees
   agrees-iff x = (
     λ e i h t. same-iff w x s i .0 (from (known i) (sameSymbol w x s i) (every-iff (c .n) test .0 e i h) t),

@@ -5,5 +5,6 @@ pub mod Staircase
 pub mod Words
 pub mod Agreeing
 pub mod SameKnown
+pub mod Shortened
 pub mod Counts
 pub mod Fronts

@@ -4,6 +4,7 @@ use mathlib.Core.Path.{_≡_, refl, sym, ap, ap₂, _∙_}
 use mathlib.Core.Bool.{Bool, true, false, _||_, cond}
 use mathlib.Core.List.{List, [], _∷_}
 use Prim.Native.Nat.{ℕ, _+_, _*_, _/_, _≤_}
+use native.Mathlib.Omega.{arith}
 use lib.ListN.{length}
 use Rattle.algebra.specs.Staircase.{staircase}
 use Rattle.ccsds.specs.Codes.{nOf}
@@ -12,9 +13,10 @@ use Rattle.ccsds.specs.RefusalTable as refusal
 use Rattle.ccsds.specs.Refusals.{wrongLength, bytesOf}
 use Rattle.ccsds.proofs.Valid.{few-of}
 use Rattle.ccsds.proofs.RefusalOrder.{chain, in-order, part-refuses, part-passed, parts-none, first-is, first-on, first-end, first-none}
-use Rattle.ccsds.proofs.Refusals.{or-false, code-known, width-right, length-right, length-same, length-wrong, bytes-right}
+use Rattle.ccsds.proofs.Refusals.{or-false, code-known, width-right, fill-right, length-right, length-same, length-wrong, bytes-right}
 use Rattle.block.specs.Block.{checks, blockConditions, blockRefusal}
 use Rattle.block.specs.Close.{wrongWork, wrongMarks, closeRefusal}
+use Rattle.block.specs.inner.Idle.{IdleIn}
 use Rattle.block.specs.inner.Ready.{Ready}
 use Rattle.block.specs.declared.Block.{Block}
 use Rattle.block.proofs.BlockRefusal.{checks-n, block-right}
@@ -74,11 +76,16 @@ module _ (b : Block) (symbols marks words bytes : List ℕ) where
       record {
         known = code-known (b .code) (o .0 .code);
         some = width-right (b .w) (o .0 .width) .0;
+        fill = fill-right (codeOf (b .code) .k) (b .fill) (o .0 .fill) .1;
         symbols-size = o .1;
         marks-size = o .2;
         words-size = length-right _ _ (r .0);
         bytes-size = length-right _ _ (r .1);
       }
+
+  -- and the idle positions are within the block
+  pub idle-in : {k : ℕ} → k ≡ codeOf (b .code) .k → closeRefusal b symbols marks words bytes ≡ 0 → IdleIn b k (length marks)
+  idle-in e z = record { information = e; fill = omega (arith, ready z .fill); within = omega (arith, ready z .marks-size, checks-n b) }
 
   -- and the marks have room in an array of 3,072
   pub marks-few : closeRefusal b symbols marks words bytes ≡ 0 → length marks ≤ 3072

@@ -6,12 +6,14 @@ use mathlib.Core.List.{List}
 use Prim.Native.Nat.{ℕ, zero, suc, _-_, _≤_, _<_}
 use native.Mathlib.Omega.{arith}
 use lib.ListN.{length, getD, drop, length-drop}
+use Rattle.ccsds.specs.Tables.{codeOf}
+use Rattle.ccsds.specs.Fill.{idleLwc}
 use Rattle.ccsds.specs.RefusalTable as refusal
 use Rattle.ccsds.specs.Refusals.{wrongLength, wrongPosition, Outcome, refused, answered, outcome, _⟫_}
 use Rattle.ccsds.specs.Reader.{Parts, readUnit}
 use Rattle.ccsds.proofs.RefusalOrder.{in-order, first-is, first-on, first-end, first-none}
 use Rattle.ccsds.proofs.Refusals.{position-right, length-right, length-same, length-wrong, refused-by, answered-by}
-use Rattle.block.specs.Block.{checks, blockRefusal}
+use Rattle.block.specs.Block.{checks, idleAt, blockRefusal}
 use Rattle.block.specs.Status.{wrongMark, Status, statusOf}
 use Rattle.block.specs.Take.{wrongParameters, foreign, unitRefusal, AdmittedUnit, admission, TakeResult, Take, unchanged, takeAt, takeSymbol, takeAdmitted, takeBy, takeOf}
 use Rattle.block.specs.declared.Block.{Block}
@@ -34,44 +36,54 @@ module _ (b : Block) (p : Parts) (len : ℕ) where
       position-refused h = sym (in-order _ refl ∙ first-on _ _ _ parameters ∙ first-on _ _ _ own ∙ first-is _ _ _ h)
 
       module _ (inside : wrongPosition (checks b .n) (p .lwc) ≡ false) where
-        pub symbol-refused : (len - p .symbol ≡ b .w → ⊥) → 10 ≡ unitRefusal b p len
+        pub idle-refused : idleLwc (codeOf (b .code) .k) (b .fill) (p .lwc) ≡ true → 14 ≡ unitRefusal b p len
         unfolding unitRefusal
-        symbol-refused h =
-            sym (in-order _ refl ∙ first-on _ _ _ parameters ∙ first-on _ _ _ own ∙ first-on _ _ _ inside ∙ first-is _ _ _ (length-wrong (len - p .symbol) (b .w) h))
+        idle-refused h = sym (in-order _ refl ∙ first-on _ _ _ parameters ∙ first-on _ _ _ own ∙ first-on _ _ _ inside ∙ first-is _ _ _ h)
 
-        pub unit-admitted : len - p .symbol ≡ b .w → 0 ≡ unitRefusal b p len
-        unfolding unitRefusal
-        unit-admitted h =
-            sym (in-order _ refl ∙ first-on _ _ _ parameters ∙ first-on _ _ _ own ∙ first-on _ _ _ inside
-            ∙ first-on _ _ _ (length-same (len - p .symbol) (b .w) h) ∙ first-end)
+        module _ (sent : idleLwc (codeOf (b .code) .k) (b .fill) (p .lwc) ≡ false) where
+          pub symbol-refused : (len - p .symbol ≡ b .w → ⊥) → 10 ≡ unitRefusal b p len
+          unfolding unitRefusal
+          symbol-refused h =
+              sym (in-order _ refl ∙ first-on _ _ _ parameters ∙ first-on _ _ _ own ∙ first-on _ _ _ inside ∙ first-on _ _ _ sent
+              ∙ first-is _ _ _ (length-wrong (len - p .symbol) (b .w) h))
+
+          pub unit-admitted : len - p .symbol ≡ b .w → 0 ≡ unitRefusal b p len
+          unfolding unitRefusal
+          unit-admitted h =
+              sym (in-order _ refl ∙ first-on _ _ _ parameters ∙ first-on _ _ _ own ∙ first-on _ _ _ inside ∙ first-on _ _ _ sent
+              ∙ first-on _ _ _ (length-same (len - p .symbol) (b .w) h) ∙ first-end)
 
 -- ---- an admitted unit
 
+-- at a position that is not idle
 pub record Inside (b : Block) (x : AdmittedUnit) : Type 0 where
   pub position : x .position < checks b .n
+  pub sent : idleAt b (x .position) ≡ false
   pub size : length (x .symbol) ≡ b .w
 
 -- what the rows say of a unit that none of them refuses
 pub record Fitting (b : Block) (p : Parts) (len : ℕ) : Type 0 where
   pub above : 0 < p .lwc
   pub most : p .lwc ≤ checks b .n
+  pub sent : idleAt b (p .lwc - 1) ≡ false
   pub symbol : len - p .symbol ≡ b .w
 
 pub fitting : (b : Block) (p : Parts) (len : ℕ) → unitRefusal b p len ≡ 0 → Fitting b p len
-unfolding unitRefusal
+unfolding unitRefusal idleLwc idleAt
 fitting b p len z =
     let a1 = first-none refusal.parameters (wrongParameters b (p .coding)) _ (sym (in-order _ refl) ∙ z) in
     let a2 = first-none refusal.foreign (foreign b p) _ (a1 .1) in
     let a3 = first-none refusal.position (wrongPosition (checks b .n) (p .lwc)) _ (a2 .1) in
-    let a4 = first-none refusal.symbol (wrongLength (len - p .symbol) (b .w)) _ (a3 .1) in
+    let a4 = first-none refusal.idle (idleLwc (codeOf (b .code) .k) (b .fill) (p .lwc)) _ (a3 .1) in
+    let a5 = first-none refusal.symbol (wrongLength (len - p .symbol) (b .w)) _ (a4 .1) in
     let l = position-right (checks b .n) (p .lwc) (a3 .0) in
-    record { above = l .0; most = l .1; symbol = length-right _ _ (a4 .0) }
+    record { above = l .0; most = l .1; sent = a4 .0; symbol = length-right _ _ (a5 .0) }
 
 unit-right : (b : Block) (p : Parts) (unit : List ℕ) → unitRefusal b p (length unit) ≡ 0
     → Inside b (record { position = p .lwc - 1; symbol = drop (length unit - b .w) unit })
 unit-right b p unit z =
     let f : Fitting b p (length unit) = fitting b p (length unit) z in
-    record { position = omega arith; size = length-drop (length unit - b .w) unit ∙ omega arith }
+    record { position = omega arith; sent = f .sent; size = length-drop (length unit - b .w) unit ∙ omega arith }
 
 pub admitted-inside : (b : Block) (unit : List ℕ) (x : AdmittedUnit) → admission b unit ≡ answered x → Inside b x
 unfolding admission

@@ -1,11 +1,13 @@
--- Document 01, "Open, take, close": close, by the codewords that agree with the heard symbols (`agreeing` of algebra).
+-- Document 01, "Open, take, close", with document 02, job 2: close, by the codewords that agree with the heard symbols and are zero at the idle
+-- positions (`agreeing` of algebra).
 -- Assumes nothing.
 use mathlib.Core.Bool.{Bool, false, _||_}
 use mathlib.Core.List.{List, [], _∷_, _++_}
-use Prim.Native.Nat.{ℕ, _+_, _*_, _/_}
-use lib.ListN.{length, replicate}
+use Prim.Native.Nat.{ℕ, _+_, _-_, _*_, _/_}
+use lib.ListN.{length, take, drop, replicate}
 use Rattle.algebra.specs.Lists.{tab, count}
 use Rattle.algebra.specs.Agreeing.{Verdict, whole, ambiguous, inconsistent, agreeing, verdictOf, determined, filledSymbols}
+use Rattle.ccsds.specs.Tables.{codeOf}
 use Rattle.ccsds.specs.RefusalTable as refusal
 use Rattle.ccsds.specs.Refusals.{firstOf, wrongLength, Outcome, refused, answered, outcome, afterwards}
 use Rattle.block.specs.Block.{checks, blockConditions}
@@ -27,6 +29,10 @@ unfoldable pub wrongMarks : List ℕ → Bool
 wrongMarks [] = false
 wrongMarks (mark ∷ marks) = wrongMark mark || wrongMarks marks
 
+-- the marks of the positions that are sent: idle ones are not counted
+unfoldable pub sentMarks : Block → List ℕ → List ℕ
+sentMarks b marks = take (b .fill) marks ++ drop (codeOf (b .code) .k) marks
+
 -- a verdict with the counts of marks 1, 2 and 0
 pub record Report : Type 0 where
   pub verdict : Verdict
@@ -34,19 +40,30 @@ pub record Report : Type 0 where
   pub filled : ℕ
   pub left : ℕ
 
-abbrev pub reportOf : Verdict → List ℕ → Report
-reportOf v marks = record { verdict = v; heard = count heardMark marks; filled = count filledMark marks; left = count missingMark marks }
+abbrev pub reportOf : Block → Verdict → List ℕ → Report
+reportOf b v marks = record {
+  verdict = v;
+  heard = count heardMark (sentMarks b marks);
+  filled = count filledMark (sentMarks b marks);
+  left = count missingMark (sentMarks b marks);
+}
 
 -- ---- the verdict
 
-module _ (b : Block) (symbols marks : List ℕ) where
-  -- all codewords that agree with the heard symbols
-  unfoldable pub agreeingWords : List (List ℕ)
-  agreeingWords = agreeing (checks b) (b .w) (known b marks) symbols
+-- the symbols with zero at the idle positions, whatever stood there
+unfoldable pub idleCleared : Block → List ℕ → List ℕ
+idleCleared b symbols =
+    take (b .fill * b .w) symbols ++ replicate ((codeOf (b .code) .k - b .fill) * b .w) 0 ++ drop (codeOf (b .code) .k * b .w) symbols
 
-  -- Heard positions stay as they are; those where all agreeing codewords have the same symbol get it and mark 2; all others get zero bytes and mark 0.
+module _ (b : Block) (symbols marks : List ℕ) where
+  -- all codewords that agree with the heard symbols and are zero at the idle positions
+  unfoldable pub agreeingWords : List (List ℕ)
+  agreeingWords = agreeing (checks b) (b .w) (known b marks) (idleCleared b symbols)
+
+  -- Heard positions stay as they are; those missing where all agreeing codewords have the same symbol get it and mark 2; all others, the idle ones
+  -- among them, get zero bytes and mark 0.
   unfoldable pub symbolsAfter : List ℕ
-  symbolsAfter = filledSymbols (checks b) (b .w) (known b marks) symbols
+  symbolsAfter = filledSymbols (checks b) (b .w) (known b marks) (idleCleared b symbols)
 
   unfoldable pub marksAfter : List ℕ
   marksAfter = tab (checks b .n) (λ i. markAfter (statusOf b marks i) (determined (b .w) agreeingWords i))
@@ -75,7 +92,7 @@ module _ (b : Block) (symbols marks words bytes : List ℕ) where
   -- the work buffers are all zero after a verdict
   unfoldable pub closeOf : Close
   closeOf = record {
-    answer = outcome closeRefusal (reportOf (verdictOf (agreeingWords b symbols marks)) (marksAfter b symbols marks));
+    answer = outcome closeRefusal (reportOf b (verdictOf (agreeingWords b symbols marks)) (marksAfter b symbols marks));
     symbols = afterwards closeRefusal (symbolsAfter b symbols marks) symbols;
     marks = afterwards closeRefusal (marksAfter b symbols marks) marks;
     workWords = afterwards closeRefusal (replicate (length words) 0) words;

@@ -1,11 +1,12 @@
--- Document 01, "Open, take, close": the marks of a block (0 missing, 1 heard, 2 filled), and the status of a position by them. Nothing else compares a
--- mark with a number.
+-- Document 01, "Open, take, close", with document 02, job 2: the marks of a block (0 missing, 1 heard, 2 filled), and the status of a position by
+-- its mark, unless it is idle. Nothing else compares a mark with a number.
 -- Assumes nothing.
 use mathlib.Core.Bool.{Bool, true, false, cond}
 use mathlib.Core.List.{List}
 use Prim.Native.Nat.{ℕ}
 use lib.Dec.{eqb, ltb}
 use lib.ListN.{getD}
+use Rattle.block.specs.Block.{idleAt}
 use Rattle.block.specs.declared.Block.{Block}
 use Rattle.block.specs.declared.status.Status as coded
 use Rattle.block.specs.declared.status.Status.the-variants.{Heard, Missing}
@@ -23,32 +24,34 @@ filledMark = 2
 unfoldable pub wrongMark : ℕ → Bool
 wrongMark mark = ltb filledMark mark
 
--- what a position is: heard, or missing, whether an earlier close filled it or not
+-- what a position is: idle; heard; or missing, whether an earlier close filled it or not
 pub data Status : Type 0 where
-  heard missing : Status
+  idle heard missing : Status
 
--- by its mark
+-- of a position that is not idle, by its mark
 abbrev pub statusBy : ℕ → Status
 statusBy mark = cond (eqb mark heardMark) heard missing
 
--- the status of position i of a block
+-- the status of position i of a block: an idle one is neither heard nor missing, whatever its mark
 abbrev pub statusOf : Block → List ℕ → ℕ → Status
-statusOf b marks i = statusBy (getD marks i 0)
+statusOf b marks i = cond (idleAt b i) idle (statusBy (getD marks i 0))
 
--- close knows the symbols of the heard positions
-abbrev pub isHeard : Status → Bool
-isHeard heard = true
-isHeard missing = false
+-- close knows the symbols of the heard positions, and those of the idle ones, which are zero
+abbrev pub isKnown : Status → Bool
+isKnown idle = true
+isKnown heard = true
+isKnown missing = false
 
 unfoldable pub known : Block → List ℕ → ℕ → Bool
-known b marks i = isHeard (statusOf b marks i)
+known b marks i = isKnown (statusOf b marks i)
 
 -- the mark after a verdict, by the status and by whether all codewords that agree have the same symbol there
 abbrev pub markAfter : Status → Bool → ℕ
+markAfter idle determined = missingMark
 markAfter heard determined = heardMark
 markAfter missing determined = cond determined filledMark missingMark
 
--- the cases of the status in the code
+-- the cases of the status in the code, which goes by marks and treats idle positions apart
 abbrev pub statusAs : coded.Status → Status
 statusAs Heard = heard
 statusAs Missing = missing

@@ -1,4 +1,4 @@
--- Document 01, "Open, take, close": take. The record and the unit alone decide whether a unit is admitted.
+-- Document 01, "Open, take, close", with document 02, job 2: take. The record and the unit alone decide whether a unit is admitted.
 -- Assumes nothing.
 use mathlib.Core.Bool.{Bool, true, false, not, _&&_, _||_, cond}
 use mathlib.Core.List.{List, [], _∷_, _++_}
@@ -7,11 +7,12 @@ use Prim.Native.Nat.{ℕ, zero, suc, _+_, _-_, _*_}
 use lib.Dec.{eqb}
 use lib.ListN.{length, getD, take, drop, set}
 use Rattle.ccsds.specs.Tables.{codeOf}
+use Rattle.ccsds.specs.Fill.{idleLwc}
 use Rattle.ccsds.specs.RefusalTable as refusal
 use Rattle.ccsds.specs.Refusals.{firstOf, wrongLength, wrongPosition, Outcome, refused, answered, outcome, _⟫_, refusedFor}
 use Rattle.ccsds.specs.Reader.{Coding, Parts, readUnit}
 use Rattle.block.specs.Block.{checks, blockRefusal}
-use Rattle.block.specs.Status.{heardMark, wrongMark, Status, heard, missing, statusOf}
+use Rattle.block.specs.Status.{heardMark, wrongMark, Status, idle, heard, missing, statusOf}
 use Rattle.algebra.specs.Codeword.{symbolAt}
 use Rattle.block.specs.declared.Block.{Block}
 use Rattle.block.specs.declared.take.Taken.{Taken}
@@ -28,13 +29,14 @@ wrongParameters b (some p) = not (eqb (p .w) (b .w) && eqb (p .k) (codeOf (b .co
 unfoldable pub foreign : Block → Parts → Bool
 foreign b p = not (eqb (p .lsc) (b .lsc)) || not (eqb (p .protocol) (b .protocol))
 
--- 7 to 10, or 0: of a unit of so many bytes that was read
+-- 7 to 10 and 14, or 0: of a unit of so many bytes that was read
 unfoldable pub unitRefusal : Block → Parts → ℕ → ℕ
 unitRefusal b p len =
     firstOf (
     (refusal.parameters, wrongParameters b (p .coding))
     ∷ (refusal.foreign, foreign b p)
     ∷ (refusal.position, wrongPosition (checks b .n) (p .lwc))
+    ∷ (refusal.idle, idleLwc (codeOf (b .code) .k) (b .fill) (p .lwc))
     ∷ (refusal.symbol, wrongLength (len - p .symbol) (b .w))
     ∷ []
     )
@@ -44,7 +46,7 @@ pub record AdmittedUnit : Type 0 where
   pub position : ℕ
   pub symbol : List ℕ
 
--- 5, 6, 19 or 20 from the unit reader, 7 to 10; else the position is LWC - 1 and the symbol the last W bytes
+-- 5, 6, 19 or 20 from the unit reader, 7 to 10 or 14; else the position is LWC - 1 and the symbol the last W bytes
 unfoldable pub admission : Block → List ℕ → Outcome AdmittedUnit
 admission b unit =
     readUnit unit ⟫ λ p.
@@ -77,8 +79,9 @@ module _ (b : Block) (symbols marks : List ℕ) where
   abbrev pub unchanged : Outcome TakeResult → Take
   unchanged a = record { answer = a; symbols = symbols; marks = marks }
 
-  -- an admitted unit, by the status of its position: at a heard one repeated or 12, at a missing one kept
+  -- an admitted unit, by the status of its position: at a heard one repeated or 12, at a missing one kept; at an idle one none is admitted
   abbrev pub takeAt : AdmittedUnit → Status → Take
+  takeAt x idle = unchanged (refusedFor refusal.idle)
   takeAt x heard = unchanged (cond (sameBytes (symbolAt (b .w) symbols (x .position)) (x .symbol)) (answered repeated) (refusedFor refusal.conflict))
   takeAt x missing = record { answer = answered kept; symbols = stored symbols (x .position * b .w) (x .symbol); marks = set marks (x .position) heardMark }
 

@@ -1,3 +1,4 @@
+pub mod Idle
 pub mod States
 pub mod Ready
 pub mod Steps

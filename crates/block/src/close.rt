@@ -12,7 +12,8 @@ ghost use Rattle.algebra.specs.Lists.{count};
 ghost use Rattle.algebra.specs.Agreeing.{verdictOf};
 ghost use Rattle.decoder.specs.Outcome.{verdictBy};
 ghost use Rattle.block.specs.Status.{missingMark, heardMark, filledMark};
-ghost use Rattle.block.specs.Close.{wrongMarks, reportOf, agreeingWords, symbolsAfter, marksAfter, closeRefusal, closeOf, verdictAs, reportAs, closedAs};
+ghost use Rattle.block.specs.Close.{wrongMarks, sentMarks, reportOf, agreeingWords, symbolsAfter, marksAfter, closeRefusal, closeOf, verdictAs, reportAs, closedAs};
+ghost use Rattle.block.specs.inner.Idle.{IdleIn};
 ghost use Rattle.block.specs.inner.Ready.{Ready};
 ghost use Rattle.ccsds.specs.inner.Layout.{maxN};
 
@@ -115,15 +116,17 @@ fn verdict_by(ok: bool, left: usize) -> Verdict
     Verdict::Ambiguous
 }
 
-// The report, from the marks afterwards.
-fn make_report(ok: bool, marks: &[u8]) -> Report
-    requires { ⌜ (length (now marks) ≤ maxN) × ((i : ℕ) → i < length (now marks) → getD (now marks) i 0 ≤ 2) ⌝ }
-    ensures { λ r. ⌜ reportAs r ≡ reportOf (verdictBy ok (count missingMark (now (marks .entry)))) (now (marks .entry)) ⌝ }
+// The report, from the marks afterwards: idle positions, below k, are not counted.
+fn make_report(b: Block, k: usize, ok: bool, marks: &[u8]) -> Report
+    requires { ⌜ IdleIn b k (length (now marks)) × (length (now marks) ≤ maxN) × ((i : ℕ) → i < length (now marks) → getD (now marks) i 0 ≤ 2) ⌝ }
+    ensures { λ r. ⌜ reportAs r ≡ reportOf b (verdictBy ok (count missingMark (sentMarks b (now (marks .entry))))) (now (marks .entry)) ⌝ }
 {
-    let counts = count_marks(marks);
-    let heard = counts.heard;
-    let filled = counts.filled;
-    let left = marks.len() - heard - filled;
+    let fill = b.fill;
+    let information = count_marks(&marks[..fill]);
+    let parity = count_marks(&marks[k..]);
+    let heard = information.heard + parity.heard;
+    let filled = information.filled + parity.filled;
+    let left = fill + (marks.len() - k) - heard - filled;
     let verdict = verdict_by(ok, left);
     Report {
         verdict,
@@ -133,9 +136,10 @@ fn make_report(ok: bool, marks: &[u8]) -> Report
     }
 }
 
-// The symbols and marks of a block after the verdict; false where no codeword agrees with the heard symbols.
+// The symbols and marks of a block after the verdict, of k information positions; false where no codeword agrees with the heard symbols.
 fn decode(
     b: Block,
+    k: usize,
     symbols: &mut [u8],
     marks: &mut [u8],
     states: &mut [u8],
@@ -143,14 +147,15 @@ fn decode(
     work_bytes: &mut [u8],
 ) -> bool
     requires { ⌜ Ready b (length (now symbols)) (length (now marks)) (length (now «work_words»)) (length (now «work_bytes»)) ⌝ }
-    requires { ⌜ length (now states) ≡ length (now marks) ⌝ }
+    requires { ⌜ IdleIn b k (length (now marks)) × (length (now states) ≡ length (now marks)) ⌝ }
     ensures { λ _. ⌜ now (symbols .exit) ≡ symbolsAfter b (now (symbols .entry)) (now (marks .entry)) ⌝ }
     ensures { λ _. ⌜ now (marks .exit) ≡ marksAfter b (now (symbols .entry)) (now (marks .entry)) ⌝ }
-    ensures { λ ok. ⌜ verdictBy ok (count missingMark (now (marks .exit))) ≡ verdictOf (agreeingWords b (now (symbols .entry)) (now (marks .entry))) ⌝ }
+    ensures { λ ok. ⌜ verdictBy ok (count missingMark (sentMarks b (now (marks .exit)))) ≡ verdictOf (agreeingWords b (now (symbols .entry)) (now (marks .entry))) ⌝ }
 {
-    status::put_states(b, marks, states);
-    let ok = decoder::solve::solve(b.code, b.w, symbols, states, work_words, work_bytes);
-    status::set_marks(b, states, marks);
+    status::set_part(symbols, b.fill * b.w, k * b.w, 0);
+    status::put_states(b, k, marks, states);
+    let ok = decoder::solve::solve(b.code, b.w, b.fill, symbols, states, work_words, work_bytes);
+    status::set_marks(b, k, states, marks);
     ok
 }
 
@@ -179,10 +184,20 @@ pub fn close(
     if refusal != 0 {
         return Closed::Refused(refusal);
     }
+    let code = Code { number: b.code };
+    let k = code.k();
     let n = marks.len();
     let mut states = blank();
-    let ok = decode(b, symbols, marks, &mut states[..n], work_words, work_bytes);
+    let ok = decode(
+        b,
+        k,
+        symbols,
+        marks,
+        &mut states[..n],
+        work_words,
+        work_bytes,
+    );
     buffers::clear_words(work_words);
     buffers::clear(work_bytes);
-    Closed::Reported(make_report(ok, marks))
+    Closed::Reported(make_report(b, k, ok, marks))
 }

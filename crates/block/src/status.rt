@@ -6,8 +6,10 @@ use peeling::states::LEFT;
 ghost use mathlib.Core.Path.{_≡_};
 ghost use mathlib.Core.Bool.{cond};
 ghost use lib.Dec.{eqb};
+ghost use Prim.Native.Nat.{_≤_};
 ghost use lib.ListN.{length};
-ghost use Rattle.block.specs.Status.{wrongMark, statusBy, isHeard, markAfter, statusAs};
+ghost use Rattle.block.specs.Status.{wrongMark, statusBy, isKnown, markAfter, statusAs};
+ghost use Rattle.block.specs.inner.Idle.{PartSet, IdleIn};
 ghost use Rattle.block.specs.inner.States.{StatesAre, MarksAre};
 
 pub const MISSING: u8 = 0;
@@ -16,7 +18,7 @@ pub const HEARD: u8 = 1;
 
 pub const FILLED: u8 = 2;
 
-// What a position is: heard, or missing, whether an earlier close filled it or not.
+// What a position that is not idle is: heard, or missing, whether an earlier close filled it or not.
 pub enum Status {
     Heard,
     Missing,
@@ -29,7 +31,7 @@ pub fn wrong(mark: u8) -> bool
     mark > FILLED
 }
 
-// The status by the mark.
+// The status of a position that is not idle, by its mark.
 pub fn of(mark: u8) -> Status
     ensures { λ r. ⌜ statusAs r ≡ statusBy mark ⌝ }
 {
@@ -41,7 +43,7 @@ pub fn of(mark: u8) -> Status
 
 // What the decoder is told of a position with this mark.
 fn state(mark: u8) -> u8
-    ensures { λ r. ⌜ r ≡ cond (isHeard (statusBy mark)) 1 0 ⌝ }
+    ensures { λ r. ⌜ r ≡ cond (isKnown (statusBy mark)) 1 0 ⌝ }
 {
     match of(mark) {
         Status::Heard => KNOWN,
@@ -49,9 +51,21 @@ fn state(mark: u8) -> u8
     }
 }
 
-// What the decoder is told of each position.
-pub fn put_states(b: Block, marks: &[u8], states: &mut [u8])
-    requires { ⌜ length (now states) ≡ length (now marks) ⌝ }
+// Sets each byte of a buffer from index `from` to before `to`.
+pub fn set_part(buf: &mut [u8], from: usize, to: usize, value: u8)
+    requires { ⌜ (from ≤ to) × (to ≤ length (now buf)) ⌝ }
+    ensures { λ _. ⌜ PartSet from to value (now (buf .entry)) (now (buf .exit)) ⌝ }
+{
+    let mut i = from;
+    while i < to {
+        buf[i] = value;
+        i += 1;
+    }
+}
+
+// What the decoder is told of each position: idle ones are known. Of k information positions.
+pub fn put_states(b: Block, k: usize, marks: &[u8], states: &mut [u8])
+    requires { ⌜ IdleIn b k (length (now marks)) × (length (now states) ≡ length (now marks)) ⌝ }
     ensures { λ _. ⌜ StatesAre b (now (marks .entry)) (now (states .exit)) ⌝ }
 {
     let mut i = 0;
@@ -59,6 +73,7 @@ pub fn put_states(b: Block, marks: &[u8], states: &mut [u8])
         states[i] = state(marks[i]);
         i += 1;
     }
+    set_part(states, b.fill, k, KNOWN);
 }
 
 // The mark after a verdict, from the mark before it and from what the decoder told.
@@ -71,9 +86,9 @@ fn after(mark: u8, state: u8) -> u8
     }
 }
 
-// The marks after a verdict.
-pub fn set_marks(b: Block, states: &[u8], marks: &mut [u8])
-    requires { ⌜ length (now states) ≡ length (now marks) ⌝ }
+// The marks after a verdict. Of k information positions.
+pub fn set_marks(b: Block, k: usize, states: &[u8], marks: &mut [u8])
+    requires { ⌜ IdleIn b k (length (now marks)) × (length (now states) ≡ length (now marks)) ⌝ }
     ensures { λ _. ⌜ MarksAre b (now (marks .entry)) (now (states .entry)) (now (marks .exit)) ⌝ }
 {
     let mut i = 0;
@@ -81,4 +96,5 @@ pub fn set_marks(b: Block, states: &[u8], marks: &mut [u8])
         marks[i] = after(marks[i], states[i]);
         i += 1;
     }
+    set_part(marks, b.fill, k, MISSING);
 }

@@ -11,6 +11,7 @@ use ccsds::tables;
 use ccsds::tables::Layout;
 use unit_claims::expected::Expected;
 ghost use mathlib.Core.Path.{_≡_};
+ghost use mathlib.Core.Bool.{false};
 ghost use Prim.Native.Nat.{_<_, _≤_, _+_, _*_};
 ghost use lib.ListN.{length};
 ghost use Rattle.ccsds.specs.Tables.{codeOf};
@@ -18,6 +19,7 @@ ghost use Rattle.ccsds.specs.Refusals.{answered};
 ghost use Rattle.ccsds.specs.Reader.{extensionAs, readUnit};
 ghost use Rattle.ccsds.specs.inner.Compact.{Compact};
 ghost use Rattle.ccsds.specs.inner.Layout.{LayoutOf};
+ghost use Rattle.block.specs.Block.{idleAt};
 ghost use Rattle.block.specs.Take.{wrongParameters, foreign, unitRefusal, admission, takeSymbol, takeOf, takenAs};
 ghost use Rattle.block.specs.inner.Steps.{partsAs, admittedAs};
 
@@ -58,7 +60,7 @@ fn is_foreign(b: Block, p: UnitParts) -> bool
     p.protocol != b.protocol
 }
 
-// 7 to 10, or 0: of a unit of `len` bytes.
+// 7 to 10 or 14, or 0: of a unit of `len` bytes.
 fn check_unit(b: Block, l: Layout, p: UnitParts, len: usize) -> u8
     requires { ⌜ LayoutOf (codeOf (b .code)) l ⌝ }
     requires { ⌜ p .symbol ≤ len ⌝ }
@@ -73,6 +75,9 @@ fn check_unit(b: Block, l: Layout, p: UnitParts, len: usize) -> u8
     }
     if ccsds::checks::wrong_position(l.k + l.m, p.lwc) {
         return refusal::POSITION;
+    }
+    if ccsds::checks::idle_lwc(l.k, b.fill, p.lwc) {
+        return refusal::IDLE;
     }
     if len - p.symbol != b.w {
         return refusal::SYMBOL;
@@ -114,7 +119,7 @@ fn admit(b: Block, l: Layout, unit: &[u8]) -> Admitted
     }
 }
 
-// Takes an admitted unit's symbol, by the mark at its position.
+// Takes an admitted unit's symbol, by the mark at its position, which is not idle.
 fn take_symbol(
     b: Block,
     symbols: &mut [u8],
@@ -122,7 +127,7 @@ fn take_symbol(
     position: usize,
     symbol: &[u8],
 ) -> Taken
-    requires { ⌜ position < length (now marks) ⌝ }
+    requires { ⌜ (position < length (now marks)) × (idleAt b position ≡ false) ⌝ }
     requires { ⌜ position * b .w + b .w ≤ length (now symbols) ⌝ }
     requires { ⌜ length (now symbol) ≡ b .w ⌝ }
     ensures answer { λ r. ⌜ takenAs r ≡ takeSymbol b (now (symbols .entry)) (now (marks .entry)) (record { position = position; symbol = now (symbol .entry) }) .answer ⌝ }

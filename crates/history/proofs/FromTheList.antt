@@ -4,13 +4,14 @@ use mathlib.Core.Path.{_≡_, refl, sym, ap, ap₂, _∙_, subst}
 use mathlib.Core.Bool.{Bool, true, false, _||_, cond, false≢true}
 use mathlib.Core.List.{List, [], _∷_}
 use Prim.Native.Nat.{ℕ, zero, suc, _+_, _*_, _/_, _%_, _≤_, _<_}
+use native.Mathlib.Nat.{mul-le-mul-right}
 use native.Mathlib.Decide.{decLt, ℕ-discrete}
 use native.Mathlib.Omega.{arith}
 use lib.Arith.{digits-div, digits-mod, digits-lt}
 use lib.Dec.{eqb}
 use lib.ListN.{length, getD, set, length-set, replicate, length-replicate, getD-replicate, List·getD-eq-default}
 use lib.Seq.{ext-getD, getD-set-same, getD-set-other}
-use borrow.Author.Tests.{ne-eqb, le-ltb}
+use borrow.Author.Tests.{le-ltb}
 use Rattle.algebra.specs.Codeword.{byteAt, symbolAt}
 use Rattle.algebra.specs.Agreeing.{verdictOf, determined, first, filledByte, filledSymbols}
 use Rattle.algebra.proofs.Lists.{eqb-iff, length-tab, getD-tab}
@@ -18,19 +19,21 @@ use Rattle.algebra.proofs.Codeword.{ext-byteAt}
 use Rattle.algebra.proofs.Agreeing.{byte-at, length-symbols}
 use Rattle.algebra.proofs.SameKnown.{SameKnown, same-agreeing, same-filled}
 use Rattle.ccsds.specs.Refusals.{Outcome, refused, answered, outcome, afterwards}
-use Rattle.ccsds.proofs.Refusals.{width-right}
-use Rattle.block.specs.Block.{checks, blockRefusal}
-use Rattle.block.specs.Status.{wrongMark, Status, heard, missing, statusBy, statusOf, isHeard, known, markAfter}
+use Rattle.ccsds.proofs.Refusals.{width-right, fill-right}
+use Rattle.ccsds.specs.Tables.{codeOf}
+use Rattle.block.specs.Block.{checks, idleAt, blockRefusal}
+use Rattle.block.specs.Status.{wrongMark, Status, idle, heard, missing, statusBy, statusOf, isKnown, known, markAfter}
 use Rattle.block.specs.Open.{openOf}
 use Rattle.block.specs.Take.{AdmittedUnit, Take, kept, repeated, admission, sameBytes, stored, unchanged, takeSymbol, takeOf}
-use Rattle.block.specs.Close.{reportOf, wrongWork, agreeingWords, symbolsAfter, marksAfter, closeRefusal, closeOf}
-use Rattle.history.specs.Calls.{Call, takeUnit, closeWith, History, State, taken, closed, opened, next, answer, run, isAt, symbolOf, heardAt, keptAt, keptSymbols, agreeingWith, latest, markOf, byteOf, stateOf, takeAnswer, answerOf, FollowsList, FromTheList}
+use Rattle.block.specs.Close.{reportOf, wrongWork, idleCleared, agreeingWords, symbolsAfter, marksAfter, closeRefusal, closeOf}
+use Rattle.history.specs.Calls.{Call, takeUnit, closeWith, History, State, taken, closed, opened, next, answer, run, isAt, symbolOf, heardAt, keptAt, keptSymbols, statusAt, knownAt, agreeingWith, latest, markOf, byteBy, byteOf, stateOf, takeAnswer, answerOf, FollowsList, FromTheList}
 use Rattle.block.specs.declared.Block.{Block}
 use Rattle.block.proofs.Symbols.{symbol-is, length-stored, stored-same, stored-other}
-use Rattle.block.proofs.BlockRefusal.{Right, block-right, not-refused, marks-right}
+use Rattle.block.proofs.Idle.{idle-bounds, cleared-byte}
+use Rattle.block.proofs.BlockRefusal.{checks-n, Right, block-right, not-refused, marks-right}
 use Rattle.block.proofs.CloseRefusal.{work-decides}
 use Rattle.block.proofs.Taking.{Inside, admitted-inside, at-right, take-by}
-use Rattle.block.proofs.Closing.{mark-by}
+use Rattle.block.proofs.Closing.{mark-small}
 
 same-state : {s t s′ t′ : List ℕ} → s ≡ s′ → t ≡ t′ → _≡_ {A = State} (record { symbols = s; marks = t }) (record { symbols = s′; marks = t′ })
 same-state = ap₂ {C = State} (λ (s t : List ℕ). record { symbols = s; marks = t })
@@ -38,6 +41,64 @@ same-state = ap₂ {C = State} (λ (s t : List ℕ). record { symbols = s; marks
 module _ (b : Block) (r : Right b) where
   pub pos : 0 < b .w
   pos = width-right (b .w) (r .width) .0
+
+  -- ---- idle positions
+
+  pub fill-most : b .fill ≤ codeOf (b .code) .k
+  fill-most = fill-right (codeOf (b .code) .k) (b .fill) (r .fill) .1
+
+  pub idle-inside : (i : ℕ) → idleAt b i ≡ true → i < checks b .n
+  unfolding idleAt
+  idle-inside i e = omega (arith, idle-bounds (codeOf (b .code) .k) (b .fill) i e .1, checks-n b)
+
+  -- no unit is admitted there
+  pub heard-sent : (h : History) (i : ℕ) → heardAt b h i ≡ true → idleAt b i ≡ false
+  unfolding heardAt isAt
+  heard-sent [] i e = absurd (false≢true e)
+  heard-sent (takeUnit unit ∷ h) i e = go (admission b unit) refl (heard-sent h i) e
+    where
+      go : (a : Outcome AdmittedUnit) → admission b unit ≡ a → (heardAt b h i ≡ true → idleAt b i ≡ false) → isAt a i || heardAt b h i ≡ true
+          → idleAt b i ≡ false
+      go (refused number) q ih f = ih f
+      go (answered x) q ih f = at (eqb (x .position) i) refl f
+        where
+          at : (t : Bool) → eqb (x .position) i ≡ t → t || heardAt b h i ≡ true → idleAt b i ≡ false
+          at true g f = subst (λ (p : ℕ). idleAt b p ≡ false) (eqb-iff (x .position) i .0 g) (admitted-inside b unit x q .sent)
+          at false g f = ih f
+  heard-sent (closeWith words bytes ∷ h) i e = heard-sent h i e
+
+  pub idle-unheard : (h : History) (i : ℕ) → idleAt b i ≡ true → heardAt b h i ≡ false
+  idle-unheard h i e = go (heardAt b h i) refl
+    where
+      go : (t : Bool) → heardAt b h i ≡ t → t ≡ false
+      go true f = sym e ∙ heard-sent h i f
+      go false f = refl
+
+  -- nothing is kept where nothing was heard
+  pub kept-none : (h : History) (i : ℕ) → heardAt b h i ≡ false → keptAt b h i ≡ []
+  unfolding heardAt keptAt
+  kept-none [] i e = refl
+  kept-none (takeUnit unit ∷ h) i e = go (isAt (admission b unit) i) (heardAt b h i) e
+    where
+      go : (a d : Bool) → a || d ≡ false → cond d (keptAt b h i) (cond a (symbolOf (admission b unit)) []) ≡ []
+      go true d f = absurd (false≢true (sym f))
+      go false true f = absurd (false≢true (sym f))
+      go false false f = refl
+  kept-none (closeWith words bytes ∷ h) i e = kept-none h i e
+
+  pub kept-zero : (h : History) (i j : ℕ) → idleAt b i ≡ true → getD (keptAt b h i) j 0 ≡ 0
+  kept-zero h i j e = ap (λ (x : List ℕ). getD x j 0) (kept-none h i (idle-unheard h i e))
+
+  -- marks and bytes go by what was heard, what is kept, and the latest verdict
+  same-at : (h g : History) (i : ℕ) → heardAt b h i ≡ heardAt b g i → keptAt b h i ≡ keptAt b g i → latest b h ≡ latest b g
+      → (markOf b h i ≡ markOf b g i) × ((j : ℕ) → byteOf b h j i ≡ byteOf b g j i)
+  unfolding markOf byteOf
+  same-at h g i e f l = (rw (e, l), λ j. rw e (go j (statusAt b g i)))
+    where
+      go : (j : ℕ) (s : Status) → byteBy b h j i s ≡ byteBy b g j i s
+      go j idle = refl
+      go j heard = ap (λ (x : List ℕ). getD x j 0) f
+      go j missing = ap (λ (L : List (List ℕ)). cond (determined (b .w) L i) (byteAt (b .w) (first L) j i) 0) l
 
   -- ---- the state that the list says
 
@@ -72,20 +133,12 @@ module _ (b : Block) (r : Right b) where
         let q : i < checks b .n = subst (λ (n : ℕ). i < n) f k in
         m i q ∙ sym (mark-is i q)))
 
-    mark-small : (i : ℕ) → markOf b h i ≤ 2
-    unfolding markOf
-    mark-small i = go (heardAt b h i) (determined (b .w) (latest b h) i)
-      where
-        go : (a d : Bool) → cond a 1 (cond d 2 0) ≤ 2
-        go true d = omega arith
-        go false true = omega arith
-        go false false = omega arith
-
     pub small : (i : ℕ) → getD (stateOf b h .marks) i 0 ≤ 2
+    unfolding markOf
     small i = go (decLt i (checks b .n))
       where
         go : Dec (i < checks b .n) → getD (stateOf b h .marks) i 0 ≤ 2
-        go (yes k) = omega (arith, mark-is i k, mark-small i)
+        go (yes k) = omega (arith, mark-is i k, mark-small (statusAt b h i) (determined (b .w) (latest b h) i))
         go (no k) = omega (arith, List·getD-eq-default (stateOf b h .marks) 0 {n = i} (omega (arith, marks-size)))
 
     -- no mark is one that 11 refuses
@@ -93,15 +146,21 @@ module _ (b : Block) (r : Right b) where
     unfolding wrongMark
     right i = le-ltb 2 (getD (stateOf b h .marks) i 0) (small i)
 
-    -- its heard positions are those of the list
-    pub heard-is : (i : ℕ) → i < checks b .n → known b (stateOf b h .marks) i ≡ heardAt b h i
-    unfolding known markOf
-    heard-is i k = ap (λ (m : ℕ). isHeard (statusBy m)) (mark-is i k) ∙ go (heardAt b h i) (determined (b .w) (latest b h) i)
+    -- what its positions are is what the list says
+    pub status-is : (i : ℕ) → i < checks b .n → statusOf b (stateOf b h .marks) i ≡ statusAt b h i
+    unfolding markOf
+    status-is i k =
+        ap (λ (m : ℕ). cond (idleAt b i) idle (statusBy m)) (mark-is i k) ∙ go (idleAt b i) (heardAt b h i) (determined (b .w) (latest b h) i)
       where
-        go : (a d : Bool) → isHeard (statusBy (cond a 1 (cond d 2 0))) ≡ a
-        go true d = refl
-        go false true = refl
-        go false false = refl
+        go : (t a d : Bool) → cond t idle (statusBy (markAfter (cond t idle (cond a heard missing)) d)) ≡ cond t idle (cond a heard missing)
+        go true a d = refl
+        go false true d = refl
+        go false false true = refl
+        go false false false = refl
+
+    known-is : (i : ℕ) → i < checks b .n → known b (stateOf b h .marks) i ≡ knownAt b h i
+    unfolding known knownAt
+    known-is i k = ap isKnown (status-is i k)
 
     pub kept-byte : (i j : ℕ) → i < checks b .n → j < b .w → byteAt (b .w) (keptSymbols b h) j i ≡ getD (keptAt b h i) j 0
     unfolding keptSymbols
@@ -109,25 +168,36 @@ module _ (b : Block) (r : Right b) where
         getD-tab (checks b .n * b .w) (λ u. getD (keptAt b h (u / b .w)) (u % b .w) 0) 0 (i * b .w + j) (digits-lt k l)
         ∙ ap₂ (λ (u v : ℕ). getD (keptAt b h u) v 0) (digits-div i l) (digits-mod i l)
 
-    same-known : SameKnown (checks b) (b .w) (known b (stateOf b h .marks)) (stateOf b h .symbols) (heardAt b h) (keptSymbols b h)
-    unfolding byteOf
-    same-known = record {
-      same-known = heard-is;
-      same-byte = λ i k t j l.
-          byte-is i j k l ∙ ap (λ (a : Bool). cond a (getD (keptAt b h i) j 0) (rest i j)) (sym (heard-is i k) ∙ t) ∙ sym (kept-byte i j k l);
-    }
+    -- the byte of a known position is that of the kept symbol
+    known-byte : (i j : ℕ) → knownAt b h i ≡ true → cond (idleAt b i) 0 (byteOf b h j i) ≡ getD (keptAt b h i) j 0
+    unfolding byteOf knownAt
+    known-byte i j = go (idleAt b i) refl (heardAt b h i)
       where
-        rest : ℕ → ℕ → ℕ
-        rest i j = cond (determined (b .w) (latest b h) i) (byteAt (b .w) (first (latest b h)) j i) 0
+        go : (u : Bool) → idleAt b i ≡ u → (a : Bool) → isKnown (cond u idle (cond a heard missing)) ≡ true
+            → cond u 0 (byteBy b h j i (cond u idle (cond a heard missing))) ≡ getD (keptAt b h i) j 0
+        go true q a t = sym (kept-zero h i j q)
+        go false q true t = refl
+        go false q false t = absurd (false≢true t)
+
+    same-known : SameKnown (checks b) (b .w) (known b (stateOf b h .marks)) (idleCleared b (stateOf b h .symbols)) (knownAt b h) (keptSymbols b h)
+    same-known =
+        let m : codeOf (b .code) .k ≤ checks b .n = omega (arith, checks-n b) in
+        let room : codeOf (b .code) .k * b .w ≤ length (stateOf b h .symbols) = omega (arith, symbols-size, mul-le-mul-right (b .w) m) in
+        record {
+          same-known = known-is;
+          same-byte = λ i k t j l.
+              cleared-byte b (stateOf b h .symbols) fill-most room i j l ∙ ap (cond (idleAt b i) 0) (byte-is i j k l)
+              ∙ known-byte i j (sym (known-is i k) ∙ t) ∙ sym (kept-byte i j k l);
+        }
 
     agreeing-are : agreeingWords b (stateOf b h .symbols) (stateOf b h .marks) ≡ agreeingWith b h
     unfolding agreeingWith agreeingWords
-    agreeing-are = same-agreeing (checks b) (b .w) (known b (stateOf b h .marks)) (stateOf b h .symbols) (heardAt b h) (keptSymbols b h) same-known
+    agreeing-are = same-agreeing (checks b) (b .w) (known b (stateOf b h .marks)) (idleCleared b (stateOf b h .symbols)) (knownAt b h) (keptSymbols b h) same-known
 
     -- the block's symbols after a verdict are those by the kept ones
-    symbols-are : symbolsAfter b (stateOf b h .symbols) (stateOf b h .marks) ≡ filledSymbols (checks b) (b .w) (heardAt b h) (keptSymbols b h)
+    symbols-are : symbolsAfter b (stateOf b h .symbols) (stateOf b h .marks) ≡ filledSymbols (checks b) (b .w) (knownAt b h) (keptSymbols b h)
     unfolding symbolsAfter
-    symbols-are = same-filled (checks b) (b .w) (known b (stateOf b h .marks)) (stateOf b h .symbols) (heardAt b h) (keptSymbols b h) same-known pos
+    symbols-are = same-filled (checks b) (b .w) (known b (stateOf b h .marks)) (idleCleared b (stateOf b h .symbols)) (knownAt b h) (keptSymbols b h) same-known pos
 
   -- a kept symbol has W bytes
   pub kept-size : (h : History) (i : ℕ) → heardAt b h i ≡ true → length (keptAt b h i) ≡ b .w
@@ -151,25 +221,45 @@ module _ (b : Block) (r : Right b) where
   unfolding byteOf
   heard-symbol h i k e =
       symbol-is (checks b .n) (b .w) (stateOf b h .symbols) (symbols-size h) i k (keptAt b h i) (kept-size h i e) (λ j l.
-      byte-is h i j k l ∙ rw (e, byteOf))
+      byte-is h i j k l ∙ rw (heard-sent h i e, e))
+
+  -- an idle position has mark 0 and zero bytes
+  pub idle-mark : (h : History) (i : ℕ) → idleAt b i ≡ true → getD (stateOf b h .marks) i 0 ≡ 0
+  unfolding markOf
+  idle-mark h i e = mark-is h i (idle-inside i e) ∙ rw e
+
+  pub idle-symbol : (h : History) (i : ℕ) → idleAt b i ≡ true → symbolAt (b .w) (stateOf b h .symbols) i ≡ replicate (b .w) 0
+  unfolding byteOf
+  idle-symbol h i e =
+      symbol-is (checks b .n) (b .w) (stateOf b h .symbols) (symbols-size h) i (idle-inside i e) (replicate (b .w) 0) (length-replicate (b .w) 0) (λ j l.
+      byte-is h i j (idle-inside i e) l ∙ rw e (sym (getD-replicate (b .w) j 0 0 l)))
 
   -- ---- one take
 
   module _ (h : History) (unit : List ℕ) where
     -- it is not for position i, or that was heard: position i stays
-    stays : (i : ℕ) (a d : Bool) → isAt (admission b unit) i ≡ a → heardAt b h i ≡ d → (a ≡ true → d ≡ true)
+    stays : (i : ℕ) → (isAt (admission b unit) i ≡ true → heardAt b h i ≡ true)
         → (markOf b (takeUnit unit ∷ h) i ≡ markOf b h i) × ((j : ℕ) → byteOf b (takeUnit unit ∷ h) j i ≡ byteOf b h j i)
-    unfolding markOf byteOf heardAt keptAt latest
-    stays i true true e f g = (rw (e, f), λ j. rw (e, f))
-    stays i true false e f g = absurd (false≢true (g refl))
-    stays i false true e f g = (rw (e, f), λ j. rw (e, f))
-    stays i false false e f g = (rw (e, f), λ j. rw (e, f))
+    unfolding heardAt keptAt latest
+    stays i g =
+        same-at (takeUnit unit ∷ h) h i (heard-same (isAt (admission b unit) i) (heardAt b h i) g)
+        (kept-same (isAt (admission b unit) i) (heardAt b h i) refl g) refl
+      where
+        heard-same : (a d : Bool) → (a ≡ true → d ≡ true) → a || d ≡ d
+        heard-same true d g = sym (g refl)
+        heard-same false d g = refl
 
-    -- it is for position i, which was not heard
-    arrives : (i : ℕ) → isAt (admission b unit) i ≡ true → heardAt b h i ≡ false
+        kept-same : (a d : Bool) → heardAt b h i ≡ d → (a ≡ true → d ≡ true)
+            → cond d (keptAt b h i) (cond a (symbolOf (admission b unit)) []) ≡ keptAt b h i
+        kept-same a true f g = refl
+        kept-same true false f g = absurd (false≢true (g refl))
+        kept-same false false f g = sym (kept-none h i f)
+
+    -- it is for position i, which was not heard and is not idle
+    arrives : (i : ℕ) → isAt (admission b unit) i ≡ true → heardAt b h i ≡ false → idleAt b i ≡ false
         → (markOf b (takeUnit unit ∷ h) i ≡ 1) × ((j : ℕ) → byteOf b (takeUnit unit ∷ h) j i ≡ getD (symbolOf (admission b unit)) j 0)
     unfolding markOf byteOf heardAt keptAt
-    arrives i e f = (rw e, λ j. rw (e, f))
+    arrives i e f s = (rw (s, e), λ j. rw (s, e, f, e))
 
     -- what take leaves and answers is what the list says
     record Does (t : Take) : Type 0 where
@@ -180,8 +270,7 @@ module _ (b : Block) (r : Right b) where
     quiet : ((i : ℕ) → i < checks b .n → isAt (admission b unit) i ≡ true → heardAt b h i ≡ true) → stateOf b h ≡ stateOf b (takeUnit unit ∷ h)
     quiet f =
         state-is (takeUnit unit ∷ h) (stateOf b h) (symbols-size h) (marks-size h)
-        (λ i k. mark-is h i k ∙ sym (stays i (isAt (admission b unit) i) (heardAt b h i) refl refl (f i k) .0))
-        (λ i j k l. byte-is h i j k l ∙ sym (stays i (isAt (admission b unit) i) (heardAt b h i) refl refl (f i k) .1 j))
+        (λ i k. mark-is h i k ∙ sym (stays i (f i k) .0)) (λ i j k l. byte-is h i j k l ∙ sym (stays i (f i k) .1 j))
 
     does-refused : (number : ℕ) → admission b unit ≡ refused number → Does (unchanged b (stateOf b h .symbols) (stateOf b h .marks) (refused number))
     unfolding isAt
@@ -230,10 +319,10 @@ module _ (b : Block) (r : Right b) where
           I = admitted-inside b unit x e
 
           new : {i : ℕ} → i ≡ p → (markOf b (takeUnit unit ∷ h) i ≡ 1) × ((j : ℕ) → byteOf b (takeUnit unit ∷ h) j i ≡ getD (symbolOf (admission b unit)) j 0)
-          new {i} q = arrives i (at-own i ∙ eqb-iff p i .1 (sym q)) (ap (heardAt b h) q ∙ t)
+          new {i} q = arrives i (at-own i ∙ eqb-iff p i .1 (sym q)) (ap (heardAt b h) q ∙ t) (ap (idleAt b) q ∙ I .sent)
 
           old : {i : ℕ} → (i ≡ p → ⊥) → (markOf b (takeUnit unit ∷ h) i ≡ markOf b h i) × ((j : ℕ) → byteOf b (takeUnit unit ∷ h) j i ≡ byteOf b h j i)
-          old {i} d = stays i false (heardAt b h i) (at-own i ∙ ne-eqb p i (λ q. d (sym q))) refl (λ f. absurd (false≢true f))
+          old {i} d = stays i (λ f. absurd (d (sym (eqb-iff p i .0 (sym (at-own i) ∙ f)))))
 
           mark : (i : ℕ) → i < checks b .n → Dec (i ≡ p) → getD (set m p 1) i 0 ≡ markOf b (takeUnit unit ∷ h) i
           mark i k (yes q) =
@@ -249,18 +338,20 @@ module _ (b : Block) (r : Right b) where
               stored-other (checks b .n) (b .w) s (symbols-size h) p (I .position) (x .symbol) (I .size) i j l d ∙ byte-is h i j k l ∙ sym (old d .1 j)
 
       does-admitted : Does (takeSymbol b (stateOf b h .symbols) (stateOf b h .marks) x)
-      unfolding known
-      does-admitted = go (statusOf b (stateOf b h .marks) p) refl
+      does-admitted = go (heardAt b h p) refl
         where
           p : ℕ
           p = x .position
 
-          follows : isHeard (statusOf b (stateOf b h .marks) p) ≡ heardAt b h p
-          follows = heard-is h p (admitted-inside b unit x e .position)
+          I : Inside b x
+          I = admitted-inside b unit x e
 
-          go : (s : Status) → statusOf b (stateOf b h .marks) p ≡ s → Does (takeSymbol b (stateOf b h .symbols) (stateOf b h .marks) x)
-          go heard t = subst Does (sym (at-right b (stateOf b h .symbols) (stateOf b h .marks) x (right h p) heard t)) (does-heard (sym follows ∙ ap isHeard t))
-          go missing t = subst Does (sym (at-right b (stateOf b h .symbols) (stateOf b h .marks) x (right h p) missing t)) (does-new (sym follows ∙ ap isHeard t))
+          by : (a : Bool) → heardAt b h p ≡ a → statusOf b (stateOf b h .marks) p ≡ cond a heard missing
+          by a t = status-is h p (I .position) ∙ ap₂ (λ (u v : Bool). cond u idle (cond v heard missing)) (I .sent) t
+
+          go : (a : Bool) → heardAt b h p ≡ a → Does (takeSymbol b (stateOf b h .symbols) (stateOf b h .marks) x)
+          go true t = subst Does (sym (at-right b (stateOf b h .symbols) (stateOf b h .marks) x (right h p) heard (by true t))) (does-heard t)
+          go false t = subst Does (sym (at-right b (stateOf b h .symbols) (stateOf b h .marks) x (right h p) missing (by false t))) (does-new t)
 
     does : Does (takeOf b (stateOf b h .symbols) (stateOf b h .marks) unit)
     does = go (admission b unit) refl
@@ -283,10 +374,13 @@ module _ (b : Block) (r : Right b) where
 
     -- it is refused: nothing changes
     refused-state : wrongWork b (length words) (length bytes) ≡ true → stateOf b h ≡ stateOf b (closeWith words bytes ∷ h)
-    unfolding markOf byteOf heardAt keptAt latest
+    unfolding heardAt keptAt latest
     refused-state t =
         state-is (closeWith words bytes ∷ h) (stateOf b h) (symbols-size h) (marks-size h)
-        (λ i k. mark-is h i k ∙ sym (rw t)) (λ i j k l. byte-is h i j k l ∙ sym (rw t))
+        (λ i k. mark-is h i k ∙ sym (stays i .0)) (λ i j k l. byte-is h i j k l ∙ sym (stays i .1 j))
+      where
+        stays : (i : ℕ) → (markOf b (closeWith words bytes ∷ h) i ≡ markOf b h i) × ((j : ℕ) → byteOf b (closeWith words bytes ∷ h) j i ≡ byteOf b h j i)
+        stays i = same-at (closeWith words bytes ∷ h) h i refl refl (rw t)
 
     -- it gives a verdict
     closed-state : wrongWork b (length words) (length bytes) ≡ false
@@ -296,17 +390,16 @@ module _ (b : Block) (r : Right b) where
           marks = marksAfter b (stateOf b h .symbols) (stateOf b h .marks);
         })
         (stateOf b (closeWith words bytes ∷ h))
-    unfolding markOf byteOf marksAfter symbolsAfter filledByte agreeingWith known heardAt keptAt latest
+    unfolding markOf byteOf marksAfter filledByte agreeingWith knownAt heardAt keptAt latest
     closed-state t =
         state-is (closeWith words bytes ∷ h) (record { symbols = symbolsAfter b s m; marks = marksAfter b s m })
-        (length-symbols (checks b) (b .w) (known b m) s) (length-tab (checks b .n) _)
+        (ap length (symbols-are h) ∙ length-symbols (checks b) (b .w) (knownAt b h) (keptSymbols b h)) (length-tab (checks b .n) _)
         (λ i k.
         getD-tab (checks b .n) (λ j. markAfter (statusOf b m j) (determined (b .w) (agreeingWords b s m) j)) 0 i k
-        ∙ mark-by (statusOf b m i) (determined (b .w) (agreeingWords b s m) i)
-        ∙ ap₂ (λ (a : Bool) (L : List (List ℕ)). cond a 1 (cond (determined (b .w) L i) 2 0)) (heard-is h i k) (agreeing-are h) ∙ sym (rw t))
+        ∙ ap₂ (λ (x : Status) (L : List (List ℕ)). markAfter x (determined (b .w) L i)) (status-is h i k) (agreeing-are h) ∙ sym (rw t))
         (λ i j k l.
-        ap (λ (x : List ℕ). byteAt (b .w) x j i) (symbols-are h) ∙ byte-at (checks b) (b .w) (heardAt b h) (keptSymbols b h) i j k l
-        ∙ ap (λ (v : ℕ). cond (heardAt b h i) v (rest i j)) (kept-byte h i j k l) ∙ sym (rw t))
+        ap (λ (x : List ℕ). byteAt (b .w) x j i) (symbols-are h) ∙ byte-at (checks b) (b .w) (knownAt b h) (keptSymbols b h) i j k l
+        ∙ ap (λ (v : ℕ). cond (knownAt b h i) v (rest i j)) (kept-byte h i j k l) ∙ go i j (idleAt b i) refl (heardAt b h i))
       where
         s : List ℕ
         s = stateOf b h .symbols
@@ -316,6 +409,13 @@ module _ (b : Block) (r : Right b) where
 
         rest : ℕ → ℕ → ℕ
         rest i j = cond (determined (b .w) (agreeingWith b h) i) (byteAt (b .w) (first (agreeingWith b h)) j i) 0
+
+        go : (i j : ℕ) (u : Bool) → idleAt b i ≡ u → (a : Bool)
+            → cond (isKnown (cond u idle (cond a heard missing))) (getD (keptAt b h i) j 0) (rest i j)
+            ≡ byteBy b (closeWith words bytes ∷ h) j i (cond u idle (cond a heard missing))
+        go i j true q a = kept-zero h i j q
+        go i j false q true = refl
+        go i j false q false = sym (rw t)
 
   -- ---- one call
 
@@ -337,7 +437,7 @@ module _ (b : Block) (r : Right b) where
       go true t = rw (refusal-is h words bytes, t)
       go false t =
           rw (refusal-is h words bytes, t)
-          (ap closed (ap answered (ap₂ reportOf (ap verdictOf (agreeing-are h)) (ap (λ (s : State). s .marks) (closed-state h words bytes t)))))
+          (ap closed (ap answered (ap₂ (reportOf b) (ap verdictOf (agreeing-are h)) (ap (λ (s : State). s .marks) (closed-state h words bytes t)))))
 
   -- ---- the list
 
@@ -346,7 +446,16 @@ module _ (b : Block) (r : Right b) where
   open-is =
       sym (state-is [] (record { symbols = replicate (checks b .n * b .w) 0; marks = replicate (checks b .n) 0 })
       (length-replicate (checks b .n * b .w) 0) (length-replicate (checks b .n) 0)
-      (λ i k. getD-replicate (checks b .n) i 0 0 k) (λ i j k l. getD-replicate (checks b .n * b .w) (i * b .w + j) 0 0 (digits-lt k l)))
+      (λ i k. getD-replicate (checks b .n) i 0 0 k ∙ mark (idleAt b i))
+      (λ i j k l. getD-replicate (checks b .n * b .w) (i * b .w + j) 0 0 (digits-lt k l) ∙ byte i j (idleAt b i)))
+    where
+      mark : (t : Bool) → 0 ≡ markAfter (cond t idle missing) false
+      mark true = refl
+      mark false = refl
+
+      byte : (i j : ℕ) (t : Bool) → 0 ≡ byteBy b [] j i (cond t idle missing)
+      byte i j true = refl
+      byte i j false = refl
 
   run-is : (s : State) → s ≡ stateOf b [] → (h : History) → run b s h ≡ stateOf b h
   unfolding run
@@ -358,6 +467,8 @@ module _ (b : Block) (r : Right b) where
     state = run-is s e h;
     answers = λ c. ap (λ (u : State). answer b u c) (run-is s e h) ∙ answer-is h c;
     marks = λ i. subst (λ (u : State). wrongMark (getD (u .marks) i 0) ≡ false) (sym (run-is s e h)) (right h i);
+    idle-marks = λ i q. ap (λ (u : State). getD (u .marks) i 0) (run-is s e h) ∙ idle-mark h i q;
+    idle-symbols = λ i q. ap (λ (u : State). symbolAt (b .w) (u .symbols) i) (run-is s e h) ∙ idle-symbol h i q;
   }
 
 -- what an open that was not refused returned and left

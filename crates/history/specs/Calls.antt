@@ -1,19 +1,19 @@
--- Document 01, "The whole list": lists of takes and closes on an opened block. `run` goes call by call, by what the calls' contracts say;
--- `stateOf` and `answerOf` say the same from the list alone, and `FromTheList` is the claim that they agree.
+-- Document 01, "The whole list", with document 02, job 2: lists of takes and closes on an opened block. `run` goes call by call, by what the
+-- calls' contracts say; `stateOf` and `answerOf` say the same from the list alone, and `FromTheList` is the claim that they agree.
 -- Assumes nothing.
 use mathlib.Core.Path.{_≡_}
-use mathlib.Core.Bool.{Bool, false, _||_, cond}
+use mathlib.Core.Bool.{Bool, true, false, _||_, cond}
 use mathlib.Core.List.{List, [], _∷_}
 use Prim.Native.Nat.{ℕ, _*_, _/_, _%_}
 use lib.Dec.{eqb}
-use lib.ListN.{length, getD}
+use lib.ListN.{length, getD, replicate}
 use Rattle.algebra.specs.Lists.{tab}
-use Rattle.algebra.specs.Codeword.{byteAt}
+use Rattle.algebra.specs.Codeword.{byteAt, symbolAt}
 use Rattle.algebra.specs.Agreeing.{agreeing, verdictOf, determined, first}
 use Rattle.ccsds.specs.RefusalTable as refusal
 use Rattle.ccsds.specs.Refusals.{Outcome, refused, answered, refusedFor}
-use Rattle.block.specs.Block.{checks}
-use Rattle.block.specs.Status.{missingMark, heardMark, filledMark, wrongMark}
+use Rattle.block.specs.Block.{checks, idleAt}
+use Rattle.block.specs.Status.{missingMark, wrongMark, Status, idle, heard, missing, isKnown, markAfter}
 use Rattle.block.specs.Open.{Open, openOf}
 use Rattle.block.specs.Take.{AdmittedUnit, TakeResult, kept, repeated, admission, sameBytes, takeOf}
 use Rattle.block.specs.Close.{Report, reportOf, wrongWork, closeOf}
@@ -89,9 +89,17 @@ module _ (b : Block) where
   unfoldable pub keptSymbols : History → List ℕ
   keptSymbols h = tab (checks b .n * b .w) (λ t. getD (keptAt h (t / b .w)) (t % b .w) 0)
 
-  -- all codewords that have the kept symbol at every heard position
+  -- what position i is: idle; heard; else missing
+  abbrev pub statusAt : History → ℕ → Status
+  statusAt h i = cond (idleAt b i) idle (cond (heardAt h i) heard missing)
+
+  -- its symbol is known: the kept one where it is heard; zero where it is idle, as no unit is admitted there
+  unfoldable pub knownAt : History → ℕ → Bool
+  knownAt h i = isKnown (statusAt h i)
+
+  -- all codewords that have the kept symbol at every heard position, and zero at every idle one
   unfoldable pub agreeingWith : History → List (List ℕ)
-  agreeingWith h = agreeing (checks b) (b .w) (heardAt h) (keptSymbols h)
+  agreeingWith h = agreeing (checks b) (b .w) (knownAt h) (keptSymbols h)
 
   -- those of the latest close that gave a verdict: a close is refused just where a work buffer isn't its size
   unfoldable pub latest : History → List (List ℕ)
@@ -99,15 +107,19 @@ module _ (b : Block) where
   latest (takeUnit unit ∷ h) = latest h
   latest (closeWith words bytes ∷ h) = cond (wrongWork b (length words) (length bytes)) (latest h) (agreeingWith h)
 
-  -- heard; filled by the latest verdict; else missing
+  -- 0 where it is idle; 1 where it is heard; 2 where the latest verdict filled it; else 0
   unfoldable pub markOf : History → ℕ → ℕ
-  markOf h i = cond (heardAt h i) heardMark (cond (determined (b .w) (latest h) i) filledMark missingMark)
+  markOf h i = markAfter (statusAt h i) (determined (b .w) (latest h) i)
 
-  -- byte j at position i: of the kept symbol; of the symbol that all agreeing codewords of the latest verdict have there; else 0
+  -- byte j at position i: 0 where it is idle; of the kept symbol where it is heard; of the symbol that all agreeing codewords of the latest
+  -- verdict have there; else 0
+  abbrev pub byteBy : History → ℕ → ℕ → Status → ℕ
+  byteBy h j i idle = 0
+  byteBy h j i heard = getD (keptAt h i) j 0
+  byteBy h j i missing = cond (determined (b .w) (latest h) i) (byteAt (b .w) (first (latest h)) j i) 0
+
   unfoldable pub byteOf : History → ℕ → ℕ → ℕ
-  byteOf h j i =
-      cond (heardAt h i) (getD (keptAt h i) j 0)
-      (cond (determined (b .w) (latest h) i) (byteAt (b .w) (first (latest h)) j i) 0)
+  byteOf h j i = byteBy h j i (statusAt h i)
 
   unfoldable pub stateOf : History → State
   stateOf h = record {
@@ -128,15 +140,18 @@ module _ (b : Block) where
   answerOf h (takeUnit unit) = taken (takeAnswer h (admission b unit))
   answerOf h (closeWith words bytes) =
       closed (cond (wrongWork b (length words) (length bytes)) (refusedFor refusal.length)
-      (answered (reportOf (verdictOf (agreeingWith h)) (stateOf (closeWith words bytes ∷ h) .marks))))
+      (answered (reportOf b (verdictOf (agreeingWith h)) (stateOf (closeWith words bytes ∷ h) .marks))))
 
 -- ---- the claim
 
--- state s after the calls of h is what the list says, and so is the answer to every further call; no mark is one that 11 refuses
+-- state s after the calls of h is what the list says, and so is the answer to every further call; no mark is one that 11 refuses, and an idle
+-- position has mark 0 and zero bytes
 pub record FollowsList (b : Block) (h : History) (s : State) : Type 0 where
   pub state : s ≡ stateOf b h
   pub answers : (c : Call) → answer b s c ≡ answerOf b h c
   pub marks : (i : ℕ) → wrongMark (getD (s .marks) i 0) ≡ false
+  pub idle-marks : (i : ℕ) → idleAt b i ≡ true → getD (s .marks) i 0 ≡ missingMark
+  pub idle-symbols : (i : ℕ) → idleAt b i ≡ true → symbolAt (b .w) (s .symbols) i ≡ replicate (b .w) 0
 
 -- for every record that open returned, whatever the buffers held before, and every list of calls
 abbrev pub FromTheList : Type 0

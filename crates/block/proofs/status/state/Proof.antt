@@ -2,7 +2,7 @@
 -- Assumes nothing.
 use mathlib.Core.Path.{sym, ap, _∙_}
 use mathlib.Core.Bool.{cond}
-use Rattle.block.specs.Status.{Status, isHeard, statusAs}
+use Rattle.block.specs.Status.{Status, isKnown, statusAs}
 use borrow.Author.Needs.{needs}
 use Rattle.block.proofs.status.state.Statement.{statement}
 use Rattle.block.proofs.status.state.Tie as tie
@@ -17,10 +17,10 @@ enum-told-2 : tie.Need-enum-told-2
 enum-told-2 c = search needs
 
 returns : tie.Need-returns
-returns c = ap (λ (s : Status). cond (isHeard s) 1 0) (sym (ap statusAs (c .enum-told .given .1)) ∙ c .before .before .of .ensures)
+returns c = ap (λ (s : Status). cond (isKnown s) 1 0) (sym (ap statusAs (c .enum-told .given .1)) ∙ c .before .before .of .ensures)
 
 returns-2 : tie.Need-returns-2
-returns-2 c = ap (λ (s : Status). cond (isHeard s) 1 0) (sym (ap statusAs (c .enum-told2 .given .1)) ∙ c .before .before .of .ensures)
+returns-2 c = ap (λ (s : Status). cond (isKnown s) 1 0) (sym (ap statusAs (c .enum-told2 .given .1)) ∙ c .before .before .of .ensures)
 
 pub state-spec : {M : Type 1} → statement M
 state-spec = tie.close (tie.spec of-requires enum-told enum-told-2 returns returns-2)

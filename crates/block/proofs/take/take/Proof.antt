@@ -1,6 +1,7 @@
 -- `block::take::take` meets its contract, by the refusal of the block and by admission.
 -- Assumes nothing.
 use mathlib.Core.Path.{_≡_, sym, ap, _∙_, subst}
+use mathlib.Core.Bool.{false}
 use mathlib.Core.List.{List}
 use Prim.Native.Nat.{ℕ, _+_, _-_, _*_, _≤_, _<_}
 use native.Mathlib.Omega.{arith}
@@ -10,7 +11,7 @@ use Rattle.algebra.proofs.Codeword.{slot}
 use Rattle.ccsds.specs.Refusals.{Outcome, refused, answered}
 use Rattle.ccsds.proofs.Refusals.{code-known, width-right, label-right}
 use Rattle.ccsds.proofs.UnitLaws.{compact-of}
-use Rattle.block.specs.Block.{checks, blockRefusal}
+use Rattle.block.specs.Block.{checks, idleAt, blockRefusal}
 use Rattle.block.specs.Take.{TakeResult, Take, admission, takeSymbol, takeOf}
 use Rattle.block.specs.inner.Steps.{admittedAs}
 use Rattle.block.specs.declared.Block.{Block}
@@ -32,11 +33,11 @@ module _ (b : Block) (symbols marks unit : List ℕ) (position start : ℕ) (z :
   rest : take (length unit - start) (drop start unit) ≡ drop start unit
   rest = take-all (length unit - start) (drop start unit) (omega (arith, length-drop start unit))
 
-  room : (position < length marks) × ((position * b .w + b .w ≤ length symbols) × (length (take (length unit - start) (drop start unit)) ≡ b .w))
+  room : ((position < length marks) × (idleAt b position ≡ false)) × ((position * b .w + b .w ≤ length symbols) × (length (take (length unit - start) (drop start unit)) ≡ b .w))
   room =
       let i : Inside b (record { position = position; symbol = drop start unit }) = admitted-inside b unit (record { position = position; symbol = drop start unit }) e in
       let l = block-right b (length symbols) (length marks) z in
-      (omega (arith, i .position, l .2), (omega (arith, slot position (checks b .n) (b .w) (i .position), l .1), ap length rest ∙ i .size))
+      ((omega (arith, i .position, l .2), i .sent), (omega (arith, slot position (checks b .n) (b .w) (i .position), l .1), ap length rest ∙ i .size))
 
   through : {a : Outcome TakeResult} {s m : List ℕ}
       → (a ≡ takeSymbol b symbols marks (record { position = position; symbol = take (length unit - start) (drop start unit) }) .answer)

@@ -8,17 +8,23 @@ use Rattle.ccsds.specs.Refusals.{refused, answered}
 use Rattle.block.specs.Status.{heard, missing, statusOf, statusAs}
 use Rattle.block.specs.Take.{repeated, sameBytes, unchanged, takeSymbol}
 use Rattle.block.proofs.Symbols.{part-is, same-is, stores}
+use Rattle.block.proofs.Idle.{sent}
 use Rattle.block.proofs.Taking.{at-wrong, at-right, apart}
 use borrow.Author.Needs.{needs}
 use Rattle.block.proofs.take.take_symbol.Statement.{statement}
 use Rattle.block.proofs.take.take_symbol.Tie as tie
 
--- the status of the position, as the code found it
+-- the status of the position, which is not idle, as the code found it
+status-is : (c : tie.After-of) → let a = c .before .before .before .before .before .before .before .args in statusOf (a .b) (a .marks .now) (a .position) ≡ statusAs (c .of .result)
+status-is c =
+    let s = c .before .before .before .before .before .before .before in
+    sent (s .args .b) (s .args .marks .now) (s .args .position) (s .pre .0 .1) ∙ sym (c .of .ensures)
+
 is-heard : (c : tie.After-enum-told) → let a = c .before .before .before .before .before .before .before .before .before .args in statusOf (a .b) (a .marks .now) (a .position) ≡ heard
-is-heard c = sym (c .before .before .of .ensures) ∙ ap statusAs (c .enum-told .given .1)
+is-heard c = status-is (c .before .before) ∙ ap statusAs (c .enum-told .given .1)
 
 is-missing : (c : tie.After-enum-told2) → let a = c .before .before .before .before .before .before .before .before .before .args in statusOf (a .b) (a .marks .now) (a .position) ≡ missing
-is-missing c = sym (c .before .before .of .ensures) ∙ ap statusAs (c .enum-told2 .given .1)
+is-missing c = status-is (c .before .before) ∙ ap statusAs (c .enum-told2 .given .1)
 
 slice-read-mark : tie.Need-slice-read-mark
 slice-read-mark c = search needs
