@@ -14,11 +14,11 @@ use Rattle.block.specs.declared.Block.{Block}
 
 -- the library's version: first number × 10000 + second × 100 + third
 abbrev pub version : ℕ
-version = 400
+version = 500
 
--- a block's record from its four numbers
+-- a block's record from its five numbers
 unfoldable pub blockOf : List ℕ → Block
-blockOf r = record { code = getD r 0 0; w = getD r 1 0; protocol = getD r 2 0; lsc = getD r 3 0 }
+blockOf r = record { code = getD r 0 0; w = getD r 1 0; protocol = getD r 2 0; lsc = getD r 3 0; fill = getD r 4 0 }
 
 -- 0, or the number of the refusal
 abbrev pub numberOf : {A : Type 0} → Outcome A → ℕ

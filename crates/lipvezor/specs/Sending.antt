@@ -4,13 +4,14 @@ use mathlib.Core.List.{List, [], _∷_, _++_}
 use Prim.Native.Nat.{ℕ}
 use lib.ListN.{length}
 use denote.Ref.{RefT, now}
-use Rattle.ccsds.specs.Codes.{nOf, encodeOf}
+use Rattle.ccsds.specs.Codes.{nOf}
 use Rattle.ccsds.specs.Tables.{codeOf}
+use Rattle.ccsds.specs.Fill.{idleLwc}
 use Rattle.ccsds.specs.RefusalTable as refusal
 use Rattle.ccsds.specs.Refusals.{Outcome, outcome, firstOf, encoderConditions, wrongLength, wrongPosition, afterwards}
 use Rattle.ccsds.specs.Show.{showOf}
 use Rattle.ccsds.specs.Writer.{unitOf, writeRefusal}
-use Rattle.encoder.specs.Encode.{encodeRefusal}
+use Rattle.encoder.specs.Encode.{encodeRefusal, parityOf}
 use Rattle.block.specs.declared.Block.{Block}
 
 pub record Sending : Type 0 where
@@ -24,27 +25,28 @@ sendingBy number new old = record { answer = outcome number tt; output = afterwa
 -- of the information and the parity buffer
 abbrev pub encoding : Block → List ℕ → List ℕ → Sending
 encoding b info parity =
-    sendingBy (encodeRefusal (b .code) (b .w) (length info) (length parity)) (encodeOf (codeOf (b .code)) (b .w) info) parity
+    sendingBy (encodeRefusal (b .code) (b .w) (b .fill) (length info) (length parity)) (parityOf (codeOf (b .code)) (b .w) (b .fill) info) parity
 
--- The number of show's refusal, or 0: where 1, 2, 4 or 9 would apply show has the empty part; here that is refused, and an output that is
--- not W bytes is 4.
-unfoldable pub copyRefusal : ℕ → ℕ → ℕ → ℕ → ℕ → ℕ → ℕ
-copyRefusal number w infoLength parityLength lwc outLength =
+-- The number of show's refusal, or 0: where 1, 2, 13, 4, 9 or 14 would apply show has the empty part; here that is refused, and an output that
+-- is not W bytes is 4.
+unfoldable pub copyRefusal : ℕ → ℕ → ℕ → ℕ → ℕ → ℕ → ℕ → ℕ
+copyRefusal number w fill infoLength parityLength lwc outLength =
     firstOf (
-    encoderConditions number w infoLength parityLength
+    encoderConditions number w fill infoLength parityLength
     ++ (refusal.length, wrongLength outLength w)
     ∷ (refusal.position, wrongPosition (nOf (codeOf number)) lwc)
+    ∷ (refusal.idle, idleLwc (codeOf number .k) fill lwc)
     ∷ []
     )
 
 -- of the encoder's two buffers, an LWC and the output, which gets a copy of the shown part
 abbrev pub showing : Block → RefT (List ℕ) → RefT (List ℕ) → ℕ → List ℕ → Sending
 showing b info parity lwc out =
-    sendingBy (copyRefusal (b .code) (b .w) (length (now info)) (length (now parity)) lwc (length out))
-    (showOf (b .code) (b .w) info parity lwc .bytes) out
+    sendingBy (copyRefusal (b .code) (b .w) (b .fill) (length (now info)) (length (now parity)) lwc (length out))
+    (showOf (b .code) (b .w) (b .fill) info parity lwc .bytes) out
 
 -- of an LWC, a symbol and the output
 abbrev pub writing : Block → ℕ → List ℕ → List ℕ → Sending
 writing b lwc symbol out =
-    sendingBy (writeRefusal (b .code) (b .w) (b .protocol) (b .lsc) lwc (length symbol) (length out))
+    sendingBy (writeRefusal (b .code) (b .w) (b .protocol) (b .lsc) (b .fill) lwc (length symbol) (length out))
     (unitOf (codeOf (b .code)) (b .w) (b .protocol) (b .lsc) lwc symbol) out

@@ -17,7 +17,7 @@ ghost use mathlib.Core.Path.{_≡_};
 ghost use Prim.Native.Nat.{_+_, _*_, _/_};
 ghost use Rattle.ccsds.specs.Codes.{nOf};
 ghost use Rattle.ccsds.specs.Tables.{codeOf};
-ghost use Rattle.ccsds.specs.Refusals.{bytesOf};
+ghost use Rattle.ccsds.specs.Refusals.{bytesOf, informationBytes};
 ghost use Rattle.ccsds.specs.Writer.{unitBytes};
 ghost use Rattle.ccsds.specs.Reader.{readUnit};
 ghost use Rattle.block.specs.Open.{openOf};
@@ -60,7 +60,7 @@ pub struct Work<'a> {
 pub extern "C" fn lipvezor_version() -> usize
     ensures { λ r. ⌜ r ≡ version ⌝ }
 {
-    400
+    500
 }
 
 // Symbols of a block, and bytes of its marks.
@@ -92,11 +92,11 @@ pub extern "C" fn lipvezor_m(code: usize) -> usize
 
 // Bytes of the information buffer.
 #[no_mangle]
-pub extern "C" fn lipvezor_information_bytes(code: usize, w: usize) -> usize
-    ensures { λ r. ⌜ r ≡ bytesOf (codeOf code .k) w ⌝ }
+pub extern "C" fn lipvezor_information_bytes(code: usize, w: usize, fill: usize) -> usize
+    ensures { λ r. ⌜ r ≡ informationBytes code w fill ⌝ }
 {
     let c = Code { number: code };
-    c.information_bytes(w)
+    c.information_bytes(w, fill)
 }
 
 // Bytes of the parity buffer.
@@ -145,7 +145,7 @@ pub extern "C" fn lipvezor_work_bytes(code: usize, w: usize) -> usize
 }
 
 // The block of a record.
-fn block_of(numbers: &[usize; 4]) -> Block
+fn block_of(numbers: &[usize; 5]) -> Block
     ensures { λ b. ⌜ b ≡ blockOf (now (numbers .entry)) ⌝ }
 {
     Block {
@@ -153,16 +153,17 @@ fn block_of(numbers: &[usize; 4]) -> Block
         w: numbers[1],
         protocol: numbers[2],
         lsc: numbers[3],
+        fill: numbers[4],
     }
 }
 
 // Encode on plain slices.
-fn encode_in(numbers: &[usize; 4], info: &[u8], parity: &mut [u8]) -> u8
+fn encode_in(numbers: &[usize; 5], info: &[u8], parity: &mut [u8]) -> u8
     ensures answer { λ r. ⌜ r ≡ numberOf (encoding (blockOf (now (numbers .entry))) (now (info .entry)) (now (parity .entry)) .answer) ⌝ }
     ensures parity { λ _. ⌜ now (parity .exit) ≡ encoding (blockOf (now (numbers .entry))) (now (info .entry)) (now (parity .entry)) .output ⌝ }
 {
     let b = block_of(numbers);
-    match encoder::encode::encode(b.code, b.w, info, parity) {
+    match encoder::encode::encode(b.code, b.w, b.fill, info, parity) {
         Encoded::Done => 0,
         Encoded::Refused(number) => number,
     }
@@ -170,7 +171,7 @@ fn encode_in(numbers: &[usize; 4], info: &[u8], parity: &mut [u8]) -> u8
 
 // Encode.
 #[no_mangle]
-pub extern "C" fn lipvezor_encode(numbers: &[usize; 4], codeword: &mut Codeword) -> u8
+pub extern "C" fn lipvezor_encode(numbers: &[usize; 5], codeword: &mut Codeword) -> u8
     ensures answer { λ r. ⌜ r ≡ numberOf (encodingLent (now (numbers .entry)) (now (codeword .entry)) .answer) ⌝ }
     ensures codeword { λ _. ⌜ now (codeword .exit) ≡ codewordAfter (now (codeword .entry)) (encodingLent (now (numbers .entry)) (now (codeword .entry)) .output) ⌝ }
 {
@@ -181,14 +182,15 @@ pub extern "C" fn lipvezor_encode(numbers: &[usize; 4], codeword: &mut Codeword)
 fn check_copy(
     code: usize,
     w: usize,
+    fill: usize,
     info_length: usize,
     parity_length: usize,
     lwc: usize,
     out_length: usize,
 ) -> u8
-    ensures { λ r. ⌜ r ≡ copyRefusal code w «info_length» «parity_length» lwc «out_length» ⌝ }
+    ensures { λ r. ⌜ r ≡ copyRefusal code w fill «info_length» «parity_length» lwc «out_length» ⌝ }
 {
-    let earlier = ccsds::checks::check_encoder(code, w, info_length, parity_length);
+    let earlier = ccsds::checks::check_encoder(code, w, fill, info_length, parity_length);
     if earlier != 0 {
         return earlier;
     }
@@ -199,12 +201,15 @@ fn check_copy(
     if c.wrong_position(lwc) {
         return refusal::POSITION;
     }
+    if ccsds::checks::idle_lwc(c.k(), fill, lwc) {
+        return refusal::IDLE;
+    }
     0
 }
 
 // Show on plain slices.
 fn show_in<'a, 'b, 'c>(
-    numbers: &'c [usize; 4],
+    numbers: &'c [usize; 5],
     info: &'a [u8],
     parity: &'a [u8],
     lwc: usize,
@@ -214,18 +219,26 @@ fn show_in<'a, 'b, 'c>(
     ensures output { λ _. ⌜ now (out .exit) ≡ showing (blockOf (now (numbers .entry))) (info .entry) (parity .entry) lwc (now (out .entry)) .output ⌝ }
 {
     let b = block_of(numbers);
-    let number = check_copy(b.code, b.w, info.len(), parity.len(), lwc, out.len());
+    let number = check_copy(
+        b.code,
+        b.w,
+        b.fill,
+        info.len(),
+        parity.len(),
+        lwc,
+        out.len(),
+    );
     if number != 0 {
         return number;
     }
-    let shown = ccsds::show::show(b.code, b.w, info, parity, lwc);
+    let shown = ccsds::show::show(b.code, b.w, b.fill, info, parity, lwc);
     bytes::copy(shown, out);
     0
 }
 
 // Show, copied to an output of W bytes.
 #[no_mangle]
-pub extern "C" fn lipvezor_show(numbers: &[usize; 4], sent: &Sent, lwc: usize, out: &mut [u8]) -> u8
+pub extern "C" fn lipvezor_show(numbers: &[usize; 5], sent: &Sent, lwc: usize, out: &mut [u8]) -> u8
     ensures answer { λ r. ⌜ r ≡ numberOf (showing (blockOf (now (numbers .entry))) (now (sent .entry) .information) (now (sent .entry) .parity) lwc (now (out .entry)) .answer) ⌝ }
     ensures output { λ _. ⌜ now (out .exit) ≡ showing (blockOf (now (numbers .entry))) (now (sent .entry) .information) (now (sent .entry) .parity) lwc (now (out .entry)) .output ⌝ }
 {
@@ -235,7 +248,7 @@ pub extern "C" fn lipvezor_show(numbers: &[usize; 4], sent: &Sent, lwc: usize, o
 // Write.
 #[no_mangle]
 pub extern "C" fn lipvezor_write(
-    numbers: &[usize; 4],
+    numbers: &[usize; 5],
     lwc: usize,
     symbol: &[u8],
     out: &mut [u8],
@@ -244,7 +257,7 @@ pub extern "C" fn lipvezor_write(
     ensures output { λ _. ⌜ now (out .exit) ≡ writing (blockOf (now (numbers .entry))) lwc (now (symbol .entry)) (now (out .entry)) .output ⌝ }
 {
     let b = block_of(numbers);
-    match ccsds::writer::write(b.code, b.w, b.protocol, b.lsc, lwc, symbol, out) {
+    match ccsds::writer::write(b.code, b.w, b.protocol, b.lsc, b.fill, lwc, symbol, out) {
         Written::Done => 0,
         Written::Refused(number) => number,
     }
@@ -286,7 +299,7 @@ pub extern "C" fn lipvezor_read(unit: &[u8], parts: &mut [usize; 10]) -> u8
 }
 
 // Open on plain slices. The record that open returns is the one it was given.
-fn open_in(numbers: &[usize; 4], symbols: &mut [u8], marks: &mut [u8]) -> u8
+fn open_in(numbers: &[usize; 5], symbols: &mut [u8], marks: &mut [u8]) -> u8
     ensures answer { λ r. ⌜ r ≡ numberOf (openOf (blockOf (now (numbers .entry))) (now (symbols .entry)) (now (marks .entry)) .answer) ⌝ }
     ensures symbols { λ _. ⌜ now (symbols .exit) ≡ openOf (blockOf (now (numbers .entry))) (now (symbols .entry)) (now (marks .entry)) .symbols ⌝ }
     ensures marks { λ _. ⌜ now (marks .exit) ≡ openOf (blockOf (now (numbers .entry))) (now (symbols .entry)) (now (marks .entry)) .marks ⌝ }
@@ -300,7 +313,7 @@ fn open_in(numbers: &[usize; 4], symbols: &mut [u8], marks: &mut [u8]) -> u8
 
 // Open.
 #[no_mangle]
-pub extern "C" fn lipvezor_open(numbers: &[usize; 4], buffers: &mut Buffers) -> u8
+pub extern "C" fn lipvezor_open(numbers: &[usize; 5], buffers: &mut Buffers) -> u8
     ensures answer { λ r. ⌜ r ≡ numberOf (opening (now (numbers .entry)) (now (buffers .entry)) .answer) ⌝ }
     ensures buffers { λ _. ⌜ now (buffers .exit) ≡ buffersAfter (now (buffers .entry)) (opening (now (numbers .entry)) (now (buffers .entry)) .symbols) (opening (now (numbers .entry)) (now (buffers .entry)) .marks) ⌝ }
 {
@@ -309,7 +322,7 @@ pub extern "C" fn lipvezor_open(numbers: &[usize; 4], buffers: &mut Buffers) -> 
 
 // Take on plain slices.
 fn take_in(
-    numbers: &[usize; 4],
+    numbers: &[usize; 5],
     symbols: &mut [u8],
     marks: &mut [u8],
     unit: &[u8],
@@ -337,7 +350,7 @@ fn take_in(
 // Take, with what it did in the lent record (lipvezor_taken).
 #[no_mangle]
 pub extern "C" fn lipvezor_take(
-    numbers: &[usize; 4],
+    numbers: &[usize; 5],
     buffers: &mut Buffers,
     unit: &[u8],
     taken: &mut [usize; 1],
@@ -368,7 +381,7 @@ fn verdict_number(v: Verdict) -> usize
 
 // Close on plain slices.
 fn close_in(
-    numbers: &[usize; 4],
+    numbers: &[usize; 5],
     symbols: &mut [u8],
     marks: &mut [u8],
     work_words: &mut [u64],
@@ -397,7 +410,7 @@ fn close_in(
 // Close, with the verdict and the counts of heard, filled and left positions in the lent record (lipvezor_report).
 #[no_mangle]
 pub extern "C" fn lipvezor_close(
-    numbers: &[usize; 4],
+    numbers: &[usize; 5],
     buffers: &mut Buffers,
     work: &mut Work,
     report: &mut [usize; 4],

@@ -67,7 +67,7 @@ use Rattle.lipvezor.proofs.lipvezor_encode.Code as code
 
 -- the parameters' places in the signature
 abbrev NumbersS : Slot 3
-NumbersS = shrRefTo (0 ∷ []) tt (arrayOf (plain (λ _. usize)) 4)
+NumbersS = shrRefTo (0 ∷ []) tt (arrayOf (plain (λ _. usize)) 5)
 
 abbrev CodewordS : Slot 3
 CodewordS = plain (λ κs. T.the-row (namedLft 3 2 tt κs))
@@ -126,7 +126,7 @@ module _ {M : Type 1} (𝓤 : URA M) (H : Heap 𝓤) (A : Atoms 𝓤) (W : Given
 
   -- what numbers, codeword and the information are
   abbrev NumbersT : RattleType
-  NumbersT = ShrRef (named 0) (κs .0) (Array usize 4)
+  NumbersT = ShrRef (named 0) (κs .0) (Array usize 5)
 
   abbrev CodewordT : RattleType
   CodewordT = MutRef (named 1) (κs .1 .0) R
@@ -296,7 +296,7 @@ module _ {M : Type 1} (𝓤 : URA M) (H : Heap 𝓤) (A : Atoms 𝓤) (W : Given
 module _ {M : Type 1} (𝓤 : URA M) (H : Heap 𝓤) (A : Atoms 𝓤) (W : Given 𝓤 H A) (mem : Memory → SProp 𝓤) (run : Routine → Fun 𝓤) where
   walks : (C : Calls 𝓤 H) (Λ : Loops 𝓤 H) → FmC 𝓤 H (W .laws) C → Triple 𝓤 (C #lipvezor·encode-in) (EncodeIn 𝓤 H A mem run) → Walks 𝓤 H A encode.ended stayed (WpFn 𝓤 H C Λ code.function) (encode.clauses 𝓤 H A mem run)
   walks C Λ fm known = walked 𝓤 H A encode.ended stayed (encode.clauses 𝓤 H A mem run) (WpFn 𝓤 H C Λ code.function) (λ κs. (ptr-vals, (ptr-vals, tt)))
-      (λ κs. (shr-tells (named 0) (κs .0) (Array usize 4), (mut-tells (named 1) (κs .1 .0) (T.the-row (namedLft 3 2 tt κs)), tt)))
+      (λ κs. (shr-tells (named 0) (κs .0) (Array usize 5), (mut-tells (named 1) (κs .1 .0) (T.the-row (namedLft 3 2 tt κs)), tt)))
       (λ κs qs bounds a g are. via 𝓤 _ (fst∗ 𝓤 _ (emp 𝓤)) (walk 𝓤 H A W mem run κs bounds qs (a .0) (a .1 .0) C Λ fm known))
 
 meets : {M : Type 1} (𝓤 : URA M) (H : Heap 𝓤) (A : Atoms 𝓤) → Given 𝓤 H A → (mem : Memory → SProp 𝓤) (run : Routine → Fun 𝓤) (𝓣 : Tables 𝓤 H) → Triple 𝓤 (𝓣 .C #lipvezor·encode-in) (EncodeIn 𝓤 H A mem run)

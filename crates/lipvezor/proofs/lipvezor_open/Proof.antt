@@ -56,7 +56,7 @@ use Rattle.lipvezor.proofs.lipvezor_open.Code as code
 
 -- the parameters' places in the signature
 abbrev NumbersS : Slot 3
-NumbersS = shrRefTo (0 ∷ []) tt (arrayOf (plain (λ _. usize)) 4)
+NumbersS = shrRefTo (0 ∷ []) tt (arrayOf (plain (λ _. usize)) 5)
 
 abbrev BuffersS : Slot 3
 BuffersS = plain (λ κs. buffers-type.the-row (namedLft 3 2 tt κs))
@@ -81,7 +81,7 @@ module _ {M : Type 1} (𝓤 : URA M) (H : Heap 𝓤) (A : Atoms 𝓤) (W : Given
 
   -- what numbers is
   abbrev NumbersT : RattleType
-  NumbersT = ShrRef (named 0) (κs .0) (Array usize 4)
+  NumbersT = ShrRef (named 0) (κs .0) (Array usize 5)
 
   abbrev Params : List RattleType
   Params = NumbersT ∷ MutRef (named 1) (κs .1 .0) (buffers-type.the-row β) ∷ []
@@ -190,7 +190,7 @@ meets 𝓤 H A W mem run 𝓣 known =
     walk-meets 𝓤 H A opens.ended stayed W (goes-dropped 𝓤 H A W 3 NumbersS yes (λ κs x f. refl), (goes-ref 𝓤 H A W 3 1 tt BuffersS, tt)) (opens.clauses 𝓤 H A mem run)
     (WpFn 𝓤 H (𝓣 .C) (𝓣 .Λ) code.function) (WpFn-mono 𝓤 H (W .laws) 𝓣 code.function)
     (walked 𝓤 H A opens.ended stayed (opens.clauses 𝓤 H A mem run) (WpFn 𝓤 H (𝓣 .C) (𝓣 .Λ) code.function) (λ κs. (ptr-vals, (ptr-vals, tt)))
-    (λ κs. (shr-tells (named 0) (κs .0) (Array usize 4), (mut-tells (named 1) (κs .1 .0) (buffers-type.the-row (namedLft 3 2 tt κs)), tt)))
+    (λ κs. (shr-tells (named 0) (κs .0) (Array usize 5), (mut-tells (named 1) (κs .1 .0) (buffers-type.the-row (namedLft 3 2 tt κs)), tt)))
     (λ κs qs bounds a g are. via 𝓤 _ (fst∗ 𝓤 _ (emp 𝓤)) (walk 𝓤 H A W mem run κs bounds qs (a .0) (a .1 .0) (𝓣 .C) (𝓣 .Λ) (fmOf 𝓤 H (W .laws) 𝓣) known)))
 
 pub lipvezor-open-spec : {M : Type 1} → stated.statement M

@@ -60,7 +60,7 @@ use Rattle.lipvezor.proofs.lipvezor_show.Code as code
 
 -- the parameters' places in the signature
 abbrev NumbersS : Slot 4
-NumbersS = shrRefTo (0 ∷ []) tt (arrayOf (plain (λ _. usize)) 4)
+NumbersS = shrRefTo (0 ∷ []) tt (arrayOf (plain (λ _. usize)) 5)
 
 abbrev SentS : Slot 4
 SentS = shrRefTo (1 ∷ []) tt (plain (λ κs. T.the-row (namedLft 4 2 tt κs)))
@@ -98,7 +98,7 @@ module _ {M : Type 1} (𝓤 : URA M) (H : Heap 𝓤) (A : Atoms 𝓤) (W : Given
 
   -- what numbers and out are, and a slice of the record
   abbrev NumbersT : RattleType
-  NumbersT = ShrRef (named 0) (κs .0) (Array usize 4)
+  NumbersT = ShrRef (named 0) (κs .0) (Array usize 5)
 
   abbrev OutT : RattleType
   OutT = MutSlice (named 3) (κs .1 .1 .1 .0) u8
@@ -220,7 +220,7 @@ meets 𝓤 H A W mem run 𝓣 known =
     walk-meets 𝓤 H A show.ended stayed W (goes-dropped 𝓤 H A W 4 NumbersS yes (λ κs x f. refl), (goes-dropped 𝓤 H A W 4 SentS yes (λ κs x f. refl), (goes-dropped 𝓤 H A W 4 LwcS yes (λ κs x f. refl), (goes-gave-slice 𝓤 H A W 4 3 tt (plain (λ _. u8)), tt)))) (show.clauses 𝓤 H A mem run)
     (WpFn 𝓤 H (𝓣 .C) (𝓣 .Λ) code.function) (WpFn-mono 𝓤 H (W .laws) 𝓣 code.function)
     (walked 𝓤 H A show.ended stayed (show.clauses 𝓤 H A mem run) (WpFn 𝓤 H (𝓣 .C) (𝓣 .Λ) code.function) (λ κs. (ptr-vals, (ptr-vals, (uint-vals w64, (slice-vals, tt)))))
-    (λ κs. (shr-tells (named 0) (κs .0) (Array usize 4), (shr-tells (named 1) (κs .1 .0) (T.the-row (namedLft 4 2 tt κs)), (uint-tells w64, (mut-slice-tells (named 3) (κs .1 .1 .1 .0) u8, tt)))))
+    (λ κs. (shr-tells (named 0) (κs .0) (Array usize 5), (shr-tells (named 1) (κs .1 .0) (T.the-row (namedLft 4 2 tt κs)), (uint-tells w64, (mut-slice-tells (named 3) (κs .1 .1 .1 .0) u8, tt)))))
     (λ κs qs bounds a g are. via 𝓤 _ (fst∗ 𝓤 _ (emp 𝓤)) (walk 𝓤 H A W mem run κs bounds qs (a .0) (a .1 .0) (a .1 .1 .0) (a .1 .1 .1 .0) (𝓣 .C) (𝓣 .Λ) (fmOf 𝓤 H (W .laws) 𝓣) known (are .1 .1 .0 .1) (are .1 .1 .1 .0 .0 .1))))
 
 pub lipvezor-show-spec : {M : Type 1} → stated.statement M

@@ -57,7 +57,7 @@ use Rattle.lipvezor.proofs.lipvezor_take.Code as code
 
 -- the parameters' places in the signature
 abbrev NumbersS : Slot 5
-NumbersS = shrRefTo (0 ∷ []) tt (arrayOf (plain (λ _. usize)) 4)
+NumbersS = shrRefTo (0 ∷ []) tt (arrayOf (plain (λ _. usize)) 5)
 
 abbrev BuffersS : Slot 5
 BuffersS = plain (λ κs. buffers-type.the-row (namedLft 5 2 tt κs))
@@ -88,7 +88,7 @@ module _ {M : Type 1} (𝓤 : URA M) (H : Heap 𝓤) (A : Atoms 𝓤) (W : Given
 
   -- what numbers, unit and taken are
   abbrev NumbersT : RattleType
-  NumbersT = ShrRef (named 0) (κs .0) (Array usize 4)
+  NumbersT = ShrRef (named 0) (κs .0) (Array usize 5)
 
   abbrev UnitT : RattleType
   UnitT = ShrSlice (named 3) (κs .1 .1 .1 .0) u8
@@ -208,7 +208,7 @@ meets 𝓤 H A W mem run 𝓣 known =
     walk-meets 𝓤 H A take.ended stayed W (goes-dropped 𝓤 H A W 5 NumbersS yes (λ κs x f. refl), (goes-ref 𝓤 H A W 5 1 tt BuffersS, (goes-dropped 𝓤 H A W 5 UnitS yes (λ κs x f. refl), (goes-gave-ref 𝓤 H A W 5 4 tt TakenS, tt)))) (take.clauses 𝓤 H A mem run)
     (WpFn 𝓤 H (𝓣 .C) (𝓣 .Λ) code.function) (WpFn-mono 𝓤 H (W .laws) 𝓣 code.function)
     (walked 𝓤 H A take.ended stayed (take.clauses 𝓤 H A mem run) (WpFn 𝓤 H (𝓣 .C) (𝓣 .Λ) code.function) (λ κs. (ptr-vals, (ptr-vals, (slice-vals, (ptr-vals, tt)))))
-    (λ κs. (shr-tells (named 0) (κs .0) (Array usize 4), (mut-tells (named 1) (κs .1 .0) (buffers-type.the-row (namedLft 5 2 tt κs)), (shr-slice-tells (named 3) (κs .1 .1 .1 .0) u8, (mut-tells (named 4) (κs .1 .1 .1 .1 .0) (Array usize 1), tt)))))
+    (λ κs. (shr-tells (named 0) (κs .0) (Array usize 5), (mut-tells (named 1) (κs .1 .0) (buffers-type.the-row (namedLft 5 2 tt κs)), (shr-slice-tells (named 3) (κs .1 .1 .1 .0) u8, (mut-tells (named 4) (κs .1 .1 .1 .1 .0) (Array usize 1), tt)))))
     (λ κs qs bounds a g are. via 𝓤 _ (fst∗ 𝓤 _ (emp 𝓤)) (walk 𝓤 H A W mem run κs bounds qs (a .0) (a .1 .0) (a .1 .1 .0) (a .1 .1 .1 .0) (𝓣 .C) (𝓣 .Λ) (fmOf 𝓤 H (W .laws) 𝓣) known (are .1 .1 .0 .0 .1))))
 
 pub lipvezor-take-spec : {M : Type 1} → stated.statement M

@@ -12,7 +12,7 @@ use borrow.Author.Needs.{needs}
 use Rattle.lipvezor.proofs.show_in.Statement.{statement}
 use Rattle.lipvezor.proofs.show_in.Tie as tie
 
-zero : (c : tie.Else1) → let a = c .before .before .before .before .before .before .args in let b = c .before .before .block-of .result in copyRefusal (b .code) (b .w) (length (a .info .now)) (length (a .parity .now)) (a .lwc) (length (a .out .now)) ≡ 0
+zero : (c : tie.Else1) → let a = c .before .before .before .before .before .before .args in let b = c .before .before .block-of .result in copyRefusal (b .code) (b .w) (b .fill) (length (a .info .now)) (length (a .parity .now)) (a .lwc) (length (a .out .now)) ≡ 0
 zero c = sym (c .before .check-copy .ensures) ∙ c .if1 .left
 
 -- what is shown is as long as the output
@@ -20,8 +20,8 @@ fits : (c : tie.After-show) → length (c .before .before .before .before .befor
 fits c =
     let a = c .before .before .before .before .before .before .before .args in
     let b = c .before .before .before .block-of .result in
-    let z = copyable _ _ _ _ _ _ (zero (c .before)) in
-    z .1 ∙ sym (ap (λ (s : Slice). length (s .bytes)) (c .show .ensures) ∙ shown-length (b .code) (b .w) (a .info) (a .parity) (a .lwc) (z .0))
+    let z = copyable _ _ _ _ _ _ _ (zero (c .before)) in
+    z .1 ∙ sym (ap (λ (s : Slice). length (s .bytes)) (c .show .ensures) ∙ shown-length (b .code) (b .w) (b .fill) (a .info) (a .parity) (a .lwc) (z .0))
 
 block-of-requires : tie.Need-block-of-requires
 block-of-requires c κs = search needs
