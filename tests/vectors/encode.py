@@ -242,12 +242,13 @@ def pattern(count, seed):
 
 
 def encode(code, w, info):
-    """Symbols are whole integers here: the sum of two symbols is one exclusive or."""
+    """Symbols are whole integers here: the sum of two symbols is one exclusive or. Where info has less than k symbols, the others are
+    zero, and steps 2 to 4 of them change nothing."""
     n, k, m, q, a = TABLE_4_1[code]
     rows = [[int(y) for y in line.split()] for line in ROWS[code].split("\n")]
-    u = [int.from_bytes(info[i * w:(i + 1) * w], "big") for i in range(k)]
+    u = [int.from_bytes(info[i * w:(i + 1) * w], "big") for i in range(len(info) // w)]
     p = [0] * m                                     # step 1
-    for x in range(k):                              # steps 2 to 4
+    for x in range(len(u)):                         # steps 2 to 4
         for y in rows[x // q]:
             p[(y + (x % q) * a) % m] ^= u[x]
     for x in range(1, m):                           # step 5
@@ -262,22 +263,36 @@ def checksum(data):
     return d
 
 
-def line(code, w):
-    known = code in TABLE_4_1
-    right = 1 <= w <= 1024
-    sizes = TABLE_4_1[code][1:3] if known and right else (0, 0)
-    info, parity = pattern(sizes[0] * w, 1), pattern(sizes[1] * w, 2)
-    if known and right:
+def line(code, w, fill):
+    """What the program prints of one encode, with buffers of the sizes that the library names: 0 where a number is refused."""
+    k, m = TABLE_4_1[code][1:3] if code in TABLE_4_1 else (0, 0)
+    refusal = 1 if k == 0 else 2 if not 1 <= w <= 1024 else 13 if not 1 <= fill <= k else 0
+    info = pattern(fill * w if refusal == 0 else 0, 1)
+    parity = pattern(m * w if refusal in (0, 13) else 0, 2)
+    if refusal == 0:
         word, parity = "parity", encode(code, w, info)
     else:
-        word = "refused " + ("2" if known else "1")
+        word = f"refused {refusal}"
     pairs = "".join(f" {b:02x}" for b in parity[:8])
-    return f"C{code} W {w} {word}{pairs} checksum {checksum(parity)}"
+    return f"C{code} W {w} fill {fill} {word}{pairs} checksum {checksum(parity)}"
+
+
+def full(code, w):
+    return line(code, w, TABLE_4_1[code][1])
+
+
+def short(code, w):
+    """Fills at their borders, in and about a table row, and past half of all."""
+    n, k, m, q, a = TABLE_4_1[code]
+    return [line(code, w, fill) for fill in (0, 1, q - 1, q, q + 1, k // 2 + 3, k - 1, k + 1)]
 
 
 if __name__ == "__main__":
     out = []
     for w in (1, 2, 3, 16, 333, 1023, 1024, 1025):
-        out += [line(code, w) for code in TABLE_4_1]
-    out += [line(code, 1) for code in (0, 3, 6, 9)]
+        out += [full(code, w) for code in TABLE_4_1]
+    out += [line(code, 1, 512) for code in (0, 3, 6, 9)]
+    for w in (5, 100):
+        for code in TABLE_4_1:
+            out += short(code, w)
     sys.stdout.write("\n".join(out) + "\n")

@@ -1,5 +1,5 @@
 """Makes the vectors that the program unit_vectors reads and the lines that it must print. Written from document 01 ("The unit",
-"Why a call is turned down", "Sending") and request 6 alone; it shares no code with the repository.
+"Why a call is turned down", "Sending") and requests 2 and 6 alone; it shares no code with the repository.
 Run: python3 tests/vectors/units.py crates/unit_vectors/stdin crates/unit_vectors/stdout"""
 import sys
 
@@ -77,17 +77,22 @@ def unit_bytes(code, w):
     return len(unit(code, w, 0, 1, 1, bytes(w))) if code in CODES and 1 <= w <= 1024 else 0
 
 
-def write(code, w, protocol, lsc, lwc, symbol, outs):
+def write(code, w, protocol, lsc, fill, lwc, symbol, outs):
     if code not in CODES:
         raise Refused(1)
+    n, k, m = CODES[code]
     if not 1 <= w <= 1024:
         raise Refused(2)
     if not 1 <= lsc <= 65534 or protocol > 7:
         raise Refused(3)
+    if not 1 <= fill <= k:
+        raise Refused(13)
     if outs != unit_bytes(code, w):
         raise Refused(4)
-    if not 1 <= lwc <= CODES[code][0]:
+    if not 1 <= lwc <= n:
         raise Refused(9)
+    if fill < lwc <= k:
+        raise Refused(14)
     if len(symbol) != w:
         raise Refused(10)
     return unit(code, w, protocol, lsc, lwc, symbol)
@@ -95,13 +100,15 @@ def write(code, w, protocol, lsc, lwc, symbol, outs):
 
 # ---- show
 
-def show(code, w, info, parity, lwc):
+def show(code, w, fill, info, parity, lwc):
     if code not in CODES or not 1 <= w <= 1024:
         return b""
     n, k, m = CODES[code]
-    if len(info) != k * w or len(parity) != m * w or not 1 <= lwc <= n:
+    if not 1 <= fill <= k or len(info) != fill * w or len(parity) != m * w or not 1 <= lwc <= n:
         return b""
-    return (info + parity)[(lwc - 1) * w:lwc * w]
+    # the idle symbols stand for nothing here, so nothing is shown of them
+    symbols = [info[i * w:(i + 1) * w] for i in range(fill)] + [b""] * (k - fill) + [parity[j * w:(j + 1) * w] for j in range(m)]
+    return symbols[lwc - 1]
 
 
 # ---- vectors and lines
@@ -128,29 +135,35 @@ def line_of_read(data):
 
 
 def reads(data):
-    vector(1, (0, 0, 0, 0, 0, 0), data)
+    vector(1, (0, 0, 0, 0, 0, 0, 0), data)
     lines.append(line_of_read(data))
 
 
-def writes(code, w, protocol, lsc, lwc, symbols, outs):
+def k_of(code):
+    return CODES[code][1] if code in CODES else 512
+
+
+def writes(code, w, protocol, lsc, lwc, symbols, outs, fill=None):
+    fill = k_of(code) if fill is None else fill
     symbol = bytes((7 * i + 1) % 256 for i in range(symbols))
-    vector(2, (code, w, protocol, lsc, lwc, outs), symbol)
+    vector(2, (code, w, protocol, lsc, fill, lwc, outs), symbol)
     try:
-        out = write(code, w, protocol, lsc, lwc, symbol, outs)
+        out = write(code, w, protocol, lsc, fill, lwc, symbol, outs)
         lines.extend(["write:" + shown(out), line_of_read(out)])
     except Refused as r:
         lines.append(f"write: refused {r}" + shown(b"\xee" * outs))
 
 
-def shows(code, w, infos, parities, lwc):
+def shows(code, w, infos, parities, lwc, fill=None):
+    fill = k_of(code) if fill is None else fill
     data = bytes((i * i + 3 * i + 5) // 2 % 256 for i in range(infos + parities))
-    vector(3, (code, w, 0, 0, lwc, infos), data)
-    symbol = show(code, w, data[:infos], data[infos:], lwc)
+    vector(3, (code, w, 0, 0, fill, lwc, infos), data)
+    symbol = show(code, w, fill, data[:infos], data[infos:], lwc)
     lines.append(f"show: {len(symbol)}" + shown(symbol))
 
 
 def sizes(code, w):
-    vector(4, (code, w, 0, 0, 0, 0), b"")
+    vector(4, (code, w, 0, 0, 0, 0, 0), b"")
     lines.append(f"unit bytes: {unit_bytes(code, w)}")
 
 
@@ -295,6 +308,31 @@ for code, w in ((1, 1), (1, 2), (2, 1), (4, 5), (5, 1), (7, 2), (8, 1)):
         shows(code, w, infos, parities, 1)
 for code, w in ((0, 1), (3, 1), (6, 1), (9, 1), (1, 0), (1, 1025), (65537, 1)):
     shows(code, w, 512, 256, 1)
+
+# short blocks: written and shown on both sides of each border, with fills that are refused, and with more that is wrong
+for code in CODES:
+    n, k, m = CODES[code]
+    good = unit_bytes(code, 16)
+    for fill in (0, 1, 2, k // 2, k - 1, k, k + 1, n, 65536 + 1):
+        for lwc in sorted({0, 1, 2, min(fill, n), min(fill + 1, n), k, k + 1, n, n + 1}):
+            writes(code, 16, 1, 7, lwc, 16, good, fill)
+        for lwc in (k, k + 1):
+            writes(code, 16, 1, 7, lwc, 15, good, fill)
+            writes(code, 16, 1, 7, lwc, 16, good + 1, fill)
+            writes(code, 16, 1, 0, lwc, 16, good, fill)
+for wrong in range(128):
+    writes(3 if wrong & 1 else 1, 1025 if wrong & 2 else 16, 8 if wrong & 4 else 1, 7, 512 if wrong & 32 else 1,
+           15 if wrong & 64 else 16, 29 if wrong & 16 else 30, 0 if wrong & 8 else 511)
+for code, w in ((1, 2), (5, 1), (7, 5)):
+    n, k, m = CODES[code]
+    for fill in (1, k // 2, k - 1):
+        for lwc in (0, 1, fill, fill + 1, k, k + 1, n, n + 1):
+            shows(code, w, fill * w, m * w, lwc, fill)
+        for infos, parities in ((k * w, m * w), (fill * w - 1, m * w), (fill * w + 1, m * w), (fill * w, m * w - 1)):
+            shows(code, w, infos, parities, 1, fill)
+    for fill in (0, k + 1):
+        shows(code, w, fill * w, m * w, 1, fill)
+        shows(code, w, fill * w, m * w, n, fill)
 
 with open(sys.argv[1], "wb") as f:
     f.write(b"".join(vectors))

@@ -42,7 +42,7 @@ pub fn print_closed(answer: Closed, all: bool) {
     }
 }
 
-// Prints whether the symbols are the information and, after it, the parity.
+// Prints whether the symbols are the information, zeros in the places of idle symbols, and the parity.
 pub fn print_compared(symbols: &[u8], info: &[u8], parity: &[u8]) {
     if as_sent(symbols, info, parity) {
         report::print(b", as sent");
@@ -52,12 +52,31 @@ pub fn print_compared(symbols: &[u8], info: &[u8], parity: &[u8]) {
 }
 
 fn as_sent(symbols: &[u8], info: &[u8], parity: &[u8]) -> bool {
-    let k = info.len();
-    if k > symbols.len() {
+    let m = parity.len();
+    if m > symbols.len() {
         return false;
     }
-    if !check::same(&symbols[0..k], info) {
+    let k = symbols.len() - m;
+    let sent = info.len();
+    if sent > k {
+        return false;
+    }
+    if !check::same(&symbols[0..sent], info) {
+        return false;
+    }
+    if !only_zeros(&symbols[sent..k]) {
         return false;
     }
     check::same(&symbols[k..], parity)
+}
+
+fn only_zeros(s: &[u8]) -> bool {
+    let mut i = 0;
+    while i < s.len() {
+        if s[i] != 0 {
+            return false;
+        }
+        i += 1;
+    }
+    true
 }

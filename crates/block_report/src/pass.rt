@@ -1,4 +1,5 @@
-// The steps of a pass, as the programs take them. The units of a block stand one after the other, in the order of their positions.
+// The steps of a pass, as the programs take them. The units of a block stand one after the other, in the order of their positions; the place
+// of an idle position stays as it is.
 use block::Block;
 use block::close::Closed;
 use block::open::Opened;
@@ -20,7 +21,7 @@ fn start(len: usize, u: usize, p: usize) -> usize
     p * u
 }
 
-// Writes the unit of position p: 1, or 0 where it is refused.
+// Writes the unit of position p: 1, or 0 where it is refused, as at an idle position.
 fn send<'a>(b: Block, info: &'a [u8], parity: &'a [u8], units: &mut [u8], p: usize) -> usize
     requires { ⌜ p < 18446744073709551615 ⌝ }
     ensures { λ r. ⌜ r ≤ 1 ⌝ }
@@ -31,12 +32,13 @@ fn send<'a>(b: Block, info: &'a [u8], parity: &'a [u8], units: &mut [u8], p: usi
     if units.len() - at < u {
         return 0;
     }
-    let symbol = ccsds::show::show(b.code, b.w, info, parity, p + 1);
+    let symbol = ccsds::show::show(b.code, b.w, b.fill, info, parity, p + 1);
     let answer = ccsds::writer::write(
         b.code,
         b.w,
         b.protocol,
         b.lsc,
+        b.fill,
         p + 1,
         symbol,
         &mut units[at..at + u],
@@ -47,7 +49,7 @@ fn send<'a>(b: Block, info: &'a [u8], parity: &'a [u8], units: &mut [u8], p: usi
     }
 }
 
-// Writes all units. Answers how many.
+// Writes the units of all positions that are not idle. Answers how many.
 pub fn send_all<'a>(b: Block, info: &'a [u8], parity: &'a [u8], units: &mut [u8]) -> usize {
     let code = Code { number: b.code };
     let n = code.n();

@@ -1,5 +1,6 @@
-// A pass end to end. Standard input is the information part of a block of C1, with symbols of 16 bytes. It is encoded and sent as
-// units; some are lost, the others arrive in another order and are taken; the block is closed and compared with what was sent.
+// A pass end to end. Standard input is a scene. It is cut into blocks of C1, with symbols of 16 bytes; where it ends within a block, that
+// block is short. Each block is encoded and sent as units; some are lost, the others arrive in another order and are taken; the block
+// is closed and compared with what was sent.
 use block::Block;
 use block_report::pass;
 use ccsds::code::Code;
@@ -24,7 +25,7 @@ const UNITS: usize = Code::C1_N * UNIT;
 fn encode(b: Block, info: &[u8], parity: &mut [u8]) {
     report::print(b"information");
     report::print_buffer(info, 8);
-    let answer = encoder::encode::encode(b.code, b.w, info, parity);
+    let answer = encoder::encode::encode(b.code, b.w, b.fill, info, parity);
     match answer {
         Encoded::Done => report::print(b"parity"),
         Encoded::Refused(number) => report::print_refusal(number),
@@ -32,7 +33,7 @@ fn encode(b: Block, info: &[u8], parity: &mut [u8]) {
     report::print_buffer(parity, 8);
 }
 
-// Writes all units, and prints how many.
+// Writes the units, and prints how many.
 fn send<'a>(b: Block, info: &'a [u8], parity: &'a [u8], units: &mut [u8]) {
     let written = pass::send_all(b, info, parity, units);
     report::print(b"units");
@@ -47,24 +48,47 @@ fn lost(p: usize) -> bool
     p * 7919 % 1000 < 300
 }
 
+// Whether position p is not idle, so that its unit is sent.
+fn sent(b: Block, p: usize) -> bool {
+    if p < b.fill {
+        return true;
+    }
+    p >= Code::C1_K
+}
+
+// 1 where the unit of position p is sent and lost, else 0.
+fn count_if_lost(b: Block, p: usize) -> usize
+    requires { ⌜ p < 65536 ⌝ }
+    ensures { λ r. ⌜ r ≤ 1 ⌝ }
+{
+    if !sent(b, p) {
+        return 0;
+    }
+    if lost(p) {
+        return 1;
+    }
+    0
+}
+
 // How many units are lost.
-fn count_lost() -> usize {
+fn count_lost(b: Block) -> usize {
     let mut n = 0;
     let mut p = 0;
     while p < Code::C1_N {
-        if lost(p) {
-            n += 1;
-        }
+        n += count_if_lost(b, p);
         p += 1;
     }
     n
 }
 
-// Takes the unit of position p, unless it is lost: 1 where it is kept, else 0.
+// Takes the unit of position p, if it is sent and not lost: 1 where it is kept, else 0.
 fn receive(b: Block, units: &[u8], p: usize, symbols: &mut [u8], marks: &mut [u8]) -> usize
     requires { ⌜ p < 65536 ⌝ }
     ensures { λ r. ⌜ r ≤ 1 ⌝ }
 {
+    if !sent(b, p) {
+        return 0;
+    }
     if lost(p) {
         return 0;
     }
@@ -93,7 +117,7 @@ fn gather(b: Block, units: &[u8], symbols: &mut [u8]) {
         report::print(b"open refused\n");
         return;
     }
-    report::print_count(b", lost ", count_lost());
+    report::print_count(b", lost ", count_lost(b));
     let kept = receive_all(b, units, symbols, &mut marks);
     report::print_count(b", kept ", kept);
     report::print(b"\nclosed: ");
@@ -126,29 +150,61 @@ fn parity_symbols() -> [u8; PARITY] {
     [0; PARITY]
 }
 
-// Reads the information. An input that ends early leaves zeros, one that goes on is not sent whole: both are said.
-fn read_information(info: &mut [u8]) {
-    let n = io::read_full(STDIN_FILENO, info);
-    if n < info.len() {
-        report::print_count(b"the input ends after byte ", n);
-        report::print(b": zeros are sent after it\n");
+// Encodes and transmits the block. The information stands at the start of the buffer.
+fn run(b: Block, buffer: &[u8]) {
+    let code = Code { number: b.code };
+    let n = code.information_bytes(b.w, b.fill);
+    let mut parity = parity_symbols();
+    if n > buffer.len() {
+        return;
     }
-    let mut more = [0u8; 1];
-    if io::read_full(STDIN_FILENO, &mut more) > 0 {
-        report::print(b"the input goes on after the block: its rest is not sent\n");
-    }
+    encode(b, &buffer[0..n], &mut parity);
+    transmit(b, &buffer[0..n], &parity);
 }
 
+// The symbols that n bytes take: the last one may end with zeros.
+fn symbols_of(n: usize) -> usize {
+    if n % WIDTH == 0 {
+        return n / WIDTH;
+    }
+    n / WIDTH + 1
+}
+
+// Runs the next block: false where the input ends with it or before it.
+fn next(lsc: usize) -> bool {
+    let mut buffer = information();
+    let n = io::read_full(STDIN_FILENO, &mut buffer);
+    if n == 0 {
+        return false;
+    }
+    let fill = symbols_of(n);
+    report::print_count(b"block ", lsc);
+    report::print_count(b": bytes ", n);
+    report::print_count(b", fill ", fill);
+    report::print(b"\n");
+    run(
+        Block {
+            code: 1,
+            w: WIDTH,
+            protocol: 1,
+            lsc: lsc,
+            fill: fill,
+        },
+        &buffer,
+    );
+    n == INFORMATION
+}
+
+// Above the last block's number: what comes after that block is not sent.
+const LSC_END: usize = 65535;
+
 fn main() {
-    let b = Block {
-        code: 1,
-        w: WIDTH,
-        protocol: 1,
-        lsc: 7,
-    };
-    let mut info = information();
-    let mut parity = parity_symbols();
-    read_information(&mut info);
-    encode(b, &info, &mut parity);
-    transmit(b, &info, &parity);
+    let mut lsc = 7;
+    while lsc < LSC_END {
+        if next(lsc) {
+            lsc += 1;
+        } else {
+            lsc = LSC_END;
+        }
+    }
 }

@@ -1,4 +1,4 @@
-// The program gather of document 01: gathers the units of standard input into a block of C1, W up to 16, and closes it.
+// The program gather of document 01: gathers the units of standard input into a full block of C1, W up to 16, and closes it.
 use block::Block;
 use block_report::pass;
 use ccsds::code::Code;
@@ -83,7 +83,7 @@ fn block_marks() -> [u8; Code::C1_N] {
     [0; Code::C1_N]
 }
 
-// Lends the symbols that W asks for. A block of C2 has more marks, and is refused.
+// Lends the symbols that W asks for. A block of another code has not as many marks as are lent, and is refused.
 fn start(b: Block) {
     let code = Code { number: b.code };
     let n = code.block_bytes(b.w);
@@ -107,5 +107,6 @@ fn main() {
         w: big_endian::pair(head[1], head[2]),
         protocol: big_endian::byte(head[3]),
         lsc: big_endian::pair(head[4], head[5]),
+        fill: Code::C1_K,
     });
 }

@@ -7,13 +7,14 @@ use ccsds::writer::Written;
 use libc::STDIN_FILENO;
 use wire::big_endian;
 
-// A vector is eight numbers, of four bytes each, and the bytes of the last number's count. Kind 0 ends them.
+// A vector is nine numbers, of four bytes each, and the bytes of the last number's count. Kind 0 ends them.
 struct Vector {
     kind: usize,
     code: usize,
     w: usize,
     protocol: usize,
     lsc: usize,
+    fill: usize,
     lwc: usize,
     outs: usize,
     len: usize,
@@ -43,6 +44,7 @@ fn next() -> Vector {
         w: number(),
         protocol: number(),
         lsc: number(),
+        fill: number(),
         lwc: number(),
         outs: number(),
         len: number(),
@@ -80,7 +82,7 @@ fn read(u: &[u8]) {
 
 // Writes a unit, and reads it.
 fn write(v: Vector, symbol: &[u8], out: &mut [u8]) {
-    let answer = ccsds::writer::write(v.code, v.w, v.protocol, v.lsc, v.lwc, symbol, out);
+    let answer = ccsds::writer::write(v.code, v.w, v.protocol, v.lsc, v.fill, v.lwc, symbol, out);
     match answer {
         Written::Refused(r) => {
             report::print_count(b"write: refused ", r as usize);
@@ -111,7 +113,7 @@ fn write_new(v: Vector, symbol: &[u8]) {
 
 // Shows a symbol.
 fn show<'a>(v: Vector, info: &'a [u8], parity: &'a [u8]) {
-    let symbol = ccsds::show::show(v.code, v.w, info, parity, v.lwc);
+    let symbol = ccsds::show::show(v.code, v.w, v.fill, info, parity, v.lwc);
     report::print_count(b"show: ", symbol.len());
     report::print_buffer(symbol, SHOWN);
 }
