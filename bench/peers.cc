@@ -362,6 +362,7 @@ lipvezor_block record_of(size_t w)
     record.w = w;
     record.protocol = 1;
     record.lsc = 7;
+    record.fill = K;
     return record;
 }
 

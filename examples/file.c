@@ -1,6 +1,8 @@
 /*
- * A file there and back: cut into blocks, encoded, sent as units over a link that loses some and changes their order, and recovered. The
- * receiver knows nothing but the units that arrive.
+ * A file there and back: cut into blocks, encoded, sent as units over a link that loses some and changes their order, and recovered.
+ *
+ * All blocks are full but the last, which is as short as the rest of the file. The receiver knows the file's length, as from the plan of the
+ * pass: the layer does not send it, and no unit carries the fill of its block, which follows from it. All else it learns from the units.
  *
  *     file [-CODE] [-w W] [-l PERCENT] [-s SEED] [FILE [RECOVERED]]
  *
@@ -23,9 +25,8 @@
 #include <stdlib.h>
 #include <string.h>
 
-/* The blocks' information, one block after the other, is the file's length in 8 bytes, big-endian, then the file, then zeros to the end of
-   the last block. */
-enum { LENGTH_BYTES = 8, FIRST_LSC = 1, LAST_LSC = LIPVEZOR_MAX_LSC, PROTOCOL = 1, SAMPLE_BYTES = 300000 };
+/* The blocks' information, one block after the other, is the file, then zeros to the end of its last symbol. */
+enum { FIRST_LSC = 1, LAST_LSC = LIPVEZOR_MAX_LSC, PROTOCOL = 1, SAMPLE_BYTES = 300000 };
 
 struct bytes {
     uint8_t *at;
@@ -125,16 +126,29 @@ static void free_link(struct link *link)
     free(link->units);
 }
 
-/* ---- on board */
+/* ---- what board and ground both know: how a file of this length is cut */
 
-static struct bytes information_of(struct bytes file, size_t blocks, size_t block_bytes)
+/* a / b, rounded up */
+static size_t parts_of(size_t a, size_t b)
 {
-    struct bytes all = {allocate_zeros(blocks, block_bytes), blocks * block_bytes};
-    for (size_t i = 0; i < LENGTH_BYTES; i++)
-        all.at[i] = (uint8_t)((uint64_t)file.length >> (8 * (LENGTH_BYTES - 1 - i)));
-    memcpy(all.at + LENGTH_BYTES, file.at, file.length);
-    return all;
+    return a / b + (a % b != 0);
 }
+
+static size_t blocks_of(size_t file_length, size_t code, size_t w)
+{
+    return parts_of(file_length, lipvezor_k(code) * w);
+}
+
+/* the information symbols of a block: k, fewer of the last one, and 0, which calls refuse, of an LSC that is not the file's */
+static size_t fill_of(size_t file_length, size_t code, size_t w, size_t lsc)
+{
+    const size_t k = lipvezor_k(code), blocks = blocks_of(file_length, code, w);
+    if (lsc < FIRST_LSC || lsc >= FIRST_LSC + blocks)
+        return 0;
+    return lsc == FIRST_LSC + blocks - 1 ? parts_of(file_length, w) - (blocks - 1) * k : k;
+}
+
+/* ---- on board */
 
 static void send_block(struct link *link, lipvezor_block block, struct bytes information)
 {
@@ -145,7 +159,7 @@ static void send_block(struct link *link, lipvezor_block block, struct bytes inf
                                         .parity = parity,
                                         .parity_length = lipvezor_parity_bytes(block.code, block.w)};
     expect_done("encode", lipvezor_encode(&block, &codeword));
-    for (size_t lwc = 1; lwc <= lipvezor_n(block.code); lwc++) {
+    for (size_t lwc = lipvezor_next_lwc(&block, 0); lwc != 0; lwc = lipvezor_next_lwc(&block, lwc)) {
         struct unit *unit = new_unit(lipvezor_unit_bytes(block.code, block.w));
         expect_done("show", lipvezor_show(&block, &codeword, lwc, symbol, block.w));
         expect_done("write", lipvezor_write(&block, lwc, symbol, block.w, unit->bytes, unit->length));
@@ -153,26 +167,22 @@ static void send_block(struct link *link, lipvezor_block block, struct bytes inf
     }
 }
 
-static size_t blocks_for(size_t file_length, size_t block_bytes)
-{
-    size_t whole = file_length / block_bytes, rest = file_length % block_bytes;
-    return whole + (rest + LENGTH_BYTES + block_bytes - 1) / block_bytes;
-}
-
 /* the units of all blocks; LSC 1 is the first */
 static struct link send_file(struct bytes file, size_t code, size_t w)
 {
-    const size_t block_bytes = lipvezor_information_bytes(code, w);
-    const size_t blocks = blocks_for(file.length, block_bytes);
+    const size_t blocks = blocks_of(file.length, code, w);
     if (blocks > LAST_LSC)
         fail("the file needs more than 65534 blocks: take a larger W, or C2, C5 or C8");
-    struct bytes information = information_of(file, blocks, block_bytes);
+    uint8_t *information = allocate_zeros(parts_of(file.length, w) + 1, w), *next = information;
+    memcpy(information, file.at, file.length);
     struct link link = {allocate(blocks * lipvezor_n(code) * sizeof *link.units), 0};
-    for (size_t i = 0; i < blocks; i++) {
-        const lipvezor_block block = {.code = code, .w = w, .protocol = PROTOCOL, .lsc = FIRST_LSC + i};
-        send_block(&link, block, (struct bytes){information.at + i * block_bytes, block_bytes});
+    for (size_t lsc = FIRST_LSC; lsc < FIRST_LSC + blocks; lsc++) {
+        const size_t fill = fill_of(file.length, code, w, lsc);
+        const lipvezor_block block = {.code = code, .w = w, .protocol = PROTOCOL, .lsc = lsc, .fill = fill};
+        send_block(&link, block, (struct bytes){next, fill * w});
+        next += fill * w;
     }
-    free(information.at);
+    free(information);
     return link;
 }
 
@@ -186,6 +196,7 @@ struct received {
 
 /* the open blocks by their LSC, NULL where no unit came; an LSC is two bytes of a unit */
 struct receiver {
+    size_t file_length;
     struct received *blocks[65536];
     size_t kept, repeated, refused;
 };
@@ -197,12 +208,18 @@ static void free_received(struct received *block)
     free(block);
 }
 
-/* the block that a unit is of, as the unit describes it; refused where it names no code */
-static uint8_t open_received(const lipvezor_parts *parts, struct received **opened)
+/* the fill of the block that a unit is of; 0 where the unit names no code or W, which open refuses before it */
+static size_t fill_by(size_t file_length, size_t code, const lipvezor_parts *parts)
+{
+    return lipvezor_symbol_bytes(code, parts->w) ? fill_of(file_length, code, parts->w, parts->lsc) : 0;
+}
+
+/* the block that a unit is of, as the unit describes it; refused where it names no code, or is not of the file */
+static uint8_t open_received(size_t file_length, const lipvezor_parts *parts, struct received **opened)
 {
     struct received *block = allocate(sizeof *block);
-    const size_t code = lipvezor_code_of(parts->k, parts->n);
-    block->record = (lipvezor_block){.code = code, .w = parts->w, .protocol = parts->protocol, .lsc = parts->lsc};
+    const size_t code = lipvezor_code_of(parts->k, parts->n), fill = fill_by(file_length, code, parts);
+    block->record = (lipvezor_block){.code = code, .w = parts->w, .protocol = parts->protocol, .lsc = parts->lsc, .fill = fill};
     const size_t symbols = lipvezor_symbol_bytes(code, parts->w), marks = lipvezor_n(code);
     block->buffers = (lipvezor_buffers){
         .symbols = allocate(symbols), .symbols_length = symbols, .marks = allocate(marks), .marks_length = marks};
@@ -223,7 +240,7 @@ static uint8_t take_unit(struct receiver *receiver, const struct unit *unit, lip
         return refused;
     struct received **place = &receiver->blocks[parts.lsc];
     if (!*place)
-        refused = open_received(&parts, place);
+        refused = open_received(receiver->file_length, &parts, place);
     if (refused)
         return refused;
     struct received *block = *place;
@@ -281,61 +298,37 @@ static int is_whole(const struct received *block)
     return block && block->report.verdict == LIPVEZOR_WHOLE;
 }
 
-static struct bytes information_in(const struct received *block)
+/* The last block that was sent, as far as the receiver can tell: the file was cut by code and W, which only a unit says; where none came, it
+   is the first. */
+static size_t last_block(const struct receiver *receiver)
 {
-    return (struct bytes){block->buffers.symbols, lipvezor_information_bytes(block->record.code, block->record.w)};
+    size_t lsc = FIRST_LSC;
+    while (lsc < LAST_LSC && !receiver->blocks[lsc])
+        lsc++;
+    const struct received *block = receiver->blocks[lsc];
+    size_t blocks = block ? blocks_of(receiver->file_length, block->record.code, block->record.w) : receiver->file_length != 0;
+    return blocks < LAST_LSC ? FIRST_LSC + blocks - 1 : LAST_LSC;
 }
 
-/* The information of the whole blocks from the first to the one before the first that is not whole. */
-static struct bytes joined(const struct receiver *receiver)
+/* 1 and the file, or 0 if not every block is whole */
+static int join(const struct receiver *receiver, struct bytes *file)
 {
-    struct bytes all = {NULL, 0};
-    for (size_t lsc = FIRST_LSC; lsc <= LAST_LSC && is_whole(receiver->blocks[lsc]); lsc++)
-        all.length += information_in(receiver->blocks[lsc]).length;
-    all.at = allocate(all.length);
-    size_t end = 0;
-    for (size_t lsc = FIRST_LSC; end < all.length; lsc++) {
-        struct bytes next = information_in(receiver->blocks[lsc]);
-        memcpy(all.at + end, next.at, next.length);
-        end += next.length;
+    const size_t last = last_block(receiver);
+    for (size_t lsc = FIRST_LSC; lsc <= last; lsc++)
+        if (!is_whole(receiver->blocks[lsc]))
+            return 0;
+    *file = (struct bytes){allocate(receiver->file_length), 0};
+    for (size_t lsc = FIRST_LSC; lsc <= last; lsc++) {
+        const lipvezor_block *record = &receiver->blocks[lsc]->record;
+        const size_t information = lipvezor_information_bytes(record->code, record->w, record->fill);
+        const size_t rest = receiver->file_length - file->length, length = information < rest ? information : rest;
+        memcpy(file->at + file->length, receiver->blocks[lsc]->buffers.symbols, length);
+        file->length += length;
     }
-    return all;
-}
-
-/* as the first block's information gives it */
-static size_t file_length(struct bytes information)
-{
-    uint64_t length = 0;
-    for (size_t i = 0; i < LENGTH_BYTES; i++)
-        length = length << 8 | information.at[i];
-    return length;
-}
-
-/* 1 and where the file lies in what was joined, or 0 if not all of it is there */
-static int find_file(struct bytes all, struct bytes *file)
-{
-    if (all.length < LENGTH_BYTES || file_length(all) > all.length - LENGTH_BYTES)
-        return 0;
-    *file = (struct bytes){all.at + LENGTH_BYTES, file_length(all)};
     return 1;
 }
 
 /* ---- what is printed of the blocks */
-
-/* The last block that was sent, as far as the receiver can tell: the first block says it if that is whole, else it is the last of which a
-   unit came. */
-static size_t last_block(const struct receiver *receiver)
-{
-    size_t last = LAST_LSC;
-    if (is_whole(receiver->blocks[FIRST_LSC])) {
-        struct bytes first = information_in(receiver->blocks[FIRST_LSC]);
-        size_t blocks = blocks_for(file_length(first), first.length);
-        return blocks < LAST_LSC ? blocks : LAST_LSC;
-    }
-    while (last > FIRST_LSC && !receiver->blocks[last])
-        last--;
-    return last;
-}
 
 static const char *verdict_text(size_t verdict)
 {
@@ -462,19 +455,18 @@ static struct options options_of(char **next)
 /* 0, and the file is as sent; or 1, and not every block is whole */
 static int recover(const struct receiver *receiver, struct bytes sent, const char *name)
 {
-    struct bytes all = joined(receiver), file;
-    int found = find_file(all, &file);
-    if (found) {
-        if (file.length != sent.length || memcmp(file.at, sent.at, sent.length) != 0)
-            fail("every block is whole, but the file is not as sent");
-        if (name)
-            write_file(name, file);
-        printf("recovered: %zu bytes, as sent\n", file.length);
-    } else {
+    struct bytes file;
+    if (!join(receiver, &file)) {
         print_not_whole(receiver);
+        return 1;
     }
-    free(all.at);
-    return !found;
+    if (file.length != sent.length || memcmp(file.at, sent.at, sent.length) != 0)
+        fail("every block is whole, but the file is not as sent");
+    if (name)
+        write_file(name, file);
+    printf("recovered: %zu bytes, as sent\n", file.length);
+    free(file.at);
+    return 0;
 }
 
 int main(int argc, char **argv)
@@ -488,6 +480,7 @@ int main(int argc, char **argv)
     shuffle(&link);
 
     struct receiver *receiver = allocate_zeros(1, sizeof *receiver);
+    receiver->file_length = file.length;
     receive_all(receiver, &link);
     printf("units: %zu sent, %zu arrived, %zu kept, %zu repeated, %zu refused\n", sent, link.count, receiver->kept, receiver->repeated,
            receiver->refused);

@@ -10,16 +10,18 @@
 #include <stdio.h>
 #include <string.h>
 
-enum { CODE = LIPVEZOR_C1, W = 16, N = LIPVEZOR_N(CODE) };
+/* a full block; with a smaller FILL it is a short one, of so many information symbols */
+enum { CODE = LIPVEZOR_C1, W = 16, FILL = LIPVEZOR_K(CODE), N = LIPVEZOR_N(CODE) };
 
-static const lipvezor_block block = {.code = CODE, .w = W, .protocol = 1, .lsc = 7};
+static const lipvezor_block block = {.code = CODE, .w = W, .protocol = 1, .lsc = 7, .fill = FILL};
 
 /* the sender's buffers; units is the link */
-static uint8_t information[LIPVEZOR_INFORMATION_BYTES(CODE, W)];
+static uint8_t information[LIPVEZOR_INFORMATION_BYTES(CODE, W, FILL)];
 static uint8_t parity[LIPVEZOR_PARITY_BYTES(CODE, W)];
 static const lipvezor_codeword codeword = {
     .information = information, .information_length = sizeof information, .parity = parity, .parity_length = sizeof parity};
 static uint8_t units[N][LIPVEZOR_UNIT_BYTES(CODE, W)];
+static size_t sent;
 
 /* the receiver's */
 static uint8_t symbols[LIPVEZOR_SYMBOL_BYTES(CODE, W)];
@@ -42,22 +44,23 @@ static int send_block(void)
     uint8_t refused = lipvezor_encode(&block, &codeword);
     if (refused)
         return fail("encode", refused);
-    for (size_t lwc = 1; lwc <= N; lwc++) {
+    for (size_t lwc = lipvezor_next_lwc(&block, 0); lwc != 0; lwc = lipvezor_next_lwc(&block, lwc)) {
         uint8_t symbol[W];
         refused = lipvezor_show(&block, &codeword, lwc, symbol, sizeof symbol);
         if (refused)
             return fail("show", refused);
-        refused = lipvezor_write(&block, lwc, symbol, sizeof symbol, units[lwc - 1], sizeof units[lwc - 1]);
+        refused = lipvezor_write(&block, lwc, symbol, sizeof symbol, units[sent], sizeof units[sent]);
         if (refused)
             return fail("write", refused);
+        sent++;
     }
     return 0;
 }
 
 /* every fourth unit does not arrive */
-static int lost(size_t lwc)
+static int lost(size_t i)
 {
-    return lwc % 4 == 1;
+    return i % 4 == 0;
 }
 
 /* on the ground: 0 and what close found, or 1 if a call refused */
@@ -66,11 +69,11 @@ static int receive_block(lipvezor_report *report)
     uint8_t refused = lipvezor_open(&block, &buffers);
     if (refused)
         return fail("open", refused);
-    for (size_t lwc = N; lwc >= 1; lwc--) {
+    for (size_t i = sent; i-- > 0;) {
         lipvezor_taken taken;
-        if (lost(lwc))
+        if (lost(i))
             continue;
-        refused = lipvezor_take(&block, &buffers, units[lwc - 1], sizeof units[lwc - 1], &taken);
+        refused = lipvezor_take(&block, &buffers, units[i], sizeof units[i], &taken);
         if (refused)
             return fail("take", refused);
     }

@@ -1,5 +1,8 @@
-//! A file there and back: cut into blocks, encoded, sent as units over a link that loses some and changes their order, and recovered. The
-//! receiver knows nothing but the units that arrive. `examples/file.c` does the same in C.
+//! A file there and back: cut into blocks, encoded, sent as units over a link that loses some and changes their order, and recovered.
+//! `examples/file.c` does the same in C.
+//!
+//! All blocks are full but the last, which is as short as the rest of the file. The receiver knows the file's length, as from the plan of the
+//! pass: the layer does not send it, and no unit carries the fill of its block, which follows from it. All else it learns from the units.
 //!
 //!     cargo run --release --example file -- [--loss 0.15] [--code 1] [--w 64] [--seed 1] [--out RECOVERED] [FILE]
 //!
@@ -25,12 +28,17 @@ const LAST_LSC: usize = 65_534;
 /// Blocks whose units are under way at a time.
 const TOGETHER: usize = 8;
 
-/// The blocks' information, one block after the other, is the file's length in 8 bytes, big-endian, then the file, then zeros to the end of the
-/// last block.
-const LENGTH_BYTES: usize = 8;
+// ---- what board and ground both know: how a file of this length is cut
 
-fn blocks_for(file_length: usize, block_bytes: usize) -> usize {
-    file_length / block_bytes + (file_length % block_bytes + LENGTH_BYTES).div_ceil(block_bytes)
+/// The LSCs of the blocks of a file, by the code and W of one of them. Their information, one block after the other, is the file, then zeros to
+/// the end of its last symbol.
+fn lscs(file_length: usize, record: Record) -> Range<usize> {
+    1..file_length.div_ceil(record.k() * record.w()) + 1
+}
+
+/// The information symbols of a block: k, and fewer of the last one; 0 of an LSC that is not the file's.
+fn fill(file_length: usize, record: Record) -> usize {
+    file_length.div_ceil(record.w()).saturating_sub((record.lsc() - 1) * record.k()).min(record.k())
 }
 
 // ---- options and files
@@ -95,28 +103,39 @@ impl Options {
 
 // ---- on board
 
-/// A file's blocks, each the information of a codeword; LSC 1 is the first.
-struct Board {
+/// A file in blocks; LSC 1 is the first.
+struct Board<'a> {
     record: Record,
-    blocks: Vec<Vec<u8>>,
+    file: &'a [u8],
 }
 
-impl Board {
-    fn new(record: Record, file: &[u8]) -> Result<Board, String> {
-        let size = record.information_bytes();
-        if blocks_for(file.len(), size) > LAST_LSC {
+impl Board<'_> {
+    fn new(record: Record, file: &[u8]) -> Result<Board<'_>, String> {
+        if lscs(file.len(), record).len() > LAST_LSC {
             return Err(format!("the file needs more than {LAST_LSC} blocks: take a larger W, or C2, C5 or C8"));
         }
-        let stream = [&(file.len() as u64).to_be_bytes(), file].concat();
-        let blocks = stream.chunks(size).map(|part| [part, &vec![0; size - part.len()]].concat()).collect();
-        Ok(Board { record, blocks })
+        Ok(Board { record, file })
+    }
+
+    fn lscs(&self) -> Range<usize> {
+        lscs(self.file.len(), self.record)
+    }
+
+    fn codeword(&self, lsc: usize) -> Result<Codeword<Vec<u8>>, Refusal> {
+        let record = self.record.with_lsc(lsc);
+        let record = record.with_fill(fill(self.file.len(), record));
+        let start = (lsc - 1) * self.record.information_bytes();
+        let end = self.file.len().min(start + record.information_bytes());
+        let mut information = self.file[start..end].to_vec();
+        information.resize(record.information_bytes(), 0);
+        Codeword::encode(record, information)
     }
 
     /// All units of the blocks of some LSCs.
-    fn units(&self, lscs: Range<usize>) -> Result<Vec<Vec<u8>>, Refusal> {
+    fn units(&self, lscs: &[usize]) -> Result<Vec<Vec<u8>>, Refusal> {
         let mut units = Vec::new();
-        for lsc in lscs {
-            units.extend(Codeword::encode(self.record.with_lsc(lsc), &self.blocks[lsc - 1])?.units()?);
+        for &lsc in lscs {
+            units.extend(self.codeword(lsc)?.units()?);
         }
         Ok(units)
     }
@@ -141,16 +160,17 @@ struct Counts {
 
 /// Blocks that are open, and by LSC what was found of the closed ones, and the information of the whole ones.
 struct Ground {
+    file_length: usize,
     receiver: Receiver,
     counts: Counts,
-    reports: BTreeMap<usize, Report>,
+    reports: BTreeMap<usize, (Record, Report)>,
     whole: BTreeMap<usize, Vec<u8>>,
 }
 
 impl Ground {
-    fn new() -> Result<Ground, Refusal> {
+    fn new(file_length: usize) -> Result<Ground, Refusal> {
         let receiver = Receiver::new(PROTOCOL)?.with_limit(TOGETHER);
-        Ok(Ground { receiver, counts: Counts::default(), reports: BTreeMap::new(), whole: BTreeMap::new() })
+        Ok(Ground { file_length, receiver, counts: Counts::default(), reports: BTreeMap::new(), whole: BTreeMap::new() })
     }
 
     /// A unit that is refused counts as lost.
@@ -170,46 +190,49 @@ impl Ground {
         Ok(())
     }
 
-    /// Closes and removes all blocks that are open.
+    /// Closes and removes all blocks that are open. The receiver opened them as full ones, with the code and W of their units, by which the fill of
+    /// the last one follows from the file's length.
     fn close(&mut self) -> Result<(), ReceiveError> {
-        for lsc in self.receiver.lscs().collect::<Vec<usize>>() {
-            let closed = self.receiver.close(lsc)?;
-            self.reports.insert(lsc, closed.report());
-            if let Some(information) = closed.information() {
-                self.whole.insert(lsc, information.to_vec());
+        let records: Vec<Record> = self.receiver.lscs().filter_map(|lsc| Some(self.receiver.block(lsc)?.record())).collect();
+        for record in records {
+            let (lsc, fill) = (record.lsc(), fill(self.file_length, record));
+            // one that is not the file's counts as no block
+            if fill > 0 {
+                self.receiver.set_fill(lsc, fill)?;
+                let closed = self.receiver.close(lsc)?;
+                self.reports.insert(lsc, (record, closed.report()));
+                if let Some(information) = closed.information() {
+                    self.whole.insert(lsc, information.to_vec());
+                }
             }
             self.receiver.remove(lsc);
         }
         Ok(())
     }
 
-    /// The file's length, as the first block's information gives it, if that is whole.
-    fn length(&self) -> Option<usize> {
-        let (length, _) = self.whole.get(&1)?.split_first_chunk::<LENGTH_BYTES>()?;
-        usize::try_from(u64::from_be_bytes(*length)).ok()
-    }
-
-    /// The LSCs that were sent, as far as the receiver can tell: the first block says it if that is whole, else the last is that of which a unit
-    /// came.
+    /// The LSCs that were sent, as far as the receiver can tell: the file was cut by code and W, which only a unit says; where none came, it is the
+    /// first.
     fn lscs(&self) -> Range<usize> {
-        let sent = self.length().and_then(|length| Some(blocks_for(length, self.whole.get(&1)?.len())));
-        let last = sent.unwrap_or_else(|| self.reports.keys().last().copied().unwrap_or(1));
-        1..last.min(LAST_LSC) + 1
+        match self.reports.values().next() {
+            Some(&(record, _)) => lscs(self.file_length, record),
+            None => 1..1 + self.file_length.min(1),
+        }
     }
 
     /// The file, if all its blocks are whole.
     fn file(&self) -> Option<Vec<u8>> {
-        let mut stream = Vec::new();
+        let mut file = Vec::new();
         for lsc in self.lscs() {
-            stream.extend_from_slice(self.whole.get(&lsc)?);
+            file.extend_from_slice(self.whole.get(&lsc)?);
         }
-        stream.get(LENGTH_BYTES..)?.get(..self.length()?).map(<[u8]>::to_vec)
+        file.truncate(self.file_length);
+        Some(file)
     }
 
     fn print_blocks(&self) {
         for lsc in self.lscs() {
             match self.reports.get(&lsc) {
-                Some(Report { verdict, heard, filled, left, .. }) => {
+                Some((_, Report { verdict, heard, filled, left, .. })) => {
                     println!("block {lsc}: {verdict}, heard {heard}, filled {filled}, left {left}");
                 }
                 None => println!("block {lsc}: no unit came"),
@@ -228,10 +251,10 @@ impl Ground {
 fn run(options: &Options) -> Result<bool, Box<dyn Error>> {
     let file = options.bytes()?;
     let board = Board::new(options.record, &file)?;
-    let (mut random, mut ground) = (Random::new(options.seed), Ground::new()?);
-    let (mut sent, mut arrived, end) = (0, 0, board.blocks.len() + 1);
-    for first in (1..end).step_by(TOGETHER) {
-        let units = board.units(first..end.min(first + TOGETHER))?;
+    let (mut random, mut ground) = (Random::new(options.seed), Ground::new(file.len())?);
+    let (mut sent, mut arrived) = (0, 0);
+    for lscs in board.lscs().collect::<Vec<usize>>().chunks(TOGETHER) {
+        let units = board.units(lscs)?;
         sent += units.len();
         for unit in downlink(units, options.loss, &mut random) {
             arrived += 1;

@@ -75,7 +75,7 @@ impl fmt::Display for Verdict {
 }
 
 /// What close found: its verdict, and how many positions were heard, how many it filled, and how many are left missing. The three counts add up
-/// to n.
+/// to fill + m, which is n for a full block: idle positions are not counted.
 ///
 /// ```
 /// use lipvezor::{Block, Code, Record, Work};
@@ -83,7 +83,7 @@ impl fmt::Display for Verdict {
 /// # fn main() -> Result<(), lipvezor::Refusal> {
 /// let record = Record::new(Code::C2, 8);
 /// let report = Block::open(record)?.close(&mut Work::of(record))?.report();
-/// assert_eq!(report.heard + report.filled + report.left, record.n());
+/// assert_eq!(report.heard + report.filled + report.left, record.sent());
 /// assert_eq!(report.to_string(), "ambiguous: heard 0, filled 1, left 3071");
 /// # Ok(())
 /// # }
@@ -108,7 +108,7 @@ impl fmt::Display for Report {
     }
 }
 
-/// What a block has at a position.
+/// What a block has at a position. An idle position has no mark: it is neither heard nor missing. (As a byte of the raw buffers it is 0.)
 ///
 /// ```
 /// use lipvezor::{Block, Code, Mark, Record, Refusal, Work};

@@ -13,7 +13,8 @@ use crate::{Closed, Mark, Missing, Record, Refusal, Taken};
 ///
 /// Units are taken in any order and any number of times. A block may be closed more than once, with more units taken in between. Positions
 /// count from 0: position i holds the symbol of LWC i + 1, information symbols first. What a close recovered comes from its answer,
-/// [`Closed`], and from nowhere else.
+/// [`Closed`], and from nowhere else. Of a [short block](Record#a-short-block) the positions from fill to k - 1 are idle: neither heard nor
+/// missing.
 ///
 /// ```
 /// use lipvezor::{Block, Code, Codeword, Record, Refusal, Taken, Work};
@@ -64,7 +65,7 @@ pub struct Block<#[cfg(feature = "alloc")] S = Vec<u8>, #[cfg(not(feature = "all
 impl Block {
     /// Opens a block with buffers of its own, of exactly the sizes that it needs.
     ///
-    /// Refusals: code, width, label. For a code or width that is refused no symbol bytes are allocated.
+    /// Refusals: code, width, label, fill. For a code or width that is refused no symbol bytes are allocated.
     pub fn open(record: Record) -> Result<Block, Refusal> {
         Block::open_in(record, vec![0; record.symbol_bytes()], vec![0; record.n()])
     }
@@ -74,7 +75,7 @@ impl<S: AsRef<[u8]> + AsMut<[u8]>, M: AsRef<[u8]> + AsMut<[u8]>> Block<S, M> {
     /// Opens a block in given buffers: [`Record::symbol_bytes`] bytes for the symbols and [`Record::n`] for the marks. What they held is
     /// overwritten.
     ///
-    /// Refusals: code, width, label, length.
+    /// Refusals: code, width, label, fill, length.
     pub fn open_in(record: Record, mut symbols: S, mut marks: M) -> Result<Block<S, M>, Refusal> {
         calls::open(&record, &mut Buffers::new(symbols.as_mut(), marks.as_mut()))?;
         Ok(Block { record, symbols, marks })
@@ -82,7 +83,7 @@ impl<S: AsRef<[u8]> + AsMut<[u8]>, M: AsRef<[u8]> + AsMut<[u8]>> Block<S, M> {
 
     /// Takes one unit, without its CRC-32. Only a kept one changes the block; its symbol may take the place of a filled one.
     ///
-    /// Refusals: header, extension, number, extension kind, parameters, foreign, position, symbol, conflict.
+    /// Refusals: header, extension, number, extension kind, parameters, foreign, position, idle, symbol, conflict.
     #[inline]
     pub fn take(&mut self, unit: &[u8]) -> Result<Taken, Refusal> {
         calls::take(&self.record, &mut Buffers::new(self.symbols.as_mut(), self.marks.as_mut()), unit)
@@ -113,18 +114,75 @@ impl<S: AsRef<[u8]> + AsMut<[u8]>, M: AsRef<[u8]> + AsMut<[u8]>> Block<S, M> {
         self.record
     }
 
-    /// What is at a position; `None` beyond the block. A mark does not say that a symbol was sent so: only a verdict does.
+    /// Sets the fill. The units of a block do not carry it, so a receiver may have to open the block as a full one, and learn only later, at the
+    /// latest before the close that counts, that it is short. What was taken stays, and the block goes on as one that was opened with this fill.
+    ///
+    /// Symbols that were heard at positions that are idle by it no longer count, and are gone after the next close. The answer is how many these
+    /// are: if any, then the fill is too small, or a unit was changed on the way.
+    ///
+    /// ```
+    /// use lipvezor::{Block, Code, Codeword, Record, Refusal, Work};
+    ///
+    /// # fn main() -> Result<(), Refusal> {
+    /// let full = Record::new(Code::C1, 1);
+    /// let sent = Codeword::encode(full.with_fill(100), [7; 100])?;
+    /// let mut block = Block::open(full)?;
+    /// for unit in sent.units()?.skip(50) {
+    ///     block.take(&unit)?;
+    /// }
+    /// let mut work = Work::of(full);
+    /// assert_eq!(block.close(&mut work)?.information(), None);
+    ///
+    /// assert_eq!(block.set_fill(100)?, 0);
+    /// let closed = block.close(&mut work)?;
+    /// assert_eq!(closed.to_string(), "whole: heard 306, filled 50, left 0");
+    /// assert_eq!(closed.information(), Some(&[7; 100][..]));
+    ///
+    /// assert_eq!(block.set_fill(513), Err(Refusal::Fill));
+    /// # Ok(())
+    /// # }
+    /// ```
+    ///
+    /// # A fill that is not the sender's
+    ///
+    /// *Too large*: positions that the sender has idle are missing here. Nothing wrong is given out, but less is filled: a block that would have
+    /// closed whole may be ambiguous.
+    ///
+    /// *Too small*: positions that the sender did send are taken for zeros, and their units are refused with [`Refusal::Idle`]. Where the zeros
+    /// contradict the other symbols, the block is inconsistent; where they do not, it is whole or ambiguous, **and wrong**. So a fill that is
+    /// not certain must rather be too large.
+    ///
+    /// Refusals: fill. The block then keeps the one that it had.
+    pub fn set_fill(&mut self, fill: usize) -> Result<usize, Refusal> {
+        let record = self.record.with_fill(fill);
+        // its code and W are not refused
+        if record.information_bytes() == 0 {
+            return Err(Refusal::Fill);
+        }
+        let heard = self.idle_and_heard(record);
+        self.record = record;
+        Ok(heard)
+    }
+
+    /// How many positions were heard that another record has idle, and this block does not.
+    fn idle_and_heard(&self, other: Record) -> usize {
+        other.idle().filter(|&position| self.mark(position) == Some(Mark::Heard)).count()
+    }
+
+    /// What is at a position; `None` where it is idle, and beyond the block. A mark does not say that a symbol was sent so: only a verdict does.
     #[must_use]
     pub fn mark(&self, position: usize) -> Option<Mark> {
-        Mark::try_from(*self.marks.as_ref().get(position)?).ok()
+        let mark = *self.marks.as_ref().get(position)?;
+        Mark::try_from(mark).ok().filter(|_| !self.record.is_idle(position))
     }
 
-    /// The positions that are missing, in order: neither heard, nor filled by the last close.
+    /// The positions that are missing, in order: neither heard, nor filled by the last close, nor idle.
     pub fn missing(&self) -> Missing<'_> {
-        Missing::new(self.marks.as_ref())
+        Missing::new(self.record, self.marks.as_ref())
     }
 
-    /// The raw buffers: all symbols one after the other, as they came or were filled, and a byte for each position, its [`Mark`].
+    /// The raw buffers: all symbols one after the other, as they came or were filled, and a byte for each position, its [`Mark`]. Those of idle
+    /// positions say nothing; after an open or a close they are 0.
     ///
     /// Not for the recovered bytes: those are [`Closed`]'s. Neither a mark nor a byte here says whether a symbol may be used; that takes the
     /// verdict of a close after which no unit was kept. After [`Verdict::Inconsistent`](crate::Verdict::Inconsistent) none of these bytes may
@@ -237,7 +295,85 @@ mod tests {
             }
         }
         for (protocol, lsc) in [(8, 1), (usize::MAX, 1), (0, 0), (0, 65_535), (0, usize::MAX)] {
-            assert_eq!(Block::open(Record::new(Code::C1, 1).with_protocol(protocol).with_lsc(lsc)).unwrap_err(), Refusal::Label);
+            let record = Record::new(Code::C1, 1).with_protocol(protocol).with_lsc(lsc);
+            assert_eq!([512, 0].map(|fill| Block::open(record.with_fill(fill)).unwrap_err()), [Refusal::Label; 2]);
+        }
+        for fill in [0, 513, usize::MAX] {
+            let record = Record::new(Code::C1, 1).with_fill(fill);
+            assert_eq!(Block::open(record).unwrap_err(), Refusal::Fill);
+            // before the length
+            assert_eq!(Block::open_in(record, &mut [][..], &mut [][..]).unwrap_err(), Refusal::Fill);
+        }
+    }
+
+    #[test]
+    fn idle_positions_are_neither_heard_nor_missing() {
+        let record = Record::new(Code::C1, 1).with_fill(100);
+        let full = Codeword::encode(Record::new(Code::C1, 1), [7; 512]).unwrap();
+        let sent = Codeword::encode(record, [7; 100]).unwrap();
+        let mut block = Block::open(record).unwrap();
+        for lwc in [101, 102, 511, 512] {
+            assert_eq!(block.take(&full.unit(lwc).unwrap()), Err(Refusal::Idle));
+        }
+        let idle = |block: &Block| (100..512).all(|position| block.mark(position).is_none());
+        assert!(
+            idle(&block)
+                && block.missing().eq((0..100).chain(512..768))
+                && block.missing().rev().eq((512..768).rev().chain((0..100).rev()))
+        );
+        for unit in sent.units().unwrap().skip(10) {
+            block.take(&unit).unwrap();
+        }
+        assert!(idle(&block) && block.missing().eq(0..10));
+        let mut work = Work::of(record);
+        let closed = block.close(&mut work).unwrap();
+        let Closed::Whole(whole) = closed else { panic!("{closed:?}") };
+        assert_eq!((whole.information(), whole.parity()), (sent.information(), sent.parity()));
+        assert_eq!(whole.report().heard + whole.report().filled, 356);
+        assert!((0..768).all(|position| whole.symbol_at(position).is_none() == (100..512).contains(&position)));
+        assert!(idle(&block) && block.missing().next().is_none());
+        assert_eq!((block.mark(99), block.mark(512)), (Some(Mark::Heard), Some(Mark::Heard)));
+        assert!(block.raw_buffers().1[100..512].iter().all(|&mark| mark == 0));
+    }
+
+    /// A block that learns its fill late does as one that was opened with it.
+    #[test]
+    fn a_fill_may_be_set_after_units_were_taken() {
+        let full = Record::new(Code::C1, 2);
+        let sent = Codeword::encode(full.with_fill(300), (0..600).map(|i| (i % 251) as u8).collect::<Vec<u8>>()).unwrap();
+        let mut work = Work::of(full);
+        for early in [0, 1, 100, 400] {
+            let (mut late, mut told) = (Block::open(full).unwrap(), Block::open(full.with_fill(300)).unwrap());
+            // a unit that the sender of the short block does not send
+            let other = Codeword::encode(full, [9; 1024]).unwrap().unit(301).unwrap();
+            assert_eq!((late.take(&other), told.take(&other)), (Ok(Taken::Kept), Err(Refusal::Idle)));
+            for (i, unit) in sent.units().unwrap().enumerate().skip(100) {
+                if i == early + 100 {
+                    let _ = late.close(&mut work).unwrap();
+                    assert_eq!((late.set_fill(510), late.set_fill(300), late.set_fill(300)), (Ok(0), Ok(1), Ok(0)));
+                    assert_eq!((late.mark(300), late.record()), (None, told.record()));
+                    assert!(late.missing().eq(told.missing()));
+                }
+                assert_eq!(late.take(&unit), told.take(&unit));
+            }
+            assert_eq!(late.set_fill(300), Ok(0));
+            assert_eq!(late.take(&other), Err(Refusal::Idle));
+            assert_eq!(late.close(&mut work), told.close(&mut Work::of(full)));
+            assert_eq!(late.close(&mut work).unwrap().information(), Some(sent.information()));
+            assert!(late == told);
+        }
+    }
+
+    #[test]
+    fn a_fill_that_is_refused_is_not_set() {
+        for &code in Code::ALL {
+            let mut block = Block::open(Record::new(code, 1).with_fill(7)).unwrap();
+            for fill in [0, code.k() + 1, usize::MAX] {
+                assert_eq!((block.set_fill(fill), block.record().fill()), (Err(Refusal::Fill), 7));
+            }
+            for fill in [1, code.k() - 1, code.k()] {
+                assert_eq!((block.set_fill(fill), block.record().fill()), (Ok(0), fill));
+            }
         }
     }
 

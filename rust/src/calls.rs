@@ -60,17 +60,17 @@ pub fn version() -> usize {
     ffi::version()
 }
 
-/// The parity of [`Record::information_bytes`] bytes, into [`Record::parity_bytes`] bytes. Of the record only code and W count.
+/// The parity of [`Record::information_bytes`] bytes, into [`Record::parity_bytes`] bytes. Of the record only code, W and fill count.
 ///
-/// Refusals: code, width, length.
+/// Refusals: code, width, fill, length.
 #[inline]
 pub fn encode(record: &Record, information: &[u8], parity: &mut [u8]) -> Result<(), Refusal> {
     done(ffi::encode(record, information, parity))
 }
 
-/// The symbol of an LWC, copied from the encoder's two buffers to an output of W bytes. Of the record only code and W count.
+/// The symbol of an LWC, copied from the encoder's two buffers to an output of W bytes. Of the record only code, W and fill count.
 ///
-/// Refusals: code, width, length (of any of the three), position.
+/// Refusals: code, width, fill, length (of any of the three), position, idle.
 #[inline]
 pub fn show(record: &Record, information: &[u8], parity: &[u8], lwc: usize, out: &mut [u8]) -> Result<(), Refusal> {
     done(ffi::show(record, information, parity, lwc, out))
@@ -79,7 +79,7 @@ pub fn show(record: &Record, information: &[u8], parity: &[u8], lwc: usize, out:
 /// The unit of one symbol of W bytes, into an output of [`Record::unit_bytes`] bytes. The output may begin at any address; wide symbols are
 /// written fastest where it is a multiple of 16, as a `Vec`'s mostly is.
 ///
-/// Refusals: code, width, label, length (of the output), position, symbol.
+/// Refusals: code, width, label, fill, length (of the output), position, idle, symbol.
 #[inline]
 pub fn write(record: &Record, lwc: usize, symbol: &[u8], out: &mut [u8]) -> Result<(), Refusal> {
     done(ffi::write(record, lwc, symbol, out))
@@ -104,7 +104,7 @@ pub fn read(unit: &[u8]) -> Result<Unit<'_>, Refusal> {
 
 /// Opens a block: all symbol bytes and marks become 0.
 ///
-/// Refusals: code, width, label, length.
+/// Refusals: code, width, label, fill, length.
 #[inline]
 pub fn open(record: &Record, buffers: &mut Buffers<'_>) -> Result<(), Refusal> {
     done(ffi::open(record, buffers))
@@ -124,10 +124,11 @@ pub fn take(record: &Record, buffers: &mut Buffers<'_>, unit: &[u8]) -> Result<T
     }
 }
 
-/// Closes a block: fills each missing symbol that the heard ones determine. The work buffers, of [`Record::work_words`] words and
+/// Closes a block: fills each missing symbol that the heard ones determine. After a verdict the idle positions have zero bytes and mark 0,
+/// whatever they had before. The work buffers, of [`Record::work_words`] words and
 /// [`Record::work_bytes`] bytes, may hold anything, and are all 0 after a verdict.
 ///
-/// Refusals: code, width, label, length, mark.
+/// Refusals: code, width, label, fill, length, mark.
 #[inline]
 pub fn close(record: &Record, buffers: &mut Buffers<'_>, words: &mut [u64], bytes: &mut [u8]) -> Result<Report, Refusal> {
     let mut report = ffi::Report::default();

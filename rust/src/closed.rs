@@ -1,12 +1,14 @@
 //! A block after a close: its verdict, and the bytes that the verdict allows.
 use core::fmt;
 use core::iter::{Enumerate, FusedIterator, Zip};
+use core::ops::Range;
 use core::slice::{ChunksExact, Iter};
 
 use crate::{Mark, Record, Report, Verdict};
 
 /// A block after a close, from [`Block::close`](crate::Block::close). It borrows the block, and gives out the bytes that its verdict allows: all of
-/// a whole block, the heard and the filled symbols one by one of an ambiguous one, none of an inconsistent one.
+/// a whole block, the heard and the filled symbols one by one of an ambiguous one, none of an inconsistent one. Idle positions of a
+/// [short block](Record#a-short-block) have no symbol: the information is fill symbols.
 ///
 /// ```
 /// use lipvezor::{Block, Closed, Code, Codeword, Mark, Record, Refusal, Work};
@@ -97,7 +99,7 @@ impl<'a> Closed<'a> {
         self.report().verdict
     }
 
-    /// The information, k symbols one after the other, of a whole block; else `None`.
+    /// The information, fill symbols one after the other, of a whole block; else `None`.
     #[must_use]
     pub fn information(&self) -> Option<&'a [u8]> {
         match self {
@@ -125,7 +127,7 @@ struct Parts<'a> {
 
 impl<'a> Parts<'a> {
     fn symbol_at(&self, position: usize) -> Option<&'a [u8]> {
-        self.symbols.chunks_exact(self.record.w()).nth(position)
+        self.symbols.chunks_exact(self.record.w()).nth(position).filter(|_| !self.record.is_idle(position))
     }
 
     /// Numbers and counts alone: the bytes are not for a log.
@@ -168,7 +170,7 @@ impl<'a> Whole<'a> {
         self.0.report
     }
 
-    /// The information, k symbols one after the other.
+    /// The information, fill symbols one after the other.
     #[must_use]
     pub fn information(&self) -> &'a [u8] {
         &self.0.symbols[..self.0.record.information_bytes()]
@@ -181,7 +183,7 @@ impl<'a> Whole<'a> {
         &self.0.symbols[parity..]
     }
 
-    /// The symbol at a position; `None` beyond the block.
+    /// The symbol at a position; `None` where it is idle, and beyond the block.
     #[must_use]
     pub fn symbol_at(&self, position: usize) -> Option<&'a [u8]> {
         self.0.symbol_at(position)
@@ -233,15 +235,15 @@ impl<'a> Ambiguous<'a> {
         Symbols(self.0.marks.iter().enumerate().zip(self.0.symbols.chunks_exact(self.0.record.w())))
     }
 
-    /// The symbol at a position, where it was heard or filled; `None` where it is missing, and beyond the block.
+    /// The symbol at a position, where it was heard or filled; `None` where it is missing or idle, and beyond the block.
     #[must_use]
     pub fn symbol_at(&self, position: usize) -> Option<Symbol<'a>> {
         Symbol::new(position, *self.0.marks.get(position)?, self.0.symbol_at(position)?)
     }
 
-    /// The positions that are missing, in order.
+    /// The positions that are missing, in order. Idle ones are not: they are zero, and no unit is sent for them.
     pub fn missing(&self) -> Missing<'a> {
-        Missing::new(self.0.marks)
+        Missing::new(self.0.record, self.0.marks)
     }
 }
 
@@ -341,7 +343,8 @@ impl DoubleEndedIterator for Symbols<'_> {
 
 impl FusedIterator for Symbols<'_> {}
 
-/// The positions of a block that are missing, in order, from [`Block::missing`](crate::Block::missing) and [`Ambiguous::missing`].
+/// The positions of a block that are missing, in order, from [`Block::missing`](crate::Block::missing) and [`Ambiguous::missing`]. Idle ones are
+/// not among them.
 ///
 /// ```
 /// use lipvezor::{Block, Code, Codeword, Record};
@@ -359,34 +362,39 @@ impl FusedIterator for Symbols<'_> {}
 /// ```
 #[must_use]
 #[derive(Clone, Debug)]
-pub struct Missing<'a>(Enumerate<Iter<'a, u8>>);
+pub struct Missing<'a> {
+    marks: Enumerate<Iter<'a, u8>>,
+    idle: Range<usize>,
+}
 
 impl<'a> Missing<'a> {
-    pub(crate) fn new(marks: &'a [u8]) -> Missing<'a> {
-        Missing(marks.iter().enumerate())
+    pub(crate) fn new(record: Record, marks: &'a [u8]) -> Missing<'a> {
+        Missing { marks: marks.iter().enumerate(), idle: record.idle() }
     }
 }
 
-/// A position, if its mark says that it is missing.
-fn if_missing((position, &mark): (usize, &u8)) -> Option<usize> {
-    Mark::try_from(mark).is_ok_and(Mark::is_missing).then_some(position)
+/// Whether a position's mark says that it is missing.
+fn is_missing(idle: &Range<usize>, position: usize, mark: u8) -> bool {
+    Mark::try_from(mark).is_ok_and(Mark::is_missing) && !idle.contains(&position)
 }
 
 impl Iterator for Missing<'_> {
     type Item = usize;
 
     fn next(&mut self) -> Option<usize> {
-        self.0.find_map(if_missing)
+        let idle = &self.idle;
+        self.marks.find(|&(position, &mark)| is_missing(idle, position, mark)).map(|(position, _)| position)
     }
 
     fn size_hint(&self) -> (usize, Option<usize>) {
-        (0, Some(self.0.len()))
+        (0, Some(self.marks.len()))
     }
 }
 
 impl DoubleEndedIterator for Missing<'_> {
     fn next_back(&mut self) -> Option<usize> {
-        self.0.by_ref().rev().find_map(if_missing)
+        let idle = &self.idle;
+        self.marks.rfind(|&(position, &mark)| is_missing(idle, position, mark)).map(|(position, _)| position)
     }
 }
 
@@ -396,6 +404,7 @@ impl FusedIterator for Missing<'_> {}
 mod tests {
     use alloc::format;
     use alloc::string::ToString;
+    use alloc::vec;
     use alloc::vec::Vec;
 
     use super::*;
@@ -466,6 +475,37 @@ mod tests {
     }
 
     #[test]
+    fn a_short_block_has_no_symbol_at_idle_positions() {
+        let (record, idle) = (record().with_fill(200), 200..512);
+        let sent = Codeword::encode(record, vec![7; 200 * W]).unwrap();
+        let mut block = Block::open(record).unwrap();
+        // too few units, then enough
+        for lwc in sent.lwcs().filter(|lwc| lwc % 3 == 0) {
+            block.take(&sent.unit(lwc).unwrap()).unwrap();
+        }
+        let mut work = Work::of(record);
+        let closed = block.close(&mut work).unwrap();
+        let Closed::Ambiguous(ambiguous) = closed else { panic!("{closed:?}") };
+        let Report { heard, filled, left, .. } = closed.report();
+        assert_eq!((heard, heard + filled + left), (66 + 86, 456));
+        assert!(idle.clone().all(|position| ambiguous.symbol_at(position).is_none()));
+        assert!(ambiguous.symbols().all(|symbol| !idle.contains(&symbol.position)) && ambiguous.symbols().count() == heard + filled);
+        assert!(ambiguous.missing().all(|position| !idle.contains(&position)) && ambiguous.missing().count() == left);
+        for lwc in sent.lwcs().filter(|lwc| lwc % 3 == 1) {
+            block.take(&sent.unit(lwc).unwrap()).unwrap();
+        }
+        let closed = block.close(&mut work).unwrap();
+        let Closed::Whole(whole) = closed else { panic!("{closed:?}") };
+        assert_eq!(
+            (closed.information(), whole.information(), whole.parity()),
+            (Some(sent.information()), sent.information(), sent.parity())
+        );
+        for position in 0..768 {
+            assert_eq!(whole.symbol_at(position), sent.symbol(position + 1).ok().as_deref(), "position {position}");
+        }
+    }
+
+    #[test]
     fn an_inconsistent_block_gives_out_nothing() {
         // all symbols are heard, one of them not as it was sent
         let (sent, mut block, mut work) = (sent(), block(1..768), Work::of(record()));
@@ -486,7 +526,10 @@ mod tests {
     fn no_bytes_are_shown_for_a_log() {
         let mut block = block(0..768);
         let shown = format!("{:?}", block.close(&mut Work::of(record())).unwrap());
-        assert!(shown.starts_with("Whole(Whole { record: Record { code: Code(1), w: 3, protocol: 2, lsc: 9 }, report: "), "{shown}");
+        assert!(
+            shown.starts_with("Whole(Whole { record: Record { code: Code(1), w: 3, protocol: 2, lsc: 9, fill: 512 }, report: "),
+            "{shown}"
+        );
         assert!(shown.ends_with(", .. })") && shown.len() < 200, "{shown}");
     }
 }

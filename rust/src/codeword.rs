@@ -11,7 +11,8 @@ use crate::{calls, Record, Refusal, MAX_WIDTH};
 const NARROW: usize = 64;
 
 /// A block on board: its record, its information and the parity that encoding adds. Both are in buffers that it owns or borrows; any type that
-/// lends its bytes will do. Symbols are numbered by their LWC, from 1 to n: information symbols have LWC 1 to k, parity symbols k + 1 to n.
+/// lends its bytes will do. Symbols are numbered by their LWC, from 1 to n: information symbols have LWC 1 to k, parity symbols k + 1 to n. Of a
+/// [short block](Record#a-short-block) LWC fill + 1 to k are not sent: [`Codeword::lwcs`] has those that are.
 ///
 /// ```
 /// use lipvezor::{Code, Codeword, Record, Refusal, Unit};
@@ -31,6 +32,25 @@ const NARROW: usize = 64;
 ///
 /// let wider = Record::new(Code::C1, 5);
 /// assert_eq!(Codeword::encode(wider, &information).unwrap_err(), Refusal::Length);
+/// # Ok(())
+/// # }
+/// ```
+///
+/// A short block, of 1,000 bytes:
+///
+/// ```
+/// use lipvezor::{Code, Codeword, Record, Refusal};
+///
+/// # fn main() -> Result<(), Refusal> {
+/// let record = Record::new(Code::C1, 4).with_fill(250);
+/// let sent = Codeword::encode(record, [7; 1000])?;
+/// assert_eq!(sent.units()?.len(), 250 + 256);
+/// assert_eq!(sent.symbol(250)?, [7, 7, 7, 7]);
+/// assert_eq!([251, 512].map(|lwc| sent.symbol(lwc)), [Err(Refusal::Idle), Err(Refusal::Idle)]);
+/// assert_eq!(sent.symbol(513)?, sent.parity()[..4]);
+///
+/// assert_eq!(Codeword::encode(record.with_fill(513), [7; 513 * 4]).unwrap_err(), Refusal::Fill);
+/// assert_eq!(Codeword::encode(Record::new(Code::C1, 4), [7; 1000]).unwrap_err(), Refusal::Length);
 /// # Ok(())
 /// # }
 /// ```
@@ -64,8 +84,8 @@ pub struct Codeword<I, #[cfg(feature = "alloc")] P = Vec<u8>, #[cfg(not(feature 
 impl<I: AsRef<[u8]>> Codeword<I> {
     /// Encodes [`Record::information_bytes`] bytes, with a parity buffer of its own.
     ///
-    /// Refusals: code, width, length. For a code or width that is refused no parity is allocated. Protocol ID and LSC count only when units are
-    /// written.
+    /// Refusals: code, width, fill, length. For a code or width that is refused no parity is allocated. Protocol ID and LSC count only when units
+    /// are written.
     pub fn encode(record: Record, information: I) -> Result<Codeword<I>, Refusal> {
         Codeword::encode_in(record, information, vec![0; record.parity_bytes()])
     }
@@ -74,7 +94,7 @@ impl<I: AsRef<[u8]>> Codeword<I> {
 impl<I: AsRef<[u8]>, P: AsRef<[u8]> + AsMut<[u8]>> Codeword<I, P> {
     /// Encodes [`Record::information_bytes`] bytes into a given parity buffer of [`Record::parity_bytes`] bytes. What that held is overwritten.
     ///
-    /// Refusals: code, width, length.
+    /// Refusals: code, width, fill, length.
     pub fn encode_in(record: Record, information: I, mut parity: P) -> Result<Codeword<I, P>, Refusal> {
         calls::encode(&record, information.as_ref(), parity.as_mut())?;
         Ok(Codeword { record, information, parity })
@@ -88,7 +108,7 @@ impl<I: AsRef<[u8]>, P: AsRef<[u8]>> Codeword<I, P> {
         self.record
     }
 
-    /// The information, k symbols one after the other.
+    /// The information, fill symbols one after the other.
     #[must_use]
     pub fn information(&self) -> &[u8] {
         self.information.as_ref()
@@ -100,21 +120,21 @@ impl<I: AsRef<[u8]>, P: AsRef<[u8]>> Codeword<I, P> {
         self.parity.as_ref()
     }
 
-    /// The LWCs of the units that are sent, in order.
+    /// The LWCs of the units that are sent, in order: 1 to fill, and k + 1 to n.
     pub fn lwcs(&self) -> Lwcs {
-        Lwcs(1..self.record.n() + 1)
+        self.record.lwcs()
     }
 
     /// The symbol of an LWC, copied to an output of exactly W bytes.
     ///
-    /// Refusals: length, position.
+    /// Refusals: length, position, idle.
     pub fn copy_symbol(&self, lwc: usize, out: &mut [u8]) -> Result<(), Refusal> {
         calls::show(&self.record, self.information(), self.parity(), lwc, out)
     }
 
     /// The symbol of an LWC.
     ///
-    /// Refusals: position.
+    /// Refusals: position, idle.
     #[cfg(feature = "alloc")]
     pub fn symbol(&self, lwc: usize) -> Result<Vec<u8>, Refusal> {
         let mut symbol = vec![0; self.record.w()];
@@ -124,7 +144,7 @@ impl<I: AsRef<[u8]>, P: AsRef<[u8]>> Codeword<I, P> {
 
     /// The unit of an LWC, without a CRC-32, into an output of exactly [`Record::unit_bytes`] bytes.
     ///
-    /// Refusals: label, length, position.
+    /// Refusals: label, length, position, idle.
     pub fn write_unit(&self, lwc: usize, out: &mut [u8]) -> Result<(), Refusal> {
         // a narrow symbol does not pay for the widest one's array
         if self.record.w() <= NARROW {
@@ -140,14 +160,14 @@ impl<I: AsRef<[u8]>, P: AsRef<[u8]>> Codeword<I, P> {
         let symbol = &mut symbol[..self.record.w()];
         match self.copy_symbol(lwc, symbol) {
             Ok(()) => calls::write(&self.record, lwc, symbol, out),
-            // the position is refused; write answers so too, or what it tries before that
+            // the LWC is refused; write answers so too, or what it tries before that
             Err(_) => calls::write(&self.record, lwc, &[], out),
         }
     }
 
     /// The unit of an LWC, without a CRC-32.
     ///
-    /// Refusals: label, position.
+    /// Refusals: label, position, idle.
     #[cfg(feature = "alloc")]
     pub fn unit(&self, lwc: usize) -> Result<Vec<u8>, Refusal> {
         let mut unit = vec![0; self.record.unit_bytes()];
@@ -179,7 +199,7 @@ impl<I, P> fmt::Debug for Codeword<I, P> {
     }
 }
 
-/// The LWCs of the units that are sent of a block, in order, from [`Codeword::lwcs`].
+/// The LWCs of the units that are sent of a block, in order, from [`Codeword::lwcs`] and [`Record::lwcs`]: 1 to fill, and k + 1 to n.
 ///
 /// ```
 /// use lipvezor::{Code, Codeword, Record};
@@ -187,6 +207,8 @@ impl<I, P> fmt::Debug for Codeword<I, P> {
 /// # fn main() -> Result<(), lipvezor::Refusal> {
 /// let sent = Codeword::encode(Record::new(Code::C1, 1), [0; 512])?;
 /// assert!(sent.lwcs().eq(1..=768));
+/// let short = Codeword::encode(Record::new(Code::C1, 1).with_fill(100), [0; 100])?;
+/// assert!(short.lwcs().eq((1..=100).chain(513..=768)));
 /// // every other unit, the last first
 /// for lwc in sent.lwcs().rev().step_by(2) {
 ///     let unit = sent.unit(lwc)?;
@@ -196,28 +218,51 @@ impl<I, P> fmt::Debug for Codeword<I, P> {
 /// ```
 #[must_use]
 #[derive(Clone, Debug, PartialEq, Eq)]
-pub struct Lwcs(Range<usize>);
+pub struct Lwcs {
+    information: Range<usize>,
+    parity: Range<usize>,
+}
+
+impl Lwcs {
+    /// Of a record; none, if its code or fill is refused.
+    pub(crate) fn of(record: Record) -> Lwcs {
+        let (fill, k, n) = (record.fill(), record.k(), record.n());
+        if (1..=k).contains(&fill) {
+            Lwcs { information: 1..fill + 1, parity: k + 1..n + 1 }
+        } else {
+            Lwcs { information: 0..0, parity: 0..0 }
+        }
+    }
+}
 
 impl Iterator for Lwcs {
     type Item = usize;
 
     #[inline]
     fn next(&mut self) -> Option<usize> {
-        self.0.next()
+        self.information.next().or_else(|| self.parity.next())
     }
 
     fn nth(&mut self, n: usize) -> Option<usize> {
-        self.0.nth(n)
+        let before = self.information.len();
+        self.information.nth(n).or_else(|| self.parity.nth(n - before))
     }
 
     fn size_hint(&self) -> (usize, Option<usize>) {
-        self.0.size_hint()
+        let length = self.information.len() + self.parity.len();
+        (length, Some(length))
     }
 }
 
 impl DoubleEndedIterator for Lwcs {
+    #[inline]
     fn next_back(&mut self) -> Option<usize> {
-        self.0.next_back()
+        self.parity.next_back().or_else(|| self.information.next_back())
+    }
+
+    fn nth_back(&mut self, n: usize) -> Option<usize> {
+        let before = self.parity.len();
+        self.parity.nth_back(n).or_else(|| self.information.nth_back(n - before))
     }
 }
 
@@ -316,6 +361,34 @@ mod tests {
     }
 
     #[test]
+    fn a_short_block_has_the_symbols_of_a_full_one_with_zeros() {
+        for (&code, w) in Code::ALL.iter().zip([1, 3, 5, 2, 16, 7]) {
+            let (n, k) = (code.n(), code.k());
+            for fill in [1, 2, k / 3, k - 1] {
+                let short = word(Record::new(code, w).with_fill(fill));
+                let mut information = short.information().to_vec();
+                assert_eq!(information.len(), fill * w);
+                information.resize(k * w, 0);
+                let full = Codeword::encode(Record::new(code, w), information).unwrap();
+                assert_eq!(short.parity(), full.parity());
+                for lwc in short.lwcs() {
+                    assert_eq!((short.symbol(lwc), short.unit(lwc)), (full.symbol(lwc), full.unit(lwc)), "LWC {lwc}");
+                }
+                assert!(short.units().unwrap().eq((1..=fill).chain(k + 1..=n).map(|lwc| full.unit(lwc).unwrap())));
+                for lwc in [fill + 1, k] {
+                    assert_eq!((short.symbol(lwc), short.unit(lwc)), (Err(Refusal::Idle), Err(Refusal::Idle)), "LWC {lwc}");
+                    // what is tried before
+                    assert_eq!(short.copy_symbol(lwc, &mut vec![0; w + 1]), Err(Refusal::Length));
+                    assert_eq!(short.write_unit(lwc, &mut []), Err(Refusal::Length));
+                }
+                for lwc in [0, n + 1, usize::MAX] {
+                    assert_eq!((short.symbol(lwc), short.unit(lwc)), (Err(Refusal::Position), Err(Refusal::Position)), "LWC {lwc}");
+                }
+            }
+        }
+    }
+
+    #[test]
     fn buffers_are_kept_or_borrowed() {
         let record = Record::new(Code::C1, 1);
         let owned = vec![9; 512];
@@ -341,8 +414,15 @@ mod tests {
         for w in [0, 1025, usize::MAX / 512, usize::MAX] {
             assert_eq!(Codeword::encode(Record::new(Code::C2, w), []).unwrap_err(), Refusal::Width);
         }
+        for fill in [0, 513, usize::MAX] {
+            assert_eq!(Codeword::encode(Record::new(Code::C1, 1).with_fill(fill), []).unwrap_err(), Refusal::Fill);
+            assert_eq!(Codeword::encode(Record::new(Code::C1, 0).with_fill(fill), []).unwrap_err(), Refusal::Width);
+        }
         for length in [0, 511, 513] {
             assert_eq!(Codeword::encode(Record::new(Code::C1, 1), vec![0; length]).unwrap_err(), Refusal::Length);
+        }
+        for length in [0, 99, 101, 512] {
+            assert_eq!(Codeword::encode(Record::new(Code::C1, 1).with_fill(100), vec![0; length]).unwrap_err(), Refusal::Length);
         }
         for length in [0, 255, 257] {
             let mut parity = vec![0xEE; length];
@@ -385,6 +465,34 @@ mod tests {
         assert_eq!(word.units().unwrap().nth(768), None);
         let mut lwcs = word.lwcs();
         assert_eq!((lwcs.next(), lwcs.next_back(), lwcs.nth(10), lwcs.len()), (Some(1), Some(768), Some(12), 768 - 13));
+    }
+
+    /// Over the gap, as from a list of them.
+    #[test]
+    fn lwcs_of_a_short_block_come_from_both_ends() {
+        for fill in [1, 2, 3, 300, 511, 512] {
+            let lwcs = Record::new(Code::C1, 1).with_fill(fill).lwcs();
+            let all: Vec<usize> = (1..=fill).chain(513..=768).collect();
+            assert!(lwcs.clone().eq(all.iter().copied()) && lwcs.clone().rev().eq(all.iter().rev().copied()));
+            for skip in [0, 1, 2, 255, 256, 257, fill - 1, fill, fill + 1, fill + 255, fill + 256, usize::MAX] {
+                let (mut ours, mut plain) = (lwcs.clone(), all.iter().copied());
+                assert_eq!((ours.nth(skip), ours.len()), (plain.nth(skip), plain.len()), "fill {fill}, nth {skip}");
+                assert_eq!(
+                    (ours.next_back(), ours.next(), ours.len()),
+                    (plain.next_back(), plain.next(), plain.len()),
+                    "fill {fill}, nth {skip}"
+                );
+                let (mut ours, mut plain) = (lwcs.clone(), all.iter().copied());
+                assert_eq!((ours.nth_back(skip), ours.len()), (plain.nth_back(skip), plain.len()), "fill {fill}, nth_back {skip}");
+                assert_eq!(
+                    (ours.next(), ours.next_back(), ours.len()),
+                    (plain.next(), plain.next_back(), plain.len()),
+                    "fill {fill}, nth_back {skip}"
+                );
+            }
+            let mut ended = lwcs;
+            assert_eq!((ended.by_ref().count(), ended.next(), ended.next_back(), ended.len()), (fill + 256, None, None, 0));
+        }
     }
 
     #[test]

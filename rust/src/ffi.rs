@@ -89,7 +89,7 @@ mod c {
         pub fn lipvezor_n(code: usize) -> usize;
         pub fn lipvezor_k(code: usize) -> usize;
         pub fn lipvezor_m(code: usize) -> usize;
-        pub fn lipvezor_information_bytes(code: usize, w: usize) -> usize;
+        pub fn lipvezor_information_bytes(code: usize, w: usize, fill: usize) -> usize;
         pub fn lipvezor_parity_bytes(code: usize, w: usize) -> usize;
         pub fn lipvezor_symbol_bytes(code: usize, w: usize) -> usize;
         pub fn lipvezor_unit_bytes(code: usize, w: usize) -> usize;
@@ -147,8 +147,8 @@ pub fn m(code: usize) -> usize {
 }
 
 #[inline]
-pub fn information_bytes(code: usize, w: usize) -> usize {
-    unsafe { c::lipvezor_information_bytes(code, w) }
+pub fn information_bytes(code: usize, w: usize, fill: usize) -> usize {
+    unsafe { c::lipvezor_information_bytes(code, w, fill) }
 }
 
 #[inline]

@@ -82,32 +82,41 @@
 //! assert_eq!(refusal.to_string(), "refused 2, width: W is 0 or above 1024");
 //! ```
 //!
-//! # Many blocks
+//! # A scene in blocks
 //!
-//! A [`Receiver`] opens each block from its first unit, and keeps it by its LSC.
+//! A scene is cut into full blocks and a short last one, whose [fill](Record#a-short-block) says how many symbols it has, so that no unit is sent
+//! for bytes that are not there. (Only the last symbol is filled up with zeros, if need be.) A [`Receiver`] opens each block from its first unit,
+//! and keeps it by its LSC. Units do not carry the fill: here the ground knows the scene's length.
 //!
 //! ```
 //! use lipvezor::{Code, Codeword, Receiver, Record};
 //!
 //! # fn main() -> Result<(), Box<dyn std::error::Error>> {
-//! let record = Record::new(Code::C1, 4).with_protocol(1);
-//! let scene: Vec<u8> = (0..3 * record.information_bytes()).map(|i| (i % 253) as u8).collect();
+//! let scene: Vec<u8> = (0..307_200).map(|i| (i % 253) as u8).collect();
+//! let full = Record::new(Code::C1, 64).with_protocol(1);
+//! let symbols = scene.len().div_ceil(full.w());
+//! let blocks = symbols.div_ceil(full.k());
+//! let fill = |lsc: usize| full.k().min(symbols - (lsc - 1) * full.k());
+//! assert_eq!((blocks, fill(1), fill(9), fill(10)), (10, 512, 512, 192));
 //!
-//! // on board: three blocks; their units come mixed, and every fourth is lost
-//! let mut sent = Vec::new();
-//! for (part, lsc) in scene.chunks(record.information_bytes()).zip(1..) {
-//!     sent.push(Codeword::encode(record.with_lsc(lsc), part)?);
-//! }
-//! let mut receiver = Receiver::new(1)?.with_limit(8);
-//! for lwc in sent[0].lwcs().filter(|lwc| lwc % 4 != 0) {
-//!     for word in &sent {
-//!         receiver.take(&word.unit(lwc)?)?;
+//! // on board; every fourth unit is lost
+//! let mut arrived = Vec::new();
+//! for (part, lsc) in scene.chunks(full.information_bytes()).zip(1..) {
+//!     let sent = Codeword::encode(full.with_lsc(lsc).with_fill(fill(lsc)), part)?;
+//!     for lwc in sent.lwcs().filter(|lwc| lwc % 4 != 0) {
+//!         arrived.push(sent.unit(lwc)?);
 //!     }
 //! }
+//! assert_eq!(arrived.len(), (9 * 768 + (192 + 256)) * 3 / 4);
 //!
-//! // on the ground
+//! // on the ground; the units may come in any order
+//! let mut receiver = Receiver::new(1)?.with_limit(blocks);
+//! receiver.set_fill(blocks, fill(blocks))?;
+//! for unit in arrived.iter().rev() {
+//!     receiver.take(unit)?;
+//! }
 //! let mut recovered = Vec::new();
-//! for lsc in 1..=3 {
+//! for lsc in 1..=blocks {
 //!     let closed = receiver.close(lsc)?;
 //!     recovered.extend_from_slice(closed.information().ok_or("a block is not whole")?);
 //!     receiver.remove(lsc);

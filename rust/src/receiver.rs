@@ -10,6 +10,9 @@ use crate::{calls, Block, Closed, Code, Record, Refusal, Taken, Unit, Work, MAX_
 /// If the first unit's coding parameters were changed on the way, and no CRC-32 found it, the block's other units are refused with
 /// [`Refusal::Parameters`] until the block is removed.
 ///
+/// No unit carries the fill of its block, so a block is opened as a full one. **The fill of a short block has to be told**, with
+/// [`Receiver::set_fill`]: before its first unit or after it, but before the close.
+///
 /// A close keeps the block, so that more units may come and it may be closed again. [`Receiver::remove`] gives it back; a unit of the same LSC
 /// that comes after that opens a new block. LSCs come again after 65,534 blocks, so a block must be removed before its number does.
 ///
@@ -48,6 +51,8 @@ pub struct Receiver {
     protocol: usize,
     limit: usize,
     blocks: BTreeMap<usize, Block>,
+    // told for blocks that are not open yet
+    fills: BTreeMap<usize, usize>,
     work: Work,
 }
 
@@ -98,7 +103,7 @@ impl fmt::Display for Received {
 #[non_exhaustive]
 #[derive(Clone, Copy, Debug, PartialEq, Eq, Hash)]
 pub enum ReceiveError {
-    /// Refused, as a block of the unit's LSC would refuse it.
+    /// Refused; of a unit, as a block of its LSC would refuse it.
     Refused(Refusal),
     /// The unit would open a block beyond the limit. It was not taken, and may be handed over again when a block was removed.
     Full,
@@ -142,7 +147,8 @@ impl Receiver {
     /// Refusals: label.
     pub fn new(protocol: usize) -> Result<Receiver, Refusal> {
         label(protocol, 1)?;
-        Ok(Receiver { protocol, limit: Receiver::DEFAULT_LIMIT, blocks: BTreeMap::new(), work: Work::default() })
+        let (blocks, fills) = (BTreeMap::new(), BTreeMap::new());
+        Ok(Receiver { protocol, limit: Receiver::DEFAULT_LIMIT, blocks, fills, work: Work::default() })
     }
 
     /// The same with another limit of open blocks. Blocks that are open stay so.
@@ -163,11 +169,53 @@ impl Receiver {
         self.limit
     }
 
+    /// Tells the fill of the block of an LSC, 1 to its k, whether it is open or not.
+    ///
+    /// An open block goes on with this fill, and the answer is how many of its heard symbols no longer count: see [`Block::set_fill`], also for
+    /// what happens with a fill that is not the sender's. For a block that is not open the fill is kept, one for each LSC, until the block's first
+    /// unit opens it, or [`Receiver::remove`] is called with this LSC; the answer is 0. So it holds for one block: a later one of the same LSC is
+    /// full again, unless it is told otherwise.
+    ///
+    /// Refusals: label (the LSC is none), fill (0, or above k; of a block that is not open, above every code's k). A fill that is above the k that
+    /// a first unit names is refused then: its block is not opened until another fill is told.
+    ///
+    /// ```
+    /// use lipvezor::{Code, Codeword, ReceiveError, Receiver, Record, Refusal};
+    ///
+    /// # fn main() -> Result<(), Box<dyn std::error::Error>> {
+    /// let record = Record::new(Code::C1, 1).with_fill(100);
+    /// let sent = [5, 6].map(|lsc| Codeword::encode(record.with_lsc(lsc), [lsc as u8; 100]).unwrap());
+    /// let mut receiver = Receiver::new(0)?;
+    /// receiver.set_fill(5, 100)?; // before its first unit
+    /// for unit in sent.iter().flat_map(|word| word.units().unwrap().skip(90)) {
+    ///     receiver.take(&unit)?;
+    /// }
+    /// receiver.set_fill(6, 100)?; // after it
+    /// for lsc in [5, 6] {
+    ///     assert_eq!(receiver.close(lsc)?.information(), Some(&[lsc as u8; 100][..]));
+    /// }
+    /// assert_eq!(receiver.set_fill(6, 513), Err(ReceiveError::Refused(Refusal::Fill)));
+    /// # Ok(())
+    /// # }
+    /// ```
+    pub fn set_fill(&mut self, lsc: usize, fill: usize) -> Result<usize, ReceiveError> {
+        label(self.protocol, lsc)?;
+        if let Some(block) = self.blocks.get_mut(&lsc) {
+            return Ok(block.set_fill(fill)?);
+        }
+        if !Code::ALL.iter().any(|code| (1..=code.k()).contains(&fill)) {
+            return Err(Refusal::Fill.into());
+        }
+        self.fills.insert(lsc, fill);
+        Ok(0)
+    }
+
     /// Takes one unit, without its CRC-32. If no block of its LSC is open, it opens one. A unit that is not taken opens none.
     ///
     /// A unit that can't be read is refused as [`Unit::read`] does. Where its block is open, the answer is [`Block::take`]'s. Where none is, the
     /// refusals are, in this order: label (the LSC is none), parameters (those of no code, of a W that is refused, of another seed than 0, or
-    /// none), foreign (another protocol ID), position, symbol. Only a unit that is not refused answers [`ReceiveError::Full`].
+    /// none), fill (the one that was told is above k), foreign (another protocol ID), position, idle, symbol. Only a unit that is not refused
+    /// answers [`ReceiveError::Full`].
     pub fn take(&mut self, unit: &[u8]) -> Result<Received, ReceiveError> {
         let parts = Unit::read(unit)?;
         let lsc = parts.lsc;
@@ -182,6 +230,7 @@ impl Receiver {
         let mut block = Block::open(record)?;
         let taken = block.take(unit)?;
         self.blocks.insert(lsc, block);
+        self.fills.remove(&lsc);
         Ok(Received { lsc, taken })
     }
 
@@ -190,14 +239,18 @@ impl Receiver {
         label(self.protocol, unit.lsc)?;
         let coding = unit.coding.filter(|coding| coding.seed == 0).ok_or(Refusal::Parameters)?;
         let code = coding.code().ok_or(Refusal::Parameters)?;
-        let record = Record::new(code, coding.w).with_protocol(self.protocol).with_lsc(unit.lsc);
+        let fill = self.fills.get(&unit.lsc).copied().unwrap_or(code.k());
+        let record = Record::new(code, coding.w).with_protocol(self.protocol).with_lsc(unit.lsc).with_fill(fill);
         if record.unit_bytes() == 0 {
             return Err(Refusal::Parameters); // its W is refused
+        }
+        if record.information_bytes() == 0 {
+            return Err(Refusal::Fill);
         }
         if unit.protocol != self.protocol {
             return Err(Refusal::Foreign);
         }
-        // write refuses the position and the symbol as take does
+        // write refuses position, idle and symbol as take does
         calls::write(&record, unit.lwc, unit.symbol, &mut [0; MAX_UNIT_BYTES][..record.unit_bytes()])?;
         Ok(record)
     }
@@ -233,8 +286,9 @@ impl Receiver {
         self.blocks.is_empty()
     }
 
-    /// Takes the open block of an LSC out of the receiver.
+    /// Takes the open block of an LSC out of the receiver. Where none is open, a fill that was told for it is forgotten.
     pub fn remove(&mut self, lsc: usize) -> Option<Block> {
+        self.fills.remove(&lsc);
         self.blocks.remove(&lsc)
     }
 }
@@ -430,6 +484,90 @@ mod tests {
                 assert_eq!(receiver.take(other), refused(Refusal::Parameters));
             }
         }
+    }
+
+    /// Told before the first unit, after it, or after a close.
+    #[test]
+    fn a_short_block_closes_with_the_fill_that_was_told() {
+        let record = Record::new(Code::C4, 3).with_lsc(9).with_fill(77);
+        let sent = word(record);
+        for told_at in [0, 1, 60, 150] {
+            let mut receiver = Receiver::new(0).unwrap();
+            for (i, unit) in sent.units().unwrap().skip(50).enumerate() {
+                if i == told_at {
+                    if i > 100 {
+                        assert_eq!(receiver.close(9).unwrap().verdict(), Verdict::Ambiguous);
+                    }
+                    assert_eq!(receiver.set_fill(9, 77), Ok(0));
+                }
+                assert_eq!(receiver.take(&unit), taken(9, Taken::Kept));
+            }
+            assert_eq!(receiver.block(9).unwrap().record(), record);
+            assert_eq!(receiver.close(9).unwrap().information(), Some(sent.information()));
+        }
+    }
+
+    #[test]
+    fn a_fill_is_told_for_one_block() {
+        // a unit of C1 with LWC 5
+        let mut receiver = Receiver::new(1).unwrap();
+        let fill = |receiver: &Receiver| receiver.block(7).map(|block| block.record().fill());
+        receiver.set_fill(7, 300).unwrap();
+        receiver.set_fill(7, 200).unwrap();
+        assert!(receiver.is_empty());
+        receiver.take(&UNIT).unwrap();
+        assert_eq!(fill(&receiver), Some(200));
+        receiver.remove(7);
+        receiver.take(&UNIT).unwrap();
+        assert_eq!(fill(&receiver), Some(512));
+        receiver.remove(7);
+        // forgotten before its block came
+        receiver.set_fill(7, 100).unwrap();
+        assert_eq!(receiver.remove(7), None);
+        receiver.take(&UNIT).unwrap();
+        assert_eq!(fill(&receiver), Some(512));
+        // of another block
+        receiver.set_fill(8, 100).unwrap();
+        assert_eq!(fill(&receiver), Some(512));
+        assert!(receiver.fills.keys().eq(&[8]));
+    }
+
+    #[test]
+    fn a_fill_that_does_not_fit_is_refused() {
+        let mut receiver = Receiver::new(1).unwrap();
+        for lsc in [0, 65_535, usize::MAX] {
+            assert_eq!([0, 100].map(|fill| receiver.set_fill(lsc, fill)), [refused(Refusal::Label), refused(Refusal::Label)]);
+        }
+        // not open: above every k
+        for fill in [0, 2049, usize::MAX] {
+            assert_eq!(receiver.set_fill(7, fill), refused(Refusal::Fill));
+        }
+        assert!(receiver.fills.is_empty());
+        // above the k that the unit names: no unit opens the block, and what is tried before comes first
+        assert_eq!(receiver.set_fill(7, 513), Ok(0));
+        assert_eq!(receiver.take(&UNIT), refused(Refusal::Fill));
+        assert_eq!(receiver.take(&changed(0, &[0x10])), refused(Refusal::Fill));
+        assert_eq!(receiver.take(&changed(13, &[1])), refused(Refusal::Parameters));
+        assert!(receiver.is_empty());
+        // idle: LWC 5 and fill 4
+        assert_eq!(receiver.set_fill(7, 4), Ok(0));
+        assert_eq!(receiver.take(&UNIT), refused(Refusal::Idle));
+        assert_eq!(receiver.take(&UNIT[..14]), refused(Refusal::Idle));
+        assert_eq!(receiver.take(&changed(2, &[2, 0])), refused(Refusal::Idle));
+        assert_eq!(receiver.take(&changed(3, &[0])), refused(Refusal::Position));
+        assert!(receiver.is_empty());
+        assert_eq!(receiver.set_fill(7, 5), Ok(0));
+        assert_eq!(receiver.take(&UNIT), taken(7, Taken::Kept));
+        // open: above its k
+        for fill in [0, 513, 2048] {
+            assert_eq!(receiver.set_fill(7, fill), refused(Refusal::Fill));
+        }
+        assert_eq!(receiver.block(7).unwrap().record().fill(), 5);
+        assert_eq!(receiver.take(&changed(2, &[2, 0])), refused(Refusal::Idle));
+        assert_eq!(receiver.set_fill(7, 512), Ok(0));
+        assert_eq!(receiver.take(&changed(2, &[2, 0])), taken(7, Taken::Kept));
+        // of the two that were heard one no longer counts, then none
+        assert_eq!((receiver.set_fill(7, 5), receiver.set_fill(7, 4), receiver.set_fill(7, 3)), (Ok(1), Ok(1), Ok(0)));
     }
 
     #[test]

@@ -2,8 +2,8 @@
 use core::fmt;
 
 /// Why a call was turned down; it has then changed nothing that it was lent. Where several apply, the first in the order of
-/// [`Refusal::ALL`] is answered. The extensions of a unit are read byte by byte, and the first byte that can't be accepted decides
-/// between extension, number and extension kind.
+/// [`Refusal::ALL`] is answered, which is not the order of their numbers. The extensions of a unit are read byte by byte, and the first byte that
+/// can't be accepted decides between extension, number and extension kind.
 ///
 /// ```
 /// use lipvezor::{Block, Code, Record, Refusal};
@@ -57,6 +57,10 @@ pub enum Refusal {
     Mark = 11,
     /// Heard there before with other bytes.
     Conflict = 12,
+    /// The fill is 0 or above the code's k.
+    Fill = 13,
+    /// An LWC above the block's fill, up to k: no unit is sent for it.
+    Idle = 14,
     /// An SDNV in a unit's extensions that is too long, too large or not in its shortest form.
     Number = 19,
     /// An extension of type 0 or 255, a second one of type 1, or one of type 1 whose value isn't exactly four numbers.
@@ -69,6 +73,7 @@ impl Refusal {
         Refusal::Code,
         Refusal::Width,
         Refusal::Label,
+        Refusal::Fill,
         Refusal::Length,
         Refusal::Header,
         Refusal::Extension,
@@ -77,6 +82,7 @@ impl Refusal {
         Refusal::Parameters,
         Refusal::Foreign,
         Refusal::Position,
+        Refusal::Idle,
         Refusal::Symbol,
         Refusal::Mark,
         Refusal::Conflict,
@@ -101,6 +107,7 @@ impl Refusal {
             Refusal::Code => "code: the number is not 1, 2, 4, 5, 7 or 8",
             Refusal::Width => "width: W is 0 or above 1024",
             Refusal::Label => "label: LSC is 0 or above 65534, or the protocol ID is above 7",
+            Refusal::Fill => "fill: 0 or above k",
             Refusal::Length => "length: a buffer isn't exactly its size",
             Refusal::Header => "header: under 6 bytes, version not 1, reserved bit set, or no extensions",
             Refusal::Extension => "extension: the unit's bytes end early",
@@ -109,6 +116,7 @@ impl Refusal {
             Refusal::Parameters => "parameters: none, or not the block's W, k, n and seed 0",
             Refusal::Foreign => "foreign: the unit's LSC or protocol ID isn't the block's",
             Refusal::Position => "position: LWC is 0 or above n",
+            Refusal::Idle => "idle: LWC is above the block's fill and not above k",
             Refusal::Symbol => "symbol: not W bytes",
             Refusal::Mark => "mark: above 2",
             Refusal::Conflict => "conflict: heard there before with other bytes",

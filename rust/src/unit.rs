@@ -35,7 +35,7 @@ impl Parameters {
     }
 }
 
-/// What a unit's bytes say by themselves, whatever block they are of.
+/// What a unit's bytes say by themselves, whatever block they are of. They do not say the block's fill.
 ///
 /// ```
 /// use lipvezor::{Code, Refusal, Unit};

@@ -19,6 +19,7 @@ mod c {
         pub w: usize,
         pub protocol: usize,
         pub lsc: usize,
+        pub fill: usize,
     }
 
     /// A record of two buffers: `lipvezor_buffers`, and `lipvezor_work`, whose first are words.
@@ -49,7 +50,7 @@ fn buffers<T>(first: &mut [T], second: &mut [u8]) -> c::Buffers<T> {
 }
 
 fn block(record: Record) -> c::Block {
-    c::Block { code: record.code, w: record.w, protocol: record.protocol, lsc: record.lsc }
+    c::Block { code: record.code, w: record.w, protocol: record.protocol, lsc: record.lsc, fill: record.fill }
 }
 
 /// What a record holds before a call.
@@ -120,7 +121,7 @@ struct Taking {
 const SYMBOL: [u8; 3] = [7, 8, 9];
 
 fn taking() -> Taking {
-    let record = Record { code: 1, w: 3, protocol: 5, lsc: 1000 };
+    let record = Record { code: 1, w: 3, protocol: 5, lsc: 1000, fill: 512 };
     let draft = Draft::proper(&codes::C1, 3, 5, 1000, 512, &SYMBOL);
     Taking { record, draft, cut: usize::MAX, mark: 0, stored: 9, short: 0 }
 }
@@ -150,7 +151,7 @@ fn take(taking: &Taking, filling: usize, label: &str) -> Result<[usize; 1], u8> 
 fn results_of_takes() {
     // The result of a take that is not refused.
     type Case = (&'static str, Result<usize, u8>, fn(&mut Taking));
-    let cases: [Case; 22] = [
+    let cases: [Case; 31] = [
         ("kept", Ok(1), |_| {}),
         ("kept over a filled symbol", Ok(1), |t| t.mark = 2),
         ("repeated", Ok(2), |t| t.mark = 1),
@@ -159,6 +160,10 @@ fn results_of_takes() {
         ("W 0", Err(2), |t| t.record.w = 0),
         ("W 1025", Err(2), |t| t.record.w = 1025),
         ("LSC 0", Err(3), |t| t.record.lsc = 0),
+        ("LSC 0 and fill 0", Err(3), |t| (t.record.lsc, t.record.fill) = (0, 0)),
+        ("fill 0", Err(13), |t| t.record.fill = 0),
+        ("fill k + 1", Err(13), |t| t.record.fill = 513),
+        ("fill 0 and symbols one short", Err(13), |t| (t.record.fill, t.short) = (0, 1)),
         ("symbols one short", Err(4), |t| t.short = 1),
         ("C4, with buffers of C1", Err(4), |t| t.record.code = 4),
         ("no bytes", Err(5), |t| t.cut = 0),
@@ -170,6 +175,14 @@ fn results_of_takes() {
         ("n of C4", Err(7), |t| t.draft.extensions[0] = Extension::coding([3, 512, 640, 0])),
         ("another LSC", Err(8), |t| t.draft.lsc += 1),
         ("LWC n + 1", Err(9), |t| t.draft.lwc = 769),
+        ("fill LWC - 1", Err(14), |t| t.record.fill = 511),
+        ("fill 1", Err(14), |t| t.record.fill = 1),
+        ("fill 1, and another LSC", Err(8), |t| (t.record.fill, t.draft.lsc) = (1, 1001)),
+        ("fill LWC - 1, and a symbol one long", Err(14), |t| {
+            t.record.fill = 511;
+            t.draft.symbol.push(0);
+        }),
+        ("fill LWC - 1, and mark 255", Err(14), |t| (t.record.fill, t.mark) = (511, 255)),
         ("a symbol one long", Err(10), |t| t.draft.symbol.push(0)),
         ("mark 3", Err(11), |t| t.mark = 3),
         ("heard with other bytes", Err(12), |t| (t.mark, t.stored) = (1, 10)),
@@ -187,6 +200,8 @@ fn results_of_takes() {
 #[derive(Clone)]
 struct Closing {
     record: Record,
+    /// How many information symbols are not zero.
+    sent: usize,
     lost: usize,
     /// Added to the last symbol's last byte.
     wrong: u8,
@@ -200,7 +215,7 @@ struct Closing {
 fn close(closing: &Closing, code: &Code, filling: usize, label: &str) -> Result<[usize; 4], u8> {
     let w = 2;
     let mut information = vec![0; code.k * w];
-    compare::seeded().fill(&mut information);
+    compare::seeded().fill(&mut information[..closing.sent.min(code.k) * w]);
     let mut symbols = encoder::codeword(code, w, &information);
     *symbols.last_mut().unwrap() ^= closing.wrong;
     let mut marks = vec![1; code.n];
@@ -231,7 +246,7 @@ fn close(closing: &Closing, code: &Code, filling: usize, label: &str) -> Result<
 fn reports_of_closes() {
     // The verdict of a close that is not refused.
     type Case = (&'static str, Result<usize, u8>, fn(&mut Closing));
-    let cases: [Case; 13] = [
+    let cases: [Case; 24] = [
         ("all heard", Ok(1), |_| {}),
         ("a few lost", Ok(1), |c| c.lost = 20),
         ("too many lost", Ok(2), |c| c.lost = 400),
@@ -240,6 +255,17 @@ fn reports_of_closes() {
         ("a wrong symbol and a few lost", Ok(3), |c| (c.wrong, c.lost) = (1, 20)),
         ("code 0", Err(1), |c| c.record.code = 0),
         ("W 0", Err(2), |c| c.record.w = 0),
+        ("short, all heard", Ok(1), |c| (c.record.fill, c.sent) = (100, 100)),
+        ("short, a few lost", Ok(1), |c| (c.record.fill, c.sent, c.lost) = (100, 100, 20)),
+        ("short, nothing but the last heard", Ok(2), |c| (c.record.fill, c.sent, c.lost) = (100, 100, usize::MAX)),
+        ("short, and a fill one more", Ok(1), |c| (c.record.fill, c.sent) = (101, 100)),
+        ("short, and a fill one less, whose symbol is then none", Ok(3), |c| (c.record.fill, c.sent) = (99, 100)),
+        ("fill 1", Ok(1), |c| (c.record.fill, c.sent) = (1, 1)),
+        ("LSC 65535 and fill 0", Err(3), |c| (c.record.lsc, c.record.fill) = (65535, 0)),
+        ("fill 0", Err(13), |c| c.record.fill = 0),
+        ("fill above k", Err(13), |c| c.record.fill = 2049),
+        ("fill 0 and words one long", Err(13), |c| (c.record.fill, c.words_more) = (0, 1)),
+        ("fill usize::MAX", Err(13), |c| c.record.fill = usize::MAX),
         ("LSC 65535", Err(3), |c| c.record.lsc = 65535),
         ("protocol ID 8", Err(3), |c| c.record.protocol = 8),
         ("words one long", Err(4), |c| c.words_more = 1),
@@ -248,8 +274,8 @@ fn reports_of_closes() {
     ];
     for code in codes::ALL {
         for (label, due, change) in cases {
-            let record = Record { code: code.number, w: 2, protocol: 5, lsc: 1000 };
-            let mut closing = Closing { record, lost: 0, wrong: 0, last: 1, words_more: 0, bytes_more: 0 };
+            let record = Record { code: code.number, w: 2, protocol: 5, lsc: 1000, fill: code.k };
+            let mut closing = Closing { record, sent: code.k, lost: 0, wrong: 0, last: 1, words_more: 0, bytes_more: 0 };
             change(&mut closing);
             // As large a share of m as in C1.
             closing.lost = (closing.lost.saturating_mul(code.m) / 256).min(code.n - 1);
@@ -257,7 +283,7 @@ fn reports_of_closes() {
                 let answer = close(&closing, code, filling, label);
                 assert_eq!(answer.map(|[verdict, ..]| verdict), due, "{label}");
                 if let Ok([_, heard, filled, left]) = answer {
-                    assert_eq!(heard + filled + left, code.n, "{label}");
+                    assert_eq!(heard + filled + left, closing.record.fill + code.m, "{label}");
                 }
             }
         }

@@ -27,10 +27,14 @@ fn symbols_and_units_of_every_lwc() {
     let mut random = seeded();
     for code in codes::ALL {
         for w in [1, 2, 3, 16, 127, 128, 1024] {
-            let record = Record { code: code.number, w, protocol: random.below(8), lsc: 1 + random.below(65_534) };
-            let mut information = vec![0; code.k * w];
-            random.fill(&mut information);
-            sent(code, record, &information);
+            // Of the widest only the shortest and the longest block.
+            let fills = [code.k, 1, 2, code.k / 2, code.k - 1];
+            for &fill in if w < 100 { &fills[..] } else { &fills[..2] } {
+                let record = Record { code: code.number, w, protocol: random.below(8), lsc: 1 + random.below(65_534), fill };
+                let mut information = vec![0; fill * w];
+                random.fill(&mut information);
+                sent(code, record, &information);
+            }
         }
     }
 }
@@ -42,13 +46,14 @@ fn sent(code: &Code, record: Record, information: &[u8]) {
     let mut parity = vec![0xA5; code.m * w];
     let own = Codeword::encode(ours::record(record), information.to_vec()).unwrap();
     let lent = Codeword::encode_in(ours::record(record), information, &mut parity[..]).unwrap();
-    assert!((own.information(), own.parity()) == word.split_at(code.k * w));
-    assert!((lent.information(), lent.parity()) == word.split_at(code.k * w));
+    let due = (information, &word[code.k * w..]);
+    assert!((own.information(), own.parity()) == due && (lent.information(), lent.parity()) == due);
 
     let mut following = own.units().unwrap();
-    assert_eq!(following.len(), code.n);
-    assert!(own.lwcs().eq(1..=code.n) && lent.lwcs().eq(1..=code.n));
-    for (lwc, symbol) in (1..).zip(word.chunks_exact(w)) {
+    assert_eq!(following.len(), record.fill + code.m);
+    assert!(own.lwcs().eq(sent_lwcs(code, record.fill)) && lent.lwcs().eq(sent_lwcs(code, record.fill)));
+    for lwc in sent_lwcs(code, record.fill) {
+        let symbol = &word[(lwc - 1) * w..][..w];
         let unit = units::write(code, w, record.protocol, record.lsc, lwc, symbol);
         let (mut copied, mut written) = (vec![0xA5; w], vec![0x5A; unit.len()]);
         own.copy_symbol(lwc, &mut copied).unwrap();
@@ -64,12 +69,18 @@ fn sent(code: &Code, record: Record, information: &[u8]) {
     }
     assert_eq!(following.next(), None);
     let size = units::write(code, w, 1, 1, 1, &word[..w]).len();
-    not_sent(&own, code, w, size);
-    not_sent(&lent, code, w, size);
+    not_sent(&own, code, record, size);
+    not_sent(&lent, code, record, size);
+}
+
+/// The LWCs that are sent of a block of so many information symbols.
+fn sent_lwcs(code: &Code, fill: usize) -> impl Iterator<Item = usize> {
+    (1..=fill).chain(code.k + 1..=code.n)
 }
 
 /// What is refused has left the output as it was.
-fn not_sent<I: AsRef<[u8]>, P: AsRef<[u8]>>(word: &Codeword<I, P>, code: &Code, w: usize, size: usize) {
+fn not_sent<I: AsRef<[u8]>, P: AsRef<[u8]>>(word: &Codeword<I, P>, code: &Code, record: Record, size: usize) {
+    let Record { w, fill, .. } = record;
     let copy = |lwc: usize, length: usize| {
         let mut out = vec![0xA5; length];
         let answer = word.copy_symbol(lwc, &mut out).map_err(Refusal::number);
@@ -87,7 +98,11 @@ fn not_sent<I: AsRef<[u8]>, P: AsRef<[u8]>>(word: &Codeword<I, P>, code: &Code, 
         assert_eq!((word.symbol(lwc), word.unit(lwc)), (Err(Refusal::Position), Err(Refusal::Position)), "LWC {lwc}");
         assert_eq!((copy(lwc, w + 1), write(lwc, size + 1)), (Err(4), Err(4)), "LWC {lwc}");
     }
-    for lwc in [1, code.k, code.k + 1, code.n] {
+    for lwc in [fill + 1, (fill + code.k) / 2 + 1, code.k].into_iter().filter(|lwc| (fill + 1..=code.k).contains(lwc)) {
+        assert_eq!((copy(lwc, w), write(lwc, size)), (Err(14), Err(14)), "LWC {lwc}");
+        assert_eq!((word.symbol(lwc), word.unit(lwc)), (Err(Refusal::Idle), Err(Refusal::Idle)), "LWC {lwc}");
+    }
+    for lwc in [1, fill, fill + 1, code.k, code.k + 1, code.n] {
         for (symbol, unit) in [(w - 1, size - 1), (w + 1, size + 1), (2 * w, 0)] {
             assert_eq!((copy(lwc, symbol), write(lwc, unit)), (Err(4), Err(4)), "LWC {lwc}");
         }
@@ -99,7 +114,7 @@ fn not_sent<I: AsRef<[u8]>, P: AsRef<[u8]>>(word: &Codeword<I, P>, code: &Code, 
 fn labels_of_units() {
     let information = [7; 512];
     for (protocol, lsc) in [(8, 1), (usize::MAX, 1), (0, 0), (0, 65_535), (7, usize::MAX)] {
-        let record = ours::record(Record { code: 1, w: 1, protocol, lsc });
+        let record = ours::record(Record { code: 1, w: 1, protocol, lsc, fill: 512 });
         let word = Codeword::encode(record, &information).unwrap();
         assert_eq!(word.symbol(1), Ok(vec![7]));
         assert_eq!(word.unit(1), Err(Refusal::Label));
@@ -107,6 +122,66 @@ fn labels_of_units() {
         assert_eq!(word.write_unit(1, &mut []), Err(Refusal::Label));
         assert_eq!(word.units().unwrap_err(), Refusal::Label);
         assert_eq!(Block::open(record).unwrap_err(), Refusal::Label);
+    }
+}
+
+/// Both sides of each border: fills 0, 1, k and k + 1 in a record, by every way in.
+#[test]
+fn fills_of_records() {
+    for code in codes::ALL {
+        for (fill, fits) in [(0, false), (1, true), (code.k, true), (code.k + 1, false), (usize::MAX, false)] {
+            let record = ours::record(Record { code: code.number, w: 2, protocol: 1, lsc: 9, fill });
+            let size = if fits { fill * 2 } else { 0 };
+            assert_eq!((record.information_bytes(), record.sent()), (size, if fits { fill + code.m } else { 0 }));
+            assert_eq!((record.symbol_bytes(), record.unit_bytes(), record.n(), record.k()), (code.n * 2, 16, code.n, code.k));
+            // The fill is refused whatever the buffers are, and exact ones are not enough.
+            for length in [size, code.k * 2, 0] {
+                let due = match (fits, length == size) {
+                    (false, _) => Err(Refusal::Fill),
+                    (true, false) => Err(Refusal::Length),
+                    (true, true) => Ok(()),
+                };
+                assert_eq!(Codeword::encode(record, vec![7; length]).map(|_| ()), due, "C{}, fill {fill}", code.number);
+            }
+            let (mut symbols, mut marks) = (vec![0xA5; code.n * 2], vec![0xA5; code.n]);
+            let opened = Block::open_in(record, &mut symbols[..], &mut marks[..]).map(|_| ());
+            assert_eq!(
+                (opened, Block::open(record).map(|_| ())),
+                if fits { (Ok(()), Ok(())) } else { (Err(Refusal::Fill), Err(Refusal::Fill)) }
+            );
+            assert!(symbols.iter().chain(&marks).all(|&byte| byte == if fits { 0 } else { 0xA5 }));
+            let mut block = Block::open(record.with_fill(7)).unwrap();
+            assert_eq!(block.set_fill(fill).is_ok(), fits);
+            assert_eq!(block.record().fill(), if fits { fill } else { 7 });
+        }
+    }
+}
+
+/// Units with LWC fill, fill + 1, k and k + 1, taken by a block.
+#[test]
+fn units_around_idle_positions() {
+    for code in codes::ALL {
+        for fill in [1, 2, code.k / 2, code.k - 1, code.k] {
+            let record = Record { code: code.number, w: 3, protocol: 1, lsc: 9, fill };
+            let mut block = Block::open(ours::record(record)).unwrap();
+            for lwc in [fill, fill + 1, code.k, code.k + 1] {
+                let idle = fill < lwc && lwc <= code.k;
+                let unit = Draft::proper(code, 3, 1, 9, lwc, &[1, 2, 3]).bytes();
+                let before = (block.raw_buffers().0.to_vec(), block.raw_buffers().1.to_vec());
+                match block.take(&unit) {
+                    Ok(_) => assert!(!idle && block.mark(lwc - 1).is_some(), "fill {fill}, LWC {lwc}"),
+                    Err(refusal) => {
+                        assert_eq!((refusal, idle), (Refusal::Idle, true), "fill {fill}, LWC {lwc}");
+                        assert!(block.mark(lwc - 1).is_none() && block.raw_buffers() == (&before.0[..], &before.1[..]));
+                    }
+                }
+                // What else is wrong with the unit comes before, or after.
+                let idle_or = |other: Refusal| Err(if idle { Refusal::Idle } else { other });
+                assert_eq!(block.take(&Draft::proper(code, 3, 1, 9, lwc, &[1, 2]).bytes()), idle_or(Refusal::Symbol));
+                assert_eq!(block.take(&Draft::proper(code, 3, 1, 9, lwc, &[1, 2, 4]).bytes()), idle_or(Refusal::Conflict));
+                assert_eq!(block.take(&Draft::proper(code, 3, 1, 8, lwc, &[1, 2, 3]).bytes()), Err(Refusal::Foreign));
+            }
+        }
     }
 }
 
@@ -222,14 +297,17 @@ trait NoRecovered {
 
 impl<S, M> NoRecovered for Block<S, M> {}
 
-/// A closed block gives out just what the model has and the verdict allows.
-fn gives_out(closed: Closed<'_>, report: Report, model: &blocks::Block, w: usize, label: &str) {
+/// A closed block gives out just what the model has and the verdict allows. At idle positions there is nothing.
+fn gives_out(closed: Closed<'_>, report: Report, model: &blocks::Block, record: Record, label: &str) {
     let (symbols, marks) = (model.symbols(), model.marks());
-    let n = marks.len();
+    let (code, w) = (Code::of_number(record.code).unwrap(), record.w);
+    let n = code.n;
+    let idle = record.fill..code.k;
     let symbol = |position: usize| &symbols[position * w..][..w];
     assert_eq!(ours::report(closed.report()), report, "{label}");
     assert_eq!(ours::verdict(closed.verdict()), report.verdict, "{label}");
-    assert_eq!((closed.record().n(), closed.record().w()), (n, w), "{label}");
+    assert_eq!(closed.record(), ours::record(record), "{label}");
+    assert_eq!(report.heard + report.filled + report.left, closed.record().sent(), "{label}");
     let word = match report.verdict {
         Verdict::Whole => "whole",
         Verdict::Ambiguous => "ambiguous",
@@ -240,10 +318,11 @@ fn gives_out(closed: Closed<'_>, report: Report, model: &blocks::Block, w: usize
     match closed {
         Closed::Whole(whole) => {
             assert_eq!(report.verdict, Verdict::Whole, "{label}");
-            let (information, parity) = symbols.split_at(code_of_n(n).k * w);
+            let (information, parity) = (&symbols[..record.fill * w], &symbols[code.k * w..]);
             assert!(closed.information() == Some(information), "{label}");
             assert!(whole.information() == information && whole.parity() == parity, "{label}");
-            assert!((0..n).all(|position| whole.symbol_at(position) == Some(symbol(position))), "{label}");
+            let due = |position: usize| (!idle.contains(&position)).then(|| symbol(position));
+            assert!((0..n).all(|position| whole.symbol_at(position) == due(position)), "{label}");
             assert!(BEYOND.into_iter().chain([n]).all(|position| whole.symbol_at(position).is_none()), "{label}");
         }
         Closed::Ambiguous(ambiguous) => {
@@ -255,7 +334,9 @@ fn gives_out(closed: Closed<'_>, report: Report, model: &blocks::Block, w: usize
             let due = |position: usize| (marks[position] != 0).then(|| (position, marks[position], symbol(position).to_vec()));
             assert!(ambiguous.symbols().map(given).eq((0..n).filter_map(due)), "{label}");
             assert!((0..n).all(|position| ambiguous.symbol_at(position).map(given) == due(position)), "{label}");
-            assert!(ambiguous.missing().eq((0..n).filter(|&position| marks[position] == 0)), "{label}");
+            let missing: Vec<usize> = (0..n).filter(|position| marks[*position] == 0 && !idle.contains(position)).collect();
+            assert!(ambiguous.missing().eq(missing.iter().copied()), "{label}");
+            assert!(ambiguous.missing().rev().eq(missing.iter().rev().copied()), "{label}");
             assert!(BEYOND.into_iter().chain([n]).all(|position| ambiguous.symbol_at(position).is_none()), "{label}");
         }
         Closed::Inconsistent(inconsistent) => {
@@ -269,17 +350,15 @@ fn gives_out(closed: Closed<'_>, report: Report, model: &blocks::Block, w: usize
     }
 }
 
-fn code_of_n(n: usize) -> &'static Code {
-    codes::ALL.into_iter().find(|code| code.n == n).unwrap()
-}
-
-/// A block shows its marks and its raw buffers, and no more.
+/// A block shows its marks and its raw buffers, and no more. At idle positions it has no marks, and they are not missing.
 fn shows<S: AsRef<[u8]> + AsMut<[u8]>, M: AsRef<[u8]> + AsMut<[u8]>>(block: &Block<S, M>, model: &blocks::Block, label: &str) {
     let (symbols, marks) = (model.symbols(), model.marks());
     let n = marks.len();
+    let idle = block.record().fill()..block.record().k();
+    let due = |position: usize| (!idle.contains(&position)).then_some(marks[position]);
     assert!(block.raw_buffers() == (symbols, marks), "{label}");
-    assert!((0..n).all(|position| block.mark(position).map(ours::mark) == Some(marks[position])), "{label}");
-    assert!(block.missing().eq((0..n).filter(|&position| marks[position] == 0)), "{label}");
+    assert!((0..n).all(|position| block.mark(position).map(ours::mark) == due(position)), "{label}");
+    assert!(block.missing().eq((0..n).filter(|&position| due(position) == Some(0))), "{label}");
     assert!(BEYOND.into_iter().chain([n]).all(|position| block.mark(position).is_none()), "{label}");
     let [Absent, Absent, Absent] = [block.information(), block.parity(), block.symbols()];
     let [Absent, Absent, Absent, Absent] = [block.symbol(0), block.symbol_at(0), block.heard(0), block.buffers()];
@@ -307,7 +386,7 @@ fn follow<S: AsRef<[u8]> + AsMut<[u8]>, M: AsRef<[u8]> + AsMut<[u8]>>(mut block:
                     block.close_with(&mut vec![dirt; words], &mut vec![dirt as u8; bytes])
                 };
                 match (answer, due) {
-                    (Ok(closed), Ok(report)) => gives_out(closed, report, &model, list.record.w, &label),
+                    (Ok(closed), Ok(report)) => gives_out(closed, report, &model, list.record, &label),
                     (answer, due) => assert_eq!(answer.map_err(Refusal::number).err(), due.err(), "{label}"),
                 }
                 stats.count_closed(due);
@@ -342,11 +421,68 @@ fn blocks_give_out_what_the_verdict_allows() {
     }
 }
 
+#[test]
+fn short_blocks_give_out_what_the_verdict_allows() {
+    let mut random = seeded();
+    for code in codes::ALL {
+        let mut stats = Stats::default();
+        for fill in [1, 2, code.k / 3, code.k - 1] {
+            let step = if code.k == 512 { 3 } else { 11 };
+            for (index, loss) in cases::chosen_short(code, fill, &mut random).iter().enumerate().step_by(step) {
+                let case = loss.sent_short(code, [1, 2, 3, 16][index / step % 4], fill, &mut random);
+                let between = if random.chance(0.8) { Between::Harmless } else { Between::Anything };
+                let list = scripts::list(&case, between, &mut random);
+                stats += follow(Block::open(ours::record(list.record)).unwrap(), &list);
+                set_late(&list, &mut random);
+            }
+        }
+        println!("C{}: {stats:?}", code.number);
+        assert!([stats.kept, stats.repeated, stats.refused[14]].iter().all(|&times| times > 0), "{stats:?}");
+        assert!([stats.whole, stats.ambiguous, stats.inconsistent].iter().all(|&times| times > 0), "{stats:?}");
+    }
+}
+
+/// A block that is told its fill somewhere in a list does from then on as one that was opened with it; until then it is another one's, often a
+/// full one's, and its closes say nothing.
+fn set_late(list: &List, random: &mut Random) {
+    let (code, Record { fill, w, .. }) = (Code::of_number(list.record.code).unwrap(), list.record);
+    let before = if random.chance(0.7) { code.k } else { fill + random.below(code.k + 1 - fill) };
+    let told_at = random.below(list.calls.len());
+    let mut block = Block::open(ours::record(Record { fill: before, ..list.record })).unwrap();
+    let mut model = blocks::Block::open(list.record, Fault::None).unwrap();
+    let mut work = Work::of(block.record());
+    let mut told = false;
+    for (index, call) in list.calls.iter().enumerate() {
+        let label = format!("{}, fill {before} until call {told_at}, call {index}", list.label);
+        if index == told_at {
+            block.set_fill(fill).unwrap();
+            told = true;
+        }
+        match call {
+            Call::Take(unit) => {
+                let (answer, due) = (block.take(unit).map(ours::taken).map_err(Refusal::number), model.take(unit));
+                assert!(answer == due || !told && due == Err(14), "{label}: {answer:?}, due {due:?}");
+            }
+            &Call::Close { words, bytes, .. } => {
+                let due = model.close(words, bytes);
+                let answer = block.close_with(&mut vec![7; words], &mut vec![7; bytes]);
+                assert_eq!(answer.is_ok(), due.is_ok(), "{label}");
+                if told {
+                    answer.into_iter().zip(due).for_each(|(closed, report)| gives_out(closed, report, &model, list.record, &label));
+                }
+            }
+        }
+    }
+    let report = model.close(code.work_words(), code.m * w).unwrap();
+    gives_out(block.close(&mut work).unwrap(), report, &model, list.record, &list.label);
+    shows(&block, &model, &list.label);
+}
+
 /// All information heard, and a wrong symbol among it: what a look at the marks alone would give out.
 #[test]
 fn nothing_of_an_inconsistent_block() {
     for code in codes::ALL {
-        let record = Record { code: code.number, w: 2, protocol: 1, lsc: 9 };
+        let record = Record { code: code.number, w: 2, protocol: 1, lsc: 9, fill: code.k };
         let mut information = vec![0; code.k * 2];
         seeded().fill(&mut information);
         let word = Codeword::encode(ours::record(record), &information).unwrap();
@@ -364,7 +500,7 @@ fn nothing_of_an_inconsistent_block() {
         let mut work = Work::of(ours::record(record));
         let closed = block.close(&mut work).unwrap();
         assert!(matches!(closed, Closed::Inconsistent(_)));
-        gives_out(closed, report, &model, 2, "a wrong symbol");
+        gives_out(closed, report, &model, record, "a wrong symbol");
         shows(&block, &model, "a wrong symbol");
     }
 }
@@ -394,26 +530,56 @@ fn why(error: ReceiveError) -> Why {
     }
 }
 
-/// A receiver as a map from LSC to the model's block.
+/// A block of the model, with the units that it kept.
+struct PlainBlock {
+    record: Record,
+    block: blocks::Block,
+    kept: Vec<Vec<u8>>,
+}
+
+impl PlainBlock {
+    fn open(record: Record) -> Result<PlainBlock, u8> {
+        Ok(PlainBlock { record, block: blocks::Block::open(record, Fault::None)?, kept: Vec::new() })
+    }
+
+    fn take(&mut self, unit: &[u8]) -> Result<Taken, u8> {
+        let taken = self.block.take(unit)?;
+        if taken == Taken::Kept {
+            self.kept.push(unit.to_vec());
+        }
+        Ok(taken)
+    }
+
+    /// One of this fill, which was handed the units that this one kept; and how many of these it refused.
+    fn with_fill(&self, fill: usize) -> Result<(PlainBlock, usize), u8> {
+        let mut other = PlainBlock::open(Record { fill, ..self.record })?;
+        let answers: Vec<Result<Taken, u8>> = self.kept.iter().map(|unit| other.take(unit)).collect();
+        assert!(answers.iter().all(|&answer| answer == Ok(Taken::Kept) || answer == Err(14)));
+        Ok((other, answers.iter().filter(|answer| answer.is_err()).count()))
+    }
+}
+
+/// A receiver as a map from LSC to the model's block, and one to the fills of those that are not open.
 struct Plain {
     protocol: usize,
     limit: usize,
-    blocks: BTreeMap<usize, (Record, blocks::Block)>,
+    blocks: BTreeMap<usize, PlainBlock>,
+    fills: BTreeMap<usize, usize>,
 }
 
 impl Plain {
     fn take(&mut self, unit: &[u8]) -> Result<(usize, Taken), Why> {
         let parts = units::read(unit, Fault::None)?;
-        if let Some((_, block)) = self.blocks.get_mut(&parts.lsc) {
+        if let Some(block) = self.blocks.get_mut(&parts.lsc) {
             return Ok((parts.lsc, block.take(unit)?));
         }
-        let record = self.record(&parts)?;
-        let mut block = blocks::Block::open(record, Fault::None)?;
+        let mut block = PlainBlock::open(self.record(&parts)?)?;
         let taken = block.take(unit)?;
         if self.blocks.len() >= self.limit {
             return Err(Why::Full);
         }
-        self.blocks.insert(parts.lsc, (record, block));
+        self.blocks.insert(parts.lsc, block);
+        self.fills.remove(&parts.lsc);
         Ok((parts.lsc, taken))
     }
 
@@ -422,15 +588,34 @@ impl Plain {
         refuse_if(parts.lsc == 0 || parts.lsc == 65_535, 3)?;
         let coding = parts.coding.ok_or(7)?;
         let code = code_of(coding.k, coding.n).ok_or(7)?;
-        refuse_if(coding.w == 0 || coding.w > 1024, 7)?;
-        Ok(Record { code: code.number, w: coding.w, protocol: self.protocol, lsc: parts.lsc })
+        refuse_if(coding.w == 0 || coding.w > 1024 || coding.seed != 0, 7)?;
+        let fill = self.fills.get(&parts.lsc).copied().unwrap_or(code.k);
+        Ok(Record { code: code.number, w: coding.w, protocol: self.protocol, lsc: parts.lsc, fill })
     }
 
-    fn close(&mut self, lsc: usize) -> Result<(Report, usize, &blocks::Block), Why> {
-        let (record, block) = self.blocks.get_mut(&lsc).ok_or(Why::NotOpen)?;
+    /// 3, 13.
+    fn set_fill(&mut self, lsc: usize, fill: usize) -> Result<usize, Why> {
+        refuse_if(lsc == 0 || lsc >= 65_535, 3)?;
+        if let Some(block) = self.blocks.get_mut(&lsc) {
+            let (other, refused) = block.with_fill(fill)?;
+            *block = other;
+            return Ok(refused);
+        }
+        refuse_if(fill == 0 || fill > 2048, 13)?;
+        self.fills.insert(lsc, fill);
+        Ok(0)
+    }
+
+    fn close(&mut self, lsc: usize) -> Result<(Report, Record, &blocks::Block), Why> {
+        let PlainBlock { record, block, .. } = self.blocks.get_mut(&lsc).ok_or(Why::NotOpen)?;
         let code = Code::of_number(record.code).unwrap();
         let report = block.close(code.work_words(), code.m * record.w)?;
-        Ok((report, record.w, block))
+        Ok((report, *record, block))
+    }
+
+    fn remove(&mut self, lsc: usize) -> Option<PlainBlock> {
+        self.fills.remove(&lsc);
+        self.blocks.remove(&lsc)
     }
 }
 
@@ -441,13 +626,16 @@ struct Receivers {
     stats: Stats,
     full: usize,
     not_open: usize,
+    /// Heard symbols that no longer count.
+    lost: usize,
 }
 
 impl Receivers {
     fn new(protocol: usize, limit: usize) -> Receivers {
         let ours = Receiver::new(protocol).unwrap().with_limit(limit);
         assert_eq!((ours.protocol(), ours.limit(), ours.len(), ours.is_empty()), (protocol, limit, 0, true));
-        Receivers { ours, plain: Plain { protocol, limit, blocks: BTreeMap::new() }, stats: Stats::default(), full: 0, not_open: 0 }
+        let plain = Plain { protocol, limit, blocks: BTreeMap::new(), fills: BTreeMap::new() };
+        Receivers { ours, plain, stats: Stats::default(), full: 0, not_open: 0, lost: 0 }
     }
 
     fn take(&mut self, unit: &[u8]) {
@@ -464,10 +652,25 @@ impl Receivers {
         self.same_blocks();
     }
 
+    /// A fill told of an open block shows in full only after the next close.
+    fn set_fill(&mut self, lsc: usize, fill: usize) {
+        let answer = self.ours.set_fill(lsc, fill).map_err(why);
+        assert_eq!(answer, self.plain.set_fill(lsc, fill), "LSC {lsc}, fill {fill}");
+        match answer {
+            Ok(lost) if self.plain.blocks.contains_key(&lsc) => {
+                self.lost += lost;
+                self.close(lsc);
+            }
+            Err(Why::Refused(number)) => self.stats.count_taken(Err(number)),
+            _ => {}
+        }
+        self.same_blocks();
+    }
+
     fn close(&mut self, lsc: usize) {
         match (self.ours.close(lsc), self.plain.close(lsc)) {
-            (Ok(closed), Ok((report, w, model))) => {
-                gives_out(closed, report, model, w, &format!("LSC {lsc}"));
+            (Ok(closed), Ok((report, record, model))) => {
+                gives_out(closed, report, model, record, &format!("LSC {lsc}"));
                 self.stats.count_closed(Ok(report));
                 self.same_block(lsc);
             }
@@ -480,8 +683,8 @@ impl Receivers {
     }
 
     fn remove(&mut self, lsc: usize) {
-        match (self.ours.remove(lsc), self.plain.blocks.remove(&lsc)) {
-            (Some(block), Some((record, model))) => {
+        match (self.ours.remove(lsc), self.plain.remove(lsc)) {
+            (Some(block), Some(PlainBlock { record, block: model, .. })) => {
                 assert_eq!(block.record(), ours::record(record));
                 assert!(block.into_raw_buffers() == (model.symbols().to_vec(), model.marks().to_vec()), "LSC {lsc}");
             }
@@ -497,7 +700,7 @@ impl Receivers {
     }
 
     fn same_block(&self, lsc: usize) {
-        let (record, model) = &self.plain.blocks[&lsc];
+        let PlainBlock { record, block: model, .. } = &self.plain.blocks[&lsc];
         let block = self.ours.block(lsc).unwrap();
         assert_eq!(block.record(), ours::record(*record));
         shows(block, model, &format!("LSC {lsc}"));
@@ -515,7 +718,7 @@ struct Sender {
 impl Sender {
     fn new(record: Record, loss: &Loss, random: &mut Random) -> Sender {
         let code = Code::of_number(record.code).unwrap();
-        let case = loss.sent(code, record.w, random);
+        let case = loss.sent_short(code, record.w, record.fill, random);
         let order = random.shuffled(code.n).into_iter().filter(|&position| !case.lost[position]).collect();
         Sender { record, case, order, came: Vec::new() }
     }
@@ -536,6 +739,10 @@ impl Sender {
         let (code, w) = (self.case.code, self.record.w);
         let mut draft = self.draft(if self.came.is_empty() { 0 } else { self.came[random.below(self.came.len())] });
         let other = codes::ALL[random.below(codes::ALL.len())];
+        if self.record.fill < code.k && random.chance(0.15) {
+            draft.lwc = (self.record.fill + 1 + random.below(code.k - self.record.fill)) as u16;
+            return draft.bytes();
+        }
         match random.below(18) {
             // Repeated.
             0..=2 => {}
@@ -571,7 +778,8 @@ fn few(code: &Code, wrong: usize, random: &mut Random) -> Loss {
     Loss { label: "few lost".to_owned(), lost, wrong }
 }
 
-/// The blocks' units come mixed, with disturbances, closes and removals between them. A block is closed and removed after its last unit.
+/// The blocks' units come mixed, with disturbances, closes and removals between them. Every other block is short, and its fill is told before its
+/// first unit, or after its last; another one may be told meanwhile. A block is closed and removed after its last unit.
 fn mixed(limit: usize, random: &mut Random) -> Receivers {
     let protocol = random.below(8);
     let mut receivers = Receivers::new(protocol, limit);
@@ -585,7 +793,11 @@ fn mixed(limit: usize, random: &mut Random) -> Receivers {
             1 => few(code, 1, random),
             _ => cases::any(code, random),
         };
-        senders.push(Sender::new(Record { code: number, w, protocol, lsc }, &loss, random));
+        let fill = if index % 2 == 0 { code.k } else { [1, 2, code.k / 3, code.k - 1][random.below(4)] };
+        if random.chance(0.5) {
+            receivers.set_fill(lsc, fill);
+        }
+        senders.push(Sender::new(Record { code: number, w, protocol, lsc, fill }, &loss, random));
     }
     while !senders.is_empty() {
         let chosen = random.below(senders.len());
@@ -597,10 +809,15 @@ fn mixed(limit: usize, random: &mut Random) -> Receivers {
         match sender.next() {
             Some(unit) => receivers.take(&unit),
             None => {
+                receivers.set_fill(lsc, sender.record.fill);
                 receivers.close(lsc);
                 receivers.remove(lsc);
                 senders.swap_remove(chosen);
             }
+        }
+        if random.chance(0.002) {
+            let fills = [0, 1, 2, 100, 511, 512, 513, 2047, 2048, 2049, usize::MAX];
+            receivers.set_fill([lsc, lsc, lsc, 4, 0, 65_535][random.below(6)], fills[random.below(fills.len())]);
         }
         if random.chance(0.002) {
             receivers.close([lsc, 3, 0, usize::MAX][random.below(4)]);
@@ -619,16 +836,17 @@ fn mixed(limit: usize, random: &mut Random) -> Receivers {
 fn receiver_and_a_map_of_blocks() {
     let mut random = seeded();
     let mut stats = Stats::default();
-    let (mut full, mut not_open) = (0, 0);
+    let (mut full, mut not_open, mut lost) = (0, 0, 0);
     for limit in [7, 4, 1, Receiver::DEFAULT_LIMIT, 3] {
         let receivers = mixed(limit, &mut random);
         full += receivers.full;
         not_open += receivers.not_open;
+        lost += receivers.lost;
         stats += receivers.stats;
     }
-    println!("{stats:?}, full {full}, not open {not_open}");
-    assert!([3, 6, 7, 8, 9, 10, 12, 20].iter().all(|&number| stats.refused[number] > 10), "{stats:?}");
-    assert!([stats.kept, stats.repeated, full, not_open].iter().all(|&times| times > 10), "{stats:?}, {full}, {not_open}");
+    println!("{stats:?}, full {full}, not open {not_open}, no longer counted {lost}");
+    assert!([3, 6, 7, 8, 9, 10, 12, 13, 14, 20].iter().all(|&number| stats.refused[number] > 10), "{stats:?}");
+    assert!([stats.kept, stats.repeated, full, not_open, lost].iter().all(|&times| times > 10), "{stats:?}, {full}, {not_open}, {lost}");
     assert!([stats.whole, stats.ambiguous, stats.inconsistent].iter().all(|&times| times > 0), "{stats:?}");
 }
 
@@ -637,7 +855,7 @@ fn receiver_and_a_map_of_blocks() {
 fn receiver_with_no_place() {
     let mut random = seeded();
     let mut receivers = Receivers::new(5, 0);
-    let record = Record { code: 1, w: 3, protocol: 5, lsc: 1000 };
+    let record = Record { code: 1, w: 3, protocol: 5, lsc: 1000, fill: 512 };
     let sender = Sender::new(record, &few(&codes::C1, 0, &mut random), &mut random);
     for _ in 0..500 {
         receivers.take(&sender.disturbance(&mut random));

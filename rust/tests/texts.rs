@@ -4,7 +4,7 @@ mod model;
 mod programs;
 
 use compare::ours;
-use lipvezor::{Code, Mark, Refusal};
+use lipvezor::{Code, Mark, Record, Refusal};
 use std::fs;
 
 fn text(file: &str) -> String {
@@ -114,11 +114,82 @@ fn upper(name: &str) -> String {
     name.chars().enumerate().flat_map(letter).collect()
 }
 
+/// The numbers in the order in which they are tried.
+const ORDER: [u8; 16] = [1, 2, 3, 13, 4, 5, 6, 19, 20, 7, 8, 9, 14, 10, 11, 12];
+
 /// Names and numbers of the header's refusals, in the order in which they are tried.
 #[test]
 fn names_and_order_of_refusals() {
+    assert!(Refusal::ALL.iter().map(|refusal| refusal.number()).eq(ORDER));
     let due = Refusal::ALL.iter().map(|refusal| (format!("REFUSED_{}", upper(&format!("{refusal:?}"))), refusal.number()));
     assert_eq!(members("lipvezor_refusal", "LIPVEZOR_"), [("DONE".to_owned(), 0)].into_iter().chain(due).collect::<Vec<_>>());
+}
+
+/// The refusals that a list names, by the words before the colons of their texts; what stands in brackets, or is none of them, is not named.
+fn named(list: &str) -> Vec<Refusal> {
+    let words = list.split(['(', ')']).step_by(2).collect::<String>();
+    let word = |refusal: &Refusal| refusal.text().split_once(':').unwrap().0;
+    let refusal = |part: &str| Refusal::ALL.iter().copied().find(|refusal| word(refusal) == part.trim());
+    words.split([',', ';', '.']).filter_map(refusal).collect()
+}
+
+/// What each call refuses, by the header and by the crate: the same, in the order in which they are tried.
+#[test]
+fn refusals_of_calls() {
+    let (header, calls) = (header(), text("rust/src/calls.rs"));
+    for (call, due) in [
+        ("encode", vec![1, 2, 13, 4]),
+        ("show", vec![1, 2, 13, 4, 9, 14]),
+        ("write", vec![1, 2, 3, 13, 4, 9, 14, 10]),
+        ("read", vec![5, 6, 19, 20]),
+        ("open", vec![1, 2, 3, 13, 4]),
+        ("close", vec![1, 2, 3, 13, 4, 11]),
+    ] {
+        let lists = [(&header, format!(" lipvezor_{call}("), " * Refuses: "), (&calls, format!("pub fn {call}("), "/// Refusals: ")];
+        for (text, declared, start) in lists {
+            let before = text.split_once(&declared).unwrap_or_else(|| panic!("no {declared}")).0;
+            let list = before.rsplit_once(start).unwrap().1.lines().next().unwrap();
+            assert_eq!(named(list).iter().map(|refusal| refusal.number()).collect::<Vec<_>>(), due, "{call}: {list}");
+            let place = |number: &u8| ORDER.iter().position(|other| other == number);
+            assert!(due.windows(2).all(|pair| place(&pair[0]) < place(&pair[1])), "{call}: {list}");
+        }
+    }
+}
+
+/// Prints the LWCs that are sent, a line for each code and fill.
+const LWCS: &str = r#"
+#include <lipvezor.h>
+#include <stdio.h>
+
+int main(void)
+{
+    for (size_t code = 0; code < 10; code++) {
+        const size_t k = lipvezor_k(code), fills[] = {0, 1, 2, k - 1, k, k + 1};
+        for (size_t i = 0; i < sizeof fills / sizeof *fills; i++) {
+            const lipvezor_block block = {.code = code, .w = 1, .lsc = 1, .fill = fills[i]};
+            printf("%zu %zu:", code, fills[i]);
+            for (size_t lwc = lipvezor_next_lwc(&block, 0); lwc != 0; lwc = lipvezor_next_lwc(&block, lwc))
+                printf(" %zu", lwc);
+            printf("\n");
+        }
+    }
+    return 0;
+}
+"#;
+
+/// The header's LWCs that are sent are the crate's.
+#[test]
+fn lwcs_that_are_sent() {
+    let mut printed = String::new();
+    for number in 0..10 {
+        let record = Record::new(Code::from_number(number), 1);
+        let k = record.k();
+        for fill in [0, 1, 2, k.wrapping_sub(1), k, k + 1] {
+            let lwcs: String = record.with_fill(fill).lwcs().map(|lwc| format!(" {lwc}")).collect();
+            printed += &format!("{number} {fill}:{lwcs}\n");
+        }
+    }
+    assert!(programs::c("texts/lwcs", LWCS) == printed);
 }
 
 /// Names and numbers of the header's marks. A byte that is none of them is refused.

@@ -1,6 +1,6 @@
 /*
  * What include/lipvezor.h says by itself is what the archive says: size macros and size functions, the version, the records' layout; and the
- * texts of the refusals. Exit status 0, or 1 and what is not so.
+ * texts of the refusals, and the LWCs that are sent. Exit status 0, or 1 and what is not so.
  */
 #include "lipvezor.h"
 
@@ -8,7 +8,7 @@
 #include <string.h>
 
 /* the macros are constants */
-static uint8_t information[LIPVEZOR_INFORMATION_BYTES(LIPVEZOR_C1, 16)];
+static uint8_t information[LIPVEZOR_INFORMATION_BYTES(LIPVEZOR_C1, 16, LIPVEZOR_K(LIPVEZOR_C1))];
 static uint8_t parity[LIPVEZOR_PARITY_BYTES(LIPVEZOR_C1, 16)];
 static uint8_t symbols[LIPVEZOR_SYMBOL_BYTES(LIPVEZOR_C2, LIPVEZOR_MAX_WIDTH)];
 static uint8_t marks[LIPVEZOR_N(LIPVEZOR_C2)];
@@ -20,6 +20,10 @@ _Static_assert(sizeof symbols == 3145728 && sizeof marks == 3072, "the largest b
 _Static_assert(sizeof unit == 1039 && LIPVEZOR_UNIT_BYTES(LIPVEZOR_C1, 127) == 141 && LIPVEZOR_UNIT_BYTES(LIPVEZOR_C1, 128) == 143, "units");
 _Static_assert(sizeof work_words == 401408 && sizeof work_bytes == 1048576, "the largest work buffers");
 _Static_assert(LIPVEZOR_SYMBOL_BYTES(LIPVEZOR_C1, 8 + 8) == 12288 && LIPVEZOR_UNIT_BYTES(LIPVEZOR_C1, 100 + 28) == 143, "a sum as W");
+_Static_assert(LIPVEZOR_INFORMATION_BYTES(LIPVEZOR_C1, 8 + 8, 100 + 1) == 1616, "a sum as fill");
+_Static_assert(LIPVEZOR_INFORMATION_BYTES(LIPVEZOR_C1, 16, 0) == 0 && LIPVEZOR_INFORMATION_BYTES(LIPVEZOR_C1, 16, 513) == 0
+               && LIPVEZOR_INFORMATION_BYTES(LIPVEZOR_C2, 16, 513) == 8208 && LIPVEZOR_INFORMATION_BYTES(LIPVEZOR_C2, 16, 2049) == 0
+               && LIPVEZOR_INFORMATION_BYTES(3, 16, 1) == 0, "a fill that is refused");
 _Static_assert(LIPVEZOR_N(3) == 0 && LIPVEZOR_SYMBOL_BYTES(0, 16) == 0 && LIPVEZOR_UNIT_BYTES(6, 16) == 0 && LIPVEZOR_WORK_WORDS(9) == 0,
                "no code's sizes");
 _Static_assert(LIPVEZOR_VERSION > 0 && LIPVEZOR_STACK > 0 && LIPVEZOR_CLOSE_STACK > LIPVEZOR_STACK, "other constants");
@@ -36,11 +40,12 @@ TABLE_4_1(LIPVEZOR_C8, 2304, 2048, 256);
 /* the archive has a record as words of 64 bits, numbers or a pointer and its length, in this order */
 #define MEMBER(record, member, index) _Static_assert(offsetof(record, member) == (index) * sizeof(size_t), #record "." #member)
 #define MEMBERS(record, count) _Static_assert(sizeof(record) == (count) * sizeof(size_t) && _Alignof(record) == _Alignof(size_t), #record)
-MEMBERS(lipvezor_block, 4);
+MEMBERS(lipvezor_block, 5);
 MEMBER(lipvezor_block, code, 0);
 MEMBER(lipvezor_block, w, 1);
 MEMBER(lipvezor_block, protocol, 2);
 MEMBER(lipvezor_block, lsc, 3);
+MEMBER(lipvezor_block, fill, 4);
 MEMBERS(lipvezor_codeword, 4);
 MEMBER(lipvezor_codeword, information, 0);
 MEMBER(lipvezor_codeword, information_length, 1);
@@ -93,12 +98,20 @@ static void expect(int holds, const char *what)
     }
 }
 
+#define SAME_INFORMATION(code, w, fill) \
+    same(#code " information, fill " #fill, w, LIPVEZOR_INFORMATION_BYTES(code, w, fill), lipvezor_information_bytes(code, w, fill))
+
 #define SAME_SIZES(code, w) \
     do { \
         same(#code " n", w, LIPVEZOR_N(code), lipvezor_n(code)); \
         same(#code " k", w, LIPVEZOR_K(code), lipvezor_k(code)); \
         same(#code " m", w, LIPVEZOR_M(code), lipvezor_m(code)); \
-        same(#code " information", w, LIPVEZOR_INFORMATION_BYTES(code, w), lipvezor_information_bytes(code, w)); \
+        SAME_INFORMATION(code, w, 0); \
+        SAME_INFORMATION(code, w, 1); \
+        SAME_INFORMATION(code, w, w); \
+        SAME_INFORMATION(code, w, LIPVEZOR_K(code) - 1); \
+        SAME_INFORMATION(code, w, LIPVEZOR_K(code)); \
+        SAME_INFORMATION(code, w, LIPVEZOR_K(code) + 1); \
         same(#code " parity", w, LIPVEZOR_PARITY_BYTES(code, w), lipvezor_parity_bytes(code, w)); \
         same(#code " symbols", w, LIPVEZOR_SYMBOL_BYTES(code, w), lipvezor_symbol_bytes(code, w)); \
         same(#code " unit", w, LIPVEZOR_UNIT_BYTES(code, w), lipvezor_unit_bytes(code, w)); \
@@ -109,7 +122,8 @@ static void expect(int holds, const char *what)
 /* 0 for numbers that are refused */
 static void no_sizes(size_t code, size_t w)
 {
-    same("information, refused", w, 0, lipvezor_information_bytes(code, w));
+    same("information, refused", w, 0, lipvezor_information_bytes(code, w, 1));
+    same("information, refused", w, 0, lipvezor_information_bytes(code, w, 512));
     same("parity, refused", w, 0, lipvezor_parity_bytes(code, w));
     same("symbols, refused", w, 0, lipvezor_symbol_bytes(code, w));
     same("unit, refused", w, 0, lipvezor_unit_bytes(code, w));
@@ -150,6 +164,58 @@ static void compare_sizes(void)
             no_sizes(codes[i], widths[j]);
 }
 
+/* a fill may be 1 to k; the widest fills would not fit 64 bits */
+static void compare_fills(void)
+{
+    const size_t fills[] = {0, 4096, (size_t)1 << 32, SIZE_MAX / 1024, SIZE_MAX};
+    for (size_t i = 0; i < COUNT(codes); i++) {
+        const size_t code = codes[i], k = lipvezor_k(code);
+        for (size_t fill = 1; fill <= k; fill++)
+            same("information by fill", 3, fill * 3, lipvezor_information_bytes(code, 3, fill));
+        same("information, fill k + 1", 3, 0, lipvezor_information_bytes(code, 3, k + 1));
+        for (size_t j = 0; j < COUNT(fills); j++) {
+            same("information, a fill that is refused", 1024, 0, lipvezor_information_bytes(code, 1024, fills[j]));
+            same("the same, by the macro", 1024, LIPVEZOR_INFORMATION_BYTES(code, (size_t)1024, fills[j]), 0);
+        }
+    }
+}
+
+/* the LWCs of a block's units, one by one */
+static void compare_lwcs(const lipvezor_block *block)
+{
+    const size_t k = lipvezor_k(block->code), n = lipvezor_n(block->code);
+    size_t next = lipvezor_next_lwc(block, 0), sent = 0;
+    for (size_t lwc = 1; lwc <= n; lwc++) {
+        const int idle = lwc > block->fill && lwc <= k;
+        if (!idle) {
+            expect(next == lwc, "the next LWC that is sent");
+            next = lipvezor_next_lwc(block, lwc);
+            sent++;
+        } else {
+            expect(lipvezor_next_lwc(block, lwc) == k + 1, "after an idle LWC the first of the parity");
+        }
+    }
+    expect(next == 0, "none after the last");
+    same("units sent", 0, block->fill + lipvezor_m(block->code), sent);
+    expect(!lipvezor_next_lwc(block, n + 1) && !lipvezor_next_lwc(block, SIZE_MAX), "none after what is no LWC");
+}
+
+static void compare_next_lwc(void)
+{
+    for (size_t i = 0; i < COUNT(codes); i++) {
+        const size_t k = lipvezor_k(codes[i]), fills[] = {1, 2, k / 2, k - 1, k}, refused[] = {0, k + 1, SIZE_MAX};
+        for (size_t j = 0; j < COUNT(fills); j++)
+            compare_lwcs(&(lipvezor_block){.code = codes[i], .w = 1, .lsc = 1, .fill = fills[j]});
+        for (size_t j = 0; j < COUNT(refused); j++) {
+            const lipvezor_block block = {.code = codes[i], .w = 1, .lsc = 1, .fill = refused[j]};
+            expect(!lipvezor_next_lwc(&block, 0) && !lipvezor_next_lwc(&block, 1) && !lipvezor_next_lwc(&block, k), "none of a refused fill");
+        }
+    }
+    for (size_t i = 0; i < COUNT(others); i++)
+        for (size_t fill = 0; fill < 3; fill++)
+            expect(!lipvezor_next_lwc(&(lipvezor_block){.code = others[i], .w = 1, .lsc = 1, .fill = fill}, 0), "none of a number that is no code's");
+}
+
 /* a code is found by its k and n, and by no other two */
 static void compare_codes(void)
 {
@@ -178,9 +244,10 @@ static void compare_version(void)
 static void compare_texts(void)
 {
     static const unsigned numbers[] = {
-        LIPVEZOR_DONE, LIPVEZOR_REFUSED_CODE, LIPVEZOR_REFUSED_WIDTH, LIPVEZOR_REFUSED_LABEL, LIPVEZOR_REFUSED_LENGTH, LIPVEZOR_REFUSED_HEADER,
-        LIPVEZOR_REFUSED_EXTENSION, LIPVEZOR_REFUSED_NUMBER, LIPVEZOR_REFUSED_EXTENSION_KIND, LIPVEZOR_REFUSED_PARAMETERS,
-        LIPVEZOR_REFUSED_FOREIGN, LIPVEZOR_REFUSED_POSITION, LIPVEZOR_REFUSED_SYMBOL, LIPVEZOR_REFUSED_MARK, LIPVEZOR_REFUSED_CONFLICT,
+        LIPVEZOR_DONE, LIPVEZOR_REFUSED_CODE, LIPVEZOR_REFUSED_WIDTH, LIPVEZOR_REFUSED_LABEL, LIPVEZOR_REFUSED_FILL, LIPVEZOR_REFUSED_LENGTH,
+        LIPVEZOR_REFUSED_HEADER, LIPVEZOR_REFUSED_EXTENSION, LIPVEZOR_REFUSED_NUMBER, LIPVEZOR_REFUSED_EXTENSION_KIND,
+        LIPVEZOR_REFUSED_PARAMETERS, LIPVEZOR_REFUSED_FOREIGN, LIPVEZOR_REFUSED_POSITION, LIPVEZOR_REFUSED_IDLE, LIPVEZOR_REFUSED_SYMBOL,
+        LIPVEZOR_REFUSED_MARK, LIPVEZOR_REFUSED_CONFLICT,
     };
     const size_t count = COUNT(numbers);
     const char *common = lipvezor_refusal_text(255);
@@ -199,6 +266,8 @@ static void compare_texts(void)
 int main(void)
 {
     compare_sizes();
+    compare_fills();
+    compare_next_lwc();
     compare_codes();
     compare_version();
     compare_texts();

@@ -112,7 +112,7 @@ static void make_sizes(void)
     size = lipvezor_n(block.code);
     size = lipvezor_k(block.code);
     size = lipvezor_m(block.code);
-    size = lipvezor_information_bytes(block.code, block.w);
+    size = lipvezor_information_bytes(block.code, block.w, block.fill);
     size = lipvezor_parity_bytes(block.code, block.w);
     size = lipvezor_symbol_bytes(block.code, block.w);
     size = lipvezor_unit_bytes(block.code, block.w);
@@ -182,8 +182,8 @@ static void run(int which, uint8_t expected)
     on_stack(call->name, *call->stack, call->make);
     call->runs++;
     if (answer != expected) {
-        fprintf(stderr, "stack: %s, code %zu, W %zu: %s, expected: %s\n", call->name, block.code, block.w, lipvezor_refusal_text(answer),
-                lipvezor_refusal_text(expected));
+        fprintf(stderr, "stack: %s, code %zu, W %zu, fill %zu: %s, expected: %s\n", call->name, block.code, block.w, block.fill,
+                lipvezor_refusal_text(answer), lipvezor_refusal_text(expected));
         exit(1);
     }
 }
@@ -208,11 +208,11 @@ static void *allocate(size_t count, size_t bytes)
     return p;
 }
 
-static void new_block(size_t code, size_t w)
+static void new_block(size_t code, size_t w, size_t fill)
 {
-    block = (lipvezor_block){.code = code, .w = w, .protocol = PROTOCOL, .lsc = LSC};
+    block = (lipvezor_block){.code = code, .w = w, .protocol = PROTOCOL, .lsc = LSC, .fill = fill};
     n = lipvezor_n(code), k = lipvezor_k(code), m = lipvezor_m(code);
-    codeword.information_length = lipvezor_information_bytes(code, w), codeword.parity_length = lipvezor_parity_bytes(code, w);
+    codeword.information_length = lipvezor_information_bytes(code, w, fill), codeword.parity_length = lipvezor_parity_bytes(code, w);
     codeword.information = information = allocate(codeword.information_length, 1);
     codeword.parity = allocate(codeword.parity_length, 1);
     buffers.symbols_length = lipvezor_symbol_bytes(code, w), buffers.marks_length = n;
@@ -243,6 +243,8 @@ static void run_refused(int which, int label)
     block = good, block.lsc = 65535;
     if (label)
         run(which, LIPVEZOR_REFUSED_LABEL);
+    block = good, block.fill = k + 1;
+    run(which, LIPVEZOR_REFUSED_FILL);
     block = good;
 }
 
@@ -265,7 +267,7 @@ static void write_unit(size_t number)
 
 static void run_write(void)
 {
-    const size_t numbers[] = {1, k, k + 1, n};
+    const size_t numbers[] = {1, block.fill, k + 1, n};
     for (size_t i = 0; i < sizeof numbers / sizeof *numbers; i++)
         write_unit(numbers[i]);
     run_refused(SHOW, 0);
@@ -273,6 +275,11 @@ static void run_write(void)
     lwc = n + 1;
     run(SHOW, LIPVEZOR_REFUSED_POSITION);
     run(WRITE, LIPVEZOR_REFUSED_POSITION);
+    if (block.fill < k) {
+        lwc = k;
+        run(SHOW, LIPVEZOR_REFUSED_IDLE);
+        run(WRITE, LIPVEZOR_REFUSED_IDLE);
+    }
     lwc = 1, out_length--;
     run(SHOW, LIPVEZOR_REFUSED_LENGTH);
     run(WRITE, LIPVEZOR_REFUSED_SYMBOL);
@@ -330,6 +337,8 @@ static void run_bad_units(void)
     run_unit_with(seed, 1, LIPVEZOR_DONE, LIPVEZOR_REFUSED_PARAMETERS);
     run_unit_with(5, LSC + 1, LIPVEZOR_DONE, LIPVEZOR_REFUSED_FOREIGN);
     run_unit_with(2, 0xFF, LIPVEZOR_DONE, LIPVEZOR_REFUSED_POSITION);
+    if (block.fill < k)
+        run_unit_with(3, unit[3] + 1, LIPVEZOR_DONE, LIPVEZOR_REFUSED_IDLE);
     run_unit_of_length(unit_length + 1, LIPVEZOR_DONE, LIPVEZOR_REFUSED_SYMBOL);
     buffers.marks[lwc - 1] = 3;
     run(TAKE, LIPVEZOR_REFUSED_MARK);
@@ -349,7 +358,7 @@ static void run_take(void)
 {
     run(OPEN, LIPVEZOR_DONE);
     run_refused(OPEN, 1);
-    write_unit(k);
+    write_unit(block.fill);
     run_refused(TAKE, 1);
     run_bad_units();
     run_unit_thrice();
@@ -357,14 +366,22 @@ static void run_take(void)
     run_unit_thrice();
 }
 
-/* the block as sent, without so many symbols */
+/* a position of which a unit is sent */
+static size_t some_position(void)
+{
+    size_t i = next_number() % (block.fill + m);
+    return i < block.fill ? i : i - block.fill + k;
+}
+
+/* the block as sent, without so many symbols, or all; what idle positions have does not count */
 static void lose(size_t missing)
 {
     memcpy(buffers.symbols, codeword.information, codeword.information_length);
-    memcpy(buffers.symbols + codeword.information_length, codeword.parity, codeword.parity_length);
+    memcpy(buffers.symbols + k * block.w, codeword.parity, codeword.parity_length);
     memset(buffers.marks, LIPVEZOR_MARK_HEARD, n);
+    missing = missing < block.fill + m ? missing : block.fill + m;
     while (missing > 0) {
-        size_t i = next_number() % n;
+        size_t i = some_position();
         if (buffers.marks[i] == LIPVEZOR_MARK_HEARD) {
             buffers.marks[i] = LIPVEZOR_MARK_MISSING;
             missing--;
@@ -380,7 +397,7 @@ static void run_close(void)
         for (size_t flipped = 0; flipped < 3; flipped++) {
             lose((m * percents[i] + 99) / 100);
             for (size_t x = 0; x < flipped; x++)
-                buffers.symbols[next_number() % buffers.symbols_length] ^= 1;
+                buffers.symbols[some_position() * block.w] ^= 1;
             run(CLOSE, LIPVEZOR_DONE);
             verdicts[report.verdict % 4]++;
         }
@@ -391,9 +408,9 @@ static void run_close(void)
     run(CLOSE, LIPVEZOR_REFUSED_MARK);
 }
 
-static void run_all(size_t code, size_t w)
+static void run_all(size_t code, size_t w, size_t fill)
 {
-    new_block(code, w);
+    new_block(code, w, fill);
     run(SIZES, LIPVEZOR_DONE);
     run_encode();
     run_write();
@@ -412,8 +429,10 @@ int main(int argc, char **argv)
     }
     catch_faults();
     for (size_t c = 0; c < sizeof codes / sizeof *codes; c++)
-        for (size_t i = 0; i < sizeof widths / sizeof *widths; i++)
-            run_all(codes[c], widths[i]);
+        for (size_t i = 0; i < sizeof widths / sizeof *widths; i++) {
+            run_all(codes[c], widths[i], lipvezor_k(codes[c]));
+            run_all(codes[c], widths[i], lipvezor_k(codes[c]) / 3);
+        }
     for (size_t i = 0; i < CALLS; i++)
         printf("%s: %zu calls, each within %zu bytes of stack\n", calls[i].name, calls[i].runs, *calls[i].stack);
     return 0;
