@@ -20,8 +20,40 @@ fn encode_agrees_with_the_model() {
     println!("compared {} encoded blocks", stats.encoded);
 }
 
+/// Few of the widest symbols.
+#[test]
+fn encode_of_short_blocks() {
+    let mut random = compare::seeded();
+    let mut stats = Stats::default();
+    for code in codes::ALL {
+        for (w, rounds) in [(1, 60), (5, 30), (16, 30), (17, 20), (64, 10), (100, 10), (1024, 2)] {
+            stats += compare::encode::compare_short(code, w, rounds, Fault::None, &mut random).unwrap();
+        }
+    }
+    println!("compared {} encoded blocks", stats.encoded);
+}
+
+/// Every fill of every code, with symbols of one byte: each information symbol more adds its own parity.
+#[test]
+fn every_fill() {
+    for code in codes::ALL {
+        let mut information = vec![0; code.k];
+        compare::seeded().fill(&mut information);
+        let mut expected = vec![0; code.m];
+        for fill in 1..=code.k {
+            let u = information[fill - 1];
+            for position in &model::encoder::support(code, &[fill - 1])[1..] {
+                expected[position - code.k] ^= u;
+            }
+            let mut parity = vec![0xEE; code.m];
+            ours::encode(Record { fill, ..record(code, 1) }, &information[..fill], &mut parity).unwrap();
+            assert!(parity == expected, "C{}, fill {fill}", code.number);
+        }
+    }
+}
+
 fn record(code: &Code, w: usize) -> Record {
-    Record { code: code.number, w, protocol: 0, lsc: 1 }
+    Record { code: code.number, w, protocol: 0, lsc: 1, fill: code.k }
 }
 
 /// The parity of a block in which only u_x isn't zero.

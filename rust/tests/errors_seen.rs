@@ -1,8 +1,9 @@
-//! Each error seen elsewhere, each wrong reading of extensions, each wrong writing of units and each wrong showing, put into the model, is found by
-//! the comparisons; without one they find nothing.
+//! Each error seen elsewhere, each wrong reading of extensions, each wrong writing of units, each wrong showing and each wrong short block, put into
+//! the model, is found by the comparisons; without one they find nothing.
 mod compare;
 mod model;
 
+use compare::fills::{self, Told};
 use compare::random::Random;
 use compare::{all_strings, encode, suite, unit_forms, units, Difference, Stats};
 use model::{codes, Code, Fault};
@@ -39,7 +40,7 @@ static COMPARISONS: [Comparison; 4] = [
     },
     Comparison {
         name: "shown symbols",
-        run: Run::EachCode(|code, fault| units::shown(code, 3, fault, &mut random())),
+        run: Run::EachCode(|code, fault| units::shown(code, 3, code.k, fault, &mut random())),
         finds: &[Fault::LwcKAsParity],
     },
 ];
@@ -99,15 +100,80 @@ static WRITINGS: [Comparison; 1] = [Comparison {
 static SHOWINGS: [Comparison; 2] = [
     Comparison {
         name: "shown symbols",
-        run: Run::EachCode(|code, fault| units::shown(code, 3, fault, &mut random())),
+        run: Run::EachCode(|code, fault| units::shown(code, 3, code.k, fault, &mut random())),
         finds: &Fault::MISSHOWN,
     },
     Comparison {
         name: "shown symbols of one byte",
-        run: Run::EachCode(|code, fault| units::shown(code, 1, fault, &mut random())),
+        run: Run::EachCode(|code, fault| units::shown(code, 1, code.k, fault, &mut random())),
         finds: &Fault::MISSHOWN,
     },
 ];
+
+/// For the wrong short blocks.
+static SHORT: [Comparison; 8] = [
+    Comparison {
+        name: "written units of short blocks",
+        run: Run::EachCode(|code, fault| units::written_short(code, fault, &mut random())),
+        finds: &[Fault::PositionKIdle, Fault::LastSentIdle],
+    },
+    Comparison {
+        name: "shown symbols of short blocks",
+        run: Run::EachCode(|code, fault| units::shown(code, 3, code.k / 2, fault, &mut random())),
+        finds: &[Fault::PositionKIdle, Fault::LastSentIdle],
+    },
+    Comparison {
+        name: "fills of encode",
+        run: Run::EachCode(|code, fault| fills::compare(Told::Encode, code, 1, fault, &mut random())),
+        finds: &[Fault::FillAfterLength],
+    },
+    Comparison {
+        name: "fills of show",
+        run: Run::EachCode(|code, fault| fills::compare(Told::Show, code, 1, fault, &mut random())),
+        finds: &[Fault::PositionKIdle, Fault::LastSentIdle, Fault::FillAfterLength],
+    },
+    Comparison {
+        name: "fills of write",
+        run: Run::EachCode(|code, fault| fills::compare(Told::Write, code, 1, fault, &mut random())),
+        finds: &[Fault::PositionKIdle, Fault::LastSentIdle, Fault::FillAfterLength, Fault::IdleAfterSymbol],
+    },
+    Comparison {
+        name: "fills of open",
+        run: Run::EachCode(|code, fault| fills::compare(Told::Open, code, 1, fault, &mut random())),
+        finds: &[Fault::FillAfterLength],
+    },
+    Comparison {
+        name: "fills of take",
+        run: Run::EachCode(|code, fault| fills::compare(Told::Take, code, 1, fault, &mut random())),
+        finds: &[Fault::PositionKIdle, Fault::LastSentIdle, Fault::FillAfterLength, Fault::IdleAfterSymbol],
+    },
+    Comparison {
+        name: "fills of close",
+        run: Run::EachCode(|code, fault| fills::compare(Told::Close, code, 1, fault, &mut random())),
+        finds: &[
+            Fault::FillAfterLength,
+            Fault::IdleUnknown,
+            Fault::IdleCountedAsLeft,
+            Fault::IdleMarkBelieved,
+            Fault::PositionKIdle,
+            Fault::LastSentIdle,
+        ],
+    },
+];
+
+/// For those of them that close is about. `blocks.rs` has these comparisons without a fault.
+static SHORT_BLOCKS: [Comparison; 1] = [Comparison {
+    name: "short blocks closed once",
+    run: Run::EachCode(|code, fault| suite::short_closes(code, fault, 1)),
+    finds: &[Fault::IdleUnknown, Fault::IdleCountedAsLeft, Fault::IdleMarkBelieved, Fault::PositionKIdle, Fault::LastSentIdle],
+}];
+
+/// For those of them that a list of calls shows.
+static SHORT_LISTS: [Comparison; 1] = [Comparison {
+    name: "lists of calls on short blocks",
+    run: Run::EachCode(|code, fault| suite::short_lists(code, fault, 1)),
+    finds: &[Fault::IdleUnknown, Fault::IdleCountedAsLeft, Fault::PositionKIdle, Fault::LastSentIdle, Fault::IdleAfterSymbol],
+}];
 
 fn random() -> Random {
     Random::new(1)
@@ -152,6 +218,7 @@ fn shortened(difference: &Difference) -> String {
 fn no_fault() {
     check(&COMPARISONS, Fault::None);
     check(&READINGS, Fault::None);
+    check(&SHORT, Fault::None);
 }
 
 #[test]
@@ -237,4 +304,50 @@ fn position_tried_before_lengths() {
 #[test]
 fn shown_to_an_output_of_any_length() {
     check(&SHOWINGS, Fault::ShownToAnyOutput);
+}
+
+#[test]
+fn idle_symbols_unknown() {
+    check(&SHORT, Fault::IdleUnknown);
+    check(&SHORT_BLOCKS, Fault::IdleUnknown);
+    check(&SHORT_LISTS, Fault::IdleUnknown);
+}
+
+#[test]
+fn idle_positions_counted_as_left() {
+    check(&SHORT, Fault::IdleCountedAsLeft);
+    check(&SHORT_BLOCKS, Fault::IdleCountedAsLeft);
+    check(&SHORT_LISTS, Fault::IdleCountedAsLeft);
+}
+
+/// No list of calls leaves such a mark.
+#[test]
+fn mark_1_at_an_idle_position_believed() {
+    check(&SHORT, Fault::IdleMarkBelieved);
+    check(&SHORT_BLOCKS, Fault::IdleMarkBelieved);
+}
+
+#[test]
+fn position_k_idle() {
+    check(&SHORT, Fault::PositionKIdle);
+    check(&SHORT_BLOCKS, Fault::PositionKIdle);
+    check(&SHORT_LISTS, Fault::PositionKIdle);
+}
+
+#[test]
+fn last_sent_information_symbol_idle() {
+    check(&SHORT, Fault::LastSentIdle);
+    check(&SHORT_BLOCKS, Fault::LastSentIdle);
+    check(&SHORT_LISTS, Fault::LastSentIdle);
+}
+
+#[test]
+fn fill_tried_after_lengths() {
+    check(&SHORT, Fault::FillAfterLength);
+}
+
+#[test]
+fn idle_tried_after_the_symbol() {
+    check(&SHORT, Fault::IdleAfterSymbol);
+    check(&SHORT_LISTS, Fault::IdleAfterSymbol);
 }

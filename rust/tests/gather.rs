@@ -35,6 +35,7 @@ fn compare(input: &[u8]) {
     }
 }
 
+/// It says no fill: the program uses k.
 fn header(record: Record) -> Vec<u8> {
     let mut bytes = vec![record.code as u8];
     bytes.extend((record.w as u16).to_be_bytes());
@@ -106,7 +107,7 @@ fn damaged_and_cut_streams() {
 
 #[test]
 fn headers() {
-    let good = Record { code: 1, w: 2, protocol: 1, lsc: 7 };
+    let good = Record { code: 1, w: 2, protocol: 1, lsc: 7, fill: 512 };
     let mut records: Vec<Record> = [0, 1, 2, 3, 4, 5, 6, 7, 8, 9, 10, 255].map(|code| Record { code, ..good }).to_vec();
     records.extend([0, 1, 15, 16, 17, 256, 258, 1023, 1024, 1025, 65535].map(|w| Record { w, ..good }));
     records.extend([0, 7, 8, 255].map(|protocol| Record { protocol, ..good }));
@@ -127,7 +128,7 @@ fn headers() {
 #[test]
 fn other_codes() {
     for code in codes::ALL {
-        let mut stream = header(Record { code: code.number, w: 1, protocol: 1, lsc: 7 });
+        let mut stream = header(Record { code: code.number, w: 1, protocol: 1, lsc: 7, fill: 512 });
         let expected = if code.number == 1 {
             "1 kept\n2 refused 7\n3 refused 7\n4 refused 7\n5 refused 7\n6 refused 7\nambiguous heard 1\n"
         } else {
@@ -145,7 +146,7 @@ fn other_codes() {
 #[test]
 fn long_units() {
     let mut random = seeded();
-    let record = Record { code: 1, w: 16, protocol: 3, lsc: 65534 };
+    let record = Record { code: 1, w: 16, protocol: 3, lsc: 65534, fill: 512 };
     for length in [65535, 65534, 65533, 40000] {
         let mut stream = header(record);
         for lwc in [1, 512, 513, 768, 512] {
@@ -173,7 +174,8 @@ fn noise() {
         let mut stream = vec![0; random.below(400)];
         random.fill(&mut stream);
         if random.chance(0.8) {
-            let start = header(Record { code: 1, w: 1 + random.below(16), protocol: random.below(8), lsc: 1 + random.below(65534) });
+            let record = Record { code: 1, w: 1 + random.below(16), protocol: random.below(8), lsc: 1 + random.below(65534), fill: 512 };
+            let start = header(record);
             stream.splice(..0, start);
         }
         // Small lengths, so that units come to an end.

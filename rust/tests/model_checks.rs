@@ -1,9 +1,15 @@
-//! The model by itself: its tables, its encoder against the check rows, its solver against enumeration; and that it has nothing of the crate.
+//! The model by itself: its tables, its encoder against the check rows, its solvers against each other and enumeration, its lists against its calls;
+//! and that it has nothing of the crate.
 mod compare;
 mod model;
 
+use compare::cases;
+use compare::lists::Call;
 use compare::random::Random;
-use model::{codes, encoder, solver, Code, Fault};
+use compare::scripts::{self, Between};
+use model::answers::Verdict;
+use model::refusals::Record;
+use model::{blocks, calls, closing, codes, encoder, generator, solver, Code, Fault};
 use std::collections::{BTreeMap, BTreeSet};
 use std::fs;
 use std::path::{Path, PathBuf};
@@ -161,7 +167,9 @@ fn solver_and_enumeration() {
         let one = bits.iter().all(|solutions| solutions.len() == 1);
         assert_eq!(solution.free, !one, "round {round}");
         found[if one { 1 } else { 2 }] += 1;
-        for (place, value) in solution.values.iter().enumerate() {
+        let missing = (0..known.len()).filter(|&position| known[position].is_none());
+        for (place, position) in missing.enumerate() {
+            let value = &solution.values[position];
             let agreed = |solutions: &Vec<usize>| solutions.iter().all(|solution| (solution ^ solutions[0]) >> place & 1 == 0);
             let symbol = (0..system.w).map(|byte| (0..8).map(|b| ((bits[byte * 8 + b][0] >> place & 1) as u8) << b).sum()).collect();
             assert_eq!(*value, bits.iter().all(agreed).then_some(symbol), "round {round}, missing symbol {place}");
@@ -169,6 +177,162 @@ fn solver_and_enumeration() {
     }
     println!("compared systems with no solution, one and more: {found:?}");
     assert!(found.iter().all(|&number| number > 100));
+}
+
+/// The parity symbols that the generator has each information symbol in are those of its codeword.
+#[test]
+fn generator_and_encoder() {
+    for code in codes::ALL {
+        let rows = generator::rows(code);
+        for x in 0..code.k {
+            let sums = (0..code.m).filter(|&j| rows[j][x] == 1).map(|j| code.k + j);
+            assert!(sums.eq(encoder::support(code, &[x])[1..].iter().copied()), "u_{x} of C{}", code.number);
+        }
+    }
+}
+
+/// The encoder's parity of some symbols is that of the same and zeros up to k.
+#[test]
+fn short_and_filled_up() {
+    let mut random = compare::seeded();
+    for code in codes::ALL {
+        for fill in cases::chosen_fills(code) {
+            let mut information = vec![0; fill * 3];
+            random.fill(&mut information);
+            let short = encoder::codeword(code, 3, &information);
+            information.resize(code.k * 3, 0);
+            assert!(short == encoder::codeword(code, 3, &information), "C{}, fill {fill}", code.number);
+        }
+    }
+}
+
+/// The generator against the check rows with the idle symbols given as zero: the same is found in short blocks and full ones.
+#[test]
+fn generator_and_check_rows() {
+    let mut random = compare::seeded();
+    let mut found = [0; 3];
+    for code in codes::ALL {
+        let rows = code.check_rows(Fault::None);
+        let rounds = if code.n < 1000 { 200 } else { 16 };
+        for round in 0..rounds {
+            let fill = if round % 4 == 0 { code.k } else { cases::any_fill(code, &mut random) };
+            let w = 1 + random.below(3);
+            let case = cases::any_short(code, fill, &mut random).sent_short(code, w, fill, &mut random);
+            let heard = |i: usize| (!case.lost[i]).then(|| &case.symbols[i * w..][..w]);
+            let zero = vec![0; w];
+            let known: Vec<Option<&[u8]>> = (0..code.n).map(|i| if case.is_idle(i) { Some(&zero[..]) } else { heard(i) }).collect();
+            let by_rows = solver::solve(&rows, w, &known);
+            // At idle positions the generator's solver may be handed anything.
+            let noise = vec![0xA5; w];
+            let given: Vec<Option<&[u8]>> =
+                (0..code.n).map(|i| if case.is_idle(i) && i % 2 == 0 { Some(&noise[..]) } else { heard(i) }).collect();
+            let by_generator = generator::solve(code, fill, w, &given);
+            assert_eq!((by_generator.failed, by_generator.free), (by_rows.failed, by_rows.free), "{}", case.label);
+            if !by_rows.failed {
+                assert!(by_generator.values == by_rows.values, "{}", case.label);
+            }
+            found[if by_rows.failed { 0 } else { 1 + usize::from(by_rows.free) }] += 1;
+        }
+    }
+    println!("compared blocks in which none agrees, one and more: {found:?}");
+    assert!(found.iter().all(|&number| number > 50));
+}
+
+/// Codes so small that all their codewords can be tried.
+static SMALL: [Code; 3] = [
+    Code { number: 0, n: 12, k: 8, m: 4, q: 2, a: 2, table: &[&[0, 3], &[1], &[0, 1, 2], &[2, 3]] },
+    Code { number: 0, n: 15, k: 9, m: 6, q: 3, a: 2, table: &[&[0, 1, 5], &[2, 3], &[0, 4]] },
+    Code { number: 0, n: 10, k: 4, m: 6, q: 2, a: 3, table: &[&[1, 2, 5], &[0, 3]] },
+];
+
+/// Close against all information parts of so many symbols, bit by bit.
+#[test]
+fn closing_and_enumeration() {
+    let mut random = compare::seeded();
+    let mut found = [0; 3];
+    for round in 0..6000 {
+        let code = &SMALL[round % 3];
+        let fill = 1 + random.below(code.k);
+        let mut symbols = encoder::codeword(code, 1, &cases::information(fill, 1, &mut random));
+        if random.chance(0.3) {
+            symbols[random.below(code.n)] ^= 1 << random.below(8);
+        }
+        let idle = fill..code.k;
+        let lost = random.below(code.n + 1);
+        let lost = &random.shuffled(code.n)[..lost];
+        let heard = |i: usize| !idle.contains(&i) && !lost.contains(&i);
+        // The words of each bit that agree, each a bit for each position.
+        let words: Vec<u32> = (0..1u32 << fill)
+            .map(|u| {
+                let information: Vec<u8> = (0..fill).map(|x| (u >> x & 1) as u8).collect();
+                encoder::codeword(code, 1, &information).iter().enumerate().map(|(i, &b)| u32::from(b) << i).sum()
+            })
+            .collect();
+        let agreeing: Vec<Vec<u32>> = (0..8)
+            .map(|bit| {
+                let agrees = |word: &u32| (0..code.n).all(|i| !heard(i) || word >> i & 1 == u32::from(symbols[i] >> bit & 1));
+                words.iter().copied().filter(agrees).collect()
+            })
+            .collect();
+
+        let record = Record { code: 0, w: 1, protocol: 0, lsc: 1, fill };
+        let marked: Vec<Option<&[u8]>> = (0..code.n).map(|i| (!lost.contains(&i)).then(|| &symbols[i..=i])).collect();
+        let outcome = closing::close(record, code, &marked, Fault::None);
+        let verdict = match () {
+            () if agreeing.iter().any(Vec::is_empty) => Verdict::Inconsistent,
+            () if agreeing.iter().all(|words| words.len() == 1) => Verdict::Whole,
+            () => Verdict::Ambiguous,
+        };
+        let settled = |i: usize| {
+            verdict != Verdict::Inconsistent && agreeing.iter().all(|words| words.iter().all(|word| (word ^ words[0]) >> i & 1 == 0))
+        };
+        let due: Vec<(u8, u8)> = (0..code.n)
+            .map(|i| match () {
+                () if idle.contains(&i) => (0, 0),
+                () if heard(i) => (1, symbols[i]),
+                () if settled(i) => (2, (0..8).map(|bit| ((agreeing[bit][0] >> i & 1) as u8) << bit).sum()),
+                () => (0, 0),
+            })
+            .collect();
+        let after: Vec<(u8, u8)> = outcome.marks.iter().copied().zip(outcome.symbols).collect();
+        assert_eq!((outcome.report.verdict, after), (verdict, due), "round {round}");
+        let counts = [outcome.report.heard, outcome.report.filled, outcome.report.left];
+        let count = |mark: u8| (0..code.n).filter(|&i| !idle.contains(&i) && outcome.marks[i] == mark).count();
+        assert_eq!((counts, counts.iter().sum()), ([count(1), count(2), count(0)], fill + code.m), "round {round}");
+        found[verdict as usize] += 1;
+    }
+    println!("compared blocks that are whole, ambiguous and inconsistent: {found:?}");
+    assert!(found.iter().all(|&number| number > 300));
+}
+
+/// Lists of calls: from the list alone, as `blocks` has it, and call by call on buffers, the same comes.
+#[test]
+fn lists_and_calls() {
+    let mut random = compare::seeded();
+    for code in codes::ALL {
+        for round in 0..if code.n < 1000 { 24 } else { 4 } {
+            let fill = if round % 4 == 0 { code.k } else { cases::any_fill(code, &mut random) };
+            let case = cases::any_short(code, fill, &mut random).sent_short(code, 2, fill, &mut random);
+            let list = scripts::list(&case, Between::Anything, &mut random);
+            let mut block = blocks::Block::open(list.record, Fault::None).unwrap();
+            let (mut symbols, mut marks) = (vec![0xA5; code.n * 2], vec![0xA5; code.n]);
+            calls::open(list.record, &mut symbols, &mut marks, Fault::None).unwrap();
+            for (index, call) in list.calls.iter().enumerate() {
+                match call {
+                    Call::Take(unit) => {
+                        let answer = calls::take(list.record, &mut symbols, &mut marks, unit, Fault::None);
+                        assert_eq!(answer, block.take(unit), "{}: call {index}", list.label);
+                    }
+                    &Call::Close { words, bytes, .. } => {
+                        let (mut work, mut sums) = (vec![1; words], vec![1; bytes]);
+                        let answer = calls::close(list.record, &mut symbols, &mut marks, &mut work, &mut sums, Fault::None);
+                        assert_eq!(answer, block.close(words, bytes), "{}: call {index}", list.label);
+                    }
+                }
+                assert!(symbols == block.symbols() && marks == block.marks(), "{}: call {index}", list.label);
+            }
+        }
+    }
 }
 
 /// All files below a folder of the crate.

@@ -3,6 +3,7 @@ mod compare;
 mod model;
 
 use compare::drafts::{Draft, Extension};
+use compare::fills::{self, Told};
 use compare::{all_strings, ours, unit_forms, units, Difference, Stats};
 use lipvezor::Code;
 use model::answers::{Parameters, Taken};
@@ -61,24 +62,46 @@ fn written_units_of_every_width() {
 }
 
 #[test]
+fn written_units_of_short_blocks() {
+    for code in codes::ALL {
+        let stats = report("written, short", units::written_short(code, Fault::None, &mut compare::seeded()));
+        assert!(stats.refused[14] > code.k / 2 && stats.kept > code.k / 2, "{stats:?}");
+    }
+}
+
+#[test]
 fn shown_symbols() {
     for code in codes::ALL {
         for w in [1, 2, 3, 16, 1024] {
-            report("shown", units::shown(code, w, Fault::None, &mut compare::seeded()));
+            report("shown", units::shown(code, w, code.k, Fault::None, &mut compare::seeded()));
         }
+        for (w, fill) in [(1, 1), (2, code.q + 1), (3, code.k / 2), (16, code.k - 1)] {
+            report("shown, short", units::shown(code, w, fill, Fault::None, &mut compare::seeded()));
+        }
+    }
+}
+
+#[test]
+fn fills_of_every_call() {
+    for told in Told::ALL {
+        let mut stats = Stats::default();
+        for code in codes::ALL {
+            stats += fills::compare(told, code, 2, Fault::None, &mut compare::seeded()).unwrap();
+        }
+        println!("fills: compared {} calls of {told:?}", stats.calls);
     }
 }
 
 #[test]
 fn altered_and_cut_units() {
     let stats = report("altered", unit_forms::altered(Fault::None, &mut compare::seeded()));
-    assert_came(&stats, &[5, 6, 7, 8, 9, 19, 20]);
+    assert_came(&stats, &[5, 6, 7, 8, 9, 14, 19, 20]);
 }
 
 #[test]
 fn units_almost_as_expected() {
     let stats = report("unexpected", unit_forms::unexpected(Fault::None, &mut compare::seeded()));
-    assert_came(&stats, &[5, 6, 7, 8, 9, 12, 20]);
+    assert_came(&stats, &[5, 6, 7, 8, 9, 12, 14, 20]);
 }
 
 #[test]
@@ -99,7 +122,7 @@ fn extension_counts() {
 #[test]
 fn random_units() {
     let stats = report("random", unit_forms::random_units(37_500, Fault::None, &mut compare::seeded()));
-    assert_came(&stats, &[5, 6, 7, 19, 20]);
+    assert_came(&stats, &[5, 6, 7, 14, 19, 20]);
     assert!(stats.kept >= 1000);
 }
 
@@ -288,12 +311,18 @@ fn units_of_other_codes() {
     for own in codes::ALL {
         for other in codes::ALL {
             for w in [1, 16, 128] {
-                let record = Record { code: own.number, w, protocol: 5, lsc: 1000 };
+                let record = Record { code: own.number, w, protocol: 5, lsc: 1000, fill: own.k };
                 let due = if own.number == other.number { Ok(Taken::Kept) } else { Err(7) };
                 for lwc in [1, 512, 513, other.k, other.k + 1, other.n] {
-                    assert_eq!(taken(record, &written(other, Record { code: other.number, ..record }, lwc)), due, "{record:?}, LWC {lwc}");
-                    let foreign = written(other, Record { code: other.number, lsc: 1001, ..record }, lwc);
+                    let sent = Record { code: other.number, fill: other.k, ..record };
+                    assert_eq!(taken(record, &written(other, sent, lwc)), due, "{record:?}, LWC {lwc}");
+                    let foreign = written(other, Record { lsc: 1001, ..sent }, lwc);
                     assert_eq!(taken(record, &foreign), due.and(Err(8)), "{record:?}, LWC {lwc}, foreign");
+                    // The same in a short block, where the LWC may be idle.
+                    let short = Record { fill: 1, ..record };
+                    let idle = if (2..=own.k).contains(&lwc) { due.and(Err(14)) } else { due };
+                    assert_eq!(taken(short, &written(other, sent, lwc)), idle, "{short:?}, LWC {lwc}");
+                    assert_eq!(taken(short, &foreign), due.and(Err(8)), "{short:?}, LWC {lwc}, foreign");
                 }
             }
         }
@@ -324,7 +353,7 @@ fn taken(record: Record, unit: &[u8]) -> Result<Taken, u8> {
 #[test]
 fn every_k_and_n() {
     for own in codes::ALL {
-        let record = Record { code: own.number, w: 2, protocol: 5, lsc: 1000 };
+        let record = Record { code: own.number, w: 2, protocol: 5, lsc: 1000, fill: own.k };
         for k in [512, 2048, 16_384] {
             for n in [768, 3072, 24_576, 640, 2560, 20_480, 576, 2304, 18_432] {
                 let mut draft = Draft::proper(own, 2, 5, 1000, own.n, &[1, 2]);
@@ -356,8 +385,8 @@ fn sample_sdnvs() {
 }
 
 /// Those of a record that depend on W.
-fn sizes_of(code: usize, w: usize) -> [usize; 5] {
-    let record = ours::record(Record { code, w, protocol: 0, lsc: 1 });
+fn sizes_of(code: usize, w: usize, fill: usize) -> [usize; 5] {
+    let record = ours::record(Record { code, w, protocol: 0, lsc: 1, fill });
     [record.information_bytes(), record.parity_bytes(), record.symbol_bytes(), record.work_bytes(), record.unit_bytes()]
 }
 
@@ -368,15 +397,21 @@ fn sizes() {
         assert_eq!([ours.n(), ours.k(), ours.m(), ours.work_words()], [code.n, code.k, code.m, code.work_words()]);
         for w in 1..=1024 {
             let unit = model::units::write(code, w, 1, 1, 1, &vec![0; w]).len();
-            assert_eq!(sizes_of(code.number, w), [code.k * w, code.m * w, code.n * w, code.m * w, unit]);
+            // Only the information depends on the fill.
+            for fill in [1, 2, code.q, code.k - 1, code.k] {
+                assert_eq!(sizes_of(code.number, w, fill), [fill * w, code.m * w, code.n * w, code.m * w, unit]);
+            }
+            for fill in [0, code.k + 1, code.n, (1 << 32) + 1, usize::MAX] {
+                assert_eq!(sizes_of(code.number, w, fill), [0, code.m * w, code.n * w, code.m * w, unit]);
+            }
         }
         for w in [0, 1025, usize::MAX] {
-            assert_eq!(sizes_of(code.number, w), [0; 5]);
+            assert_eq!(sizes_of(code.number, w, code.k), [0; 5]);
         }
     }
     for none in [0, 3, 6, 9, 10, 257, (1 << 32) + 1, usize::MAX] {
         let code = Code::from_number(none);
         assert_eq!([code.n(), code.k(), code.m(), code.work_words()], [0; 4]);
-        assert_eq!(sizes_of(none, 1), [0; 5]);
+        assert_eq!(sizes_of(none, 1, 1), [0; 5]);
     }
 }

@@ -164,7 +164,7 @@ fn write_reaches_no_array() {
     println!("walked {} functions of {}", reached(&program, start).len(), program.len());
 }
 
-/// The call for C reads the block's numbers through a reference to an array of four, and that is all.
+/// The call for C reads the block's numbers through a reference to an array of five, and that is all.
 #[test]
 fn write_for_c_is_lent_its_record_alone() {
     let (program, start) = (program(printed()), "lipvezor::lipvezor_write");

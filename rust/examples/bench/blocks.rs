@@ -32,9 +32,9 @@ impl Sending {
         sent
     }
 
+    /// Of a position that is sent.
     fn symbol(&self, i: usize) -> &[u8] {
-        let w = self.record.w();
-        let k = self.information.len() / w;
+        let (w, k) = (self.record.w(), self.record.k());
         if i < k {
             &self.information[i * w..(i + 1) * w]
         } else {
@@ -42,9 +42,12 @@ impl Sending {
         }
     }
 
-    /// All n symbols.
+    /// All n symbols; idle ones are zero.
     pub fn word(&self) -> Vec<u8> {
-        [&self.information[..], &self.parity[..]].concat()
+        let mut word = self.information.to_vec();
+        word.resize(self.record.k() * self.record.w(), 0);
+        word.extend_from_slice(&self.parity);
+        word
     }
 
     /// Megabytes of information.
@@ -109,12 +112,14 @@ impl Receiving {
         self.symbols.len() + self.marks.len() + self.words.len() * 8 + self.bytes.len()
     }
 
-    /// The block has heard all symbols of a word but the lost ones, as open and take leave it. The work buffers hold anything but zeros.
+    /// The block has heard all symbols of a word but the lost and the idle ones, as open and take leave it. The work buffers hold anything but
+    /// zeros.
     pub fn hear(&mut self, word: &[u8], lost: &[usize]) {
         self.words.fill(0xA5A5_A5A5);
         self.bytes.fill(0xA5);
         self.symbols.copy_from_slice(word);
         self.marks.fill(1);
+        self.marks[self.record.fill()..self.record.k()].fill(0);
         let w = self.record.w();
         for &i in lost {
             self.symbols[i * w..(i + 1) * w].fill(0);

@@ -1,11 +1,12 @@
 //! The calls of an earlier version's archive, which build.rs links under these names where LIPVEZOR_EARLIER names its folder. They are declared as
-//! in the crate's `ffi`, which holds of versions 0.3 and 0.4. The same holds of each call as there: it hands over a slice's own pointer and length.
+//! in the crate's `ffi`, which holds of versions 0.3 to 0.5. The same holds of each call as there: it hands over a slice's own pointer and length.
+//! Up to 0.4 a record had four numbers, which our five begin with, and all blocks were full: it is lent our record, and reads what it knows.
 use crate::layers::{Closing, Found, Layer};
 use lipvezor::calls::Buffers;
-use lipvezor::{Code, Record, Refusal, Taken, Verdict};
+use lipvezor::{Record, Refusal, Taken, Verdict};
 
-/// The versions that these declarations are of: first number * 100 + second.
-const VERSIONS: [usize; 2] = [3, 4];
+/// The versions that these declarations are of: first number * 100 + second. Short blocks came with the last.
+const VERSIONS: [usize; 3] = [3, 4, 5];
 
 #[repr(C)]
 struct Codeword {
@@ -51,13 +52,14 @@ extern "C" {
 pub fn version() -> String {
     let version = unsafe { earlier_version() };
     let text = format!("{}.{}.{}", version / 10_000, version / 100 % 100, version % 100);
-    assert!(VERSIONS.contains(&(version / 100)), "earlier.rs declares the calls of 0.3 and 0.4, and the earlier archive is {text}");
+    assert!(VERSIONS.contains(&(version / 100)), "earlier.rs declares the calls of 0.3 to 0.5, and the earlier archive is {text}");
     text
 }
 
-/// It has the code.
-pub fn has(code: Code) -> bool {
-    unsafe { earlier_n(code.number()) > 0 }
+/// It has such blocks: the code, and the fill if that is not k.
+pub fn has(record: Record) -> bool {
+    let (n, version) = unsafe { (earlier_n(record.code().number()), earlier_version()) };
+    n > 0 && (record.fill() == record.k() || version / 100 >= 5)
 }
 
 /// The archive of an earlier version.

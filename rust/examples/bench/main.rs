@@ -11,7 +11,7 @@ mod buffer;
 mod earlier;
 #[cfg(not(earlier))]
 mod earlier {
-    pub fn has(_: lipvezor::Code) -> bool {
+    pub fn has(_: lipvezor::Record) -> bool {
         false
     }
 }
@@ -45,14 +45,17 @@ const COLD: usize = 640 << 20;
 /// How much of m is missing in the cases of close, in percent.
 const MISSING: [usize; 6] = [0, 10, 50, 90, 97, 120];
 
-/// A code's run by each layer: ours, plain Rust's and, if there is one that has the code, the earlier archive's. One more side may come last.
+/// How much of m is missing in the cases of close of short blocks, in percent.
+const MISSING_SHORT: [usize; 3] = [0, 10, 50];
+
+/// A record's run by each layer: ours, plain Rust's and, if there is one that has such blocks, the earlier archive's. One more side may come last.
 macro_rules! sides {
-    ($code:expr, $run:ident $(, $more:expr)?) => {
+    ($record:expr, $run:ident $(, $more:expr)?) => {
         Vec::from_iter([
             Some($run::<Ours> as Side<_>),
             Some($run::<Plain>),
             #[cfg(earlier)]
-            earlier::has($code).then_some($run::<Earlier>),
+            earlier::has($record).then_some($run::<Earlier>),
             $(Some($more))?
         ].into_iter().flatten())
     };
@@ -74,11 +77,11 @@ fn hundredths(x: f64) -> f64 {
 }
 
 impl Line {
-    /// From how much one run does, in millions, and the seconds for it of each of the code's sides.
-    fn new(code: Code, name: String, unit: &'static str, millions: f64, seconds: &[f64]) -> Line {
-        let speed = |side: usize| seconds.get(side).map(|seconds| millions / seconds);
-        let (earlier, simple) = if earlier::has(code) { (speed(2), speed(3)) } else { (None, speed(2)) };
-        Line { name, unit, ours: millions / seconds[0], rust: millions / seconds[1], earlier, simple }
+    /// From how much one run does, in the unit, and the seconds for it of each of the record's sides.
+    fn new(record: Record, name: String, unit: &'static str, amount: f64, seconds: &[f64]) -> Line {
+        let speed = |side: usize| seconds.get(side).map(|seconds| amount / seconds);
+        let (earlier, simple) = if earlier::has(record) { (speed(2), speed(3)) } else { (None, speed(2)) };
+        Line { name, unit, ours: amount / seconds[0], rust: amount / seconds[1], earlier, simple }
     }
 
     /// Ours to plain Rust's.
@@ -146,16 +149,21 @@ impl Bench {
         assert!(results.all(|other| other == first), "{name}: the sides differ");
     }
 
+    /// Each side's seconds for an encode.
+    fn encode_seconds(&self, name: &str, sent: &mut Sending) -> Vec<f64> {
+        let sides = &sides!(sent.record, encode);
+        Bench::agree(name, sent, |s| s.parity.fill(0xA5), sides, |s| s.parity.to_vec());
+        rounds(sent, self.each, self.rounds[0], None, sides)
+    }
+
     fn encoding(&mut self, sent: &mut Sending) {
-        let code = sent.record.code();
-        let name = format!("encode/{code}/W{}", sent.record.w());
+        let record = sent.record;
+        let name = format!("encode/{}/W{}", record.code(), record.w());
         if !self.wants(&name) {
             return;
         }
-        let sides = &sides!(code, encode);
-        Bench::agree(&name, sent, |s| s.parity.fill(0xA5), sides, |s| s.parity.to_vec());
-        let seconds = rounds(sent, self.each, self.rounds[0], None, sides);
-        self.line(Line::new(code, name, "MB/s", sent.megabytes(), &seconds), "");
+        let seconds = self.encode_seconds(&name, sent);
+        self.line(Line::new(record, name, "MB/s", sent.megabytes(), &seconds), "");
     }
 
     /// Units one after the other, or each on a border of so many bytes.
@@ -167,36 +175,43 @@ impl Bench {
             return;
         }
         let units = &mut Units::new(&Sending::new(record), border);
-        let sides = &sides!(code, write);
+        let sides = &sides!(record, write);
         Bench::agree(&name, units, |u| u.bytes.fill(0xA5), sides, |u| u.bytes.to_vec());
         let seconds = rounds(units, self.each, self.rounds[0], None, sides);
-        self.line(Line::new(code, name, "Munits/s", record.n() as f64 / 1e6, &seconds), "");
+        self.line(Line::new(record, name, "Munits/s", record.n() as f64 / 1e6, &seconds), "");
     }
 
     fn taking(&mut self, sent: &Sending) {
-        let code = sent.record.code();
-        let name = format!("take/{code}/W{}", sent.record.w());
+        let record = sent.record;
+        let name = format!("take/{}/W{}", record.code(), record.w());
         if !self.wants(&name) {
             return;
         }
         let taking = &mut Taking::new(sent);
-        let sides = &sides!(code, take);
+        let sides = &sides!(record, take);
         Bench::agree(&name, taking, open, sides, |t| (t.block.symbols.to_vec(), t.block.marks.to_vec()));
         let seconds = rounds(taking, self.each, self.rounds[0], Some(open), sides);
-        self.line(Line::new(code, name, "MB/s", sent.megabytes(), &seconds), "");
+        self.line(Line::new(record, name, "MB/s", sent.megabytes(), &seconds), "");
     }
 
-    /// Each round has a loss pattern that none had before, and every side closes it once.
     fn closing(&mut self, sent: &Sending, percent: usize) {
-        let (record, word) = (sent.record, sent.word());
-        let (code, w) = (record.code(), record.w());
-        let name = format!("close/{code}/W{w}/{percent}%");
+        let record = sent.record;
+        let name = format!("close/{}/W{}/{percent}%", record.code(), record.w());
         if !self.wants(&name) {
             return;
         }
+        let (seconds, more) = self.close_seconds(&name, sent, percent);
+        self.line(Line::new(record, name, "MB/s", sent.megabytes(), &seconds), &more);
+    }
+
+    /// Each side's seconds for a close, and what else is to be said. Each round has a loss pattern that none had before, among what is sent, and
+    /// every side closes it once.
+    fn close_seconds(&self, name: &str, sent: &Sending, percent: usize) -> (Vec<f64>, String) {
+        let (record, word) = (sent.record, sent.word());
+        let (code, w) = (record.code(), record.w());
         let missing = (code.m() * percent + 50) / 100;
         let block = &mut Receiving::new(record);
-        let sides = &sides!(code, close, close::<Simple>);
+        let sides = &sides!(record, close, close::<Simple>);
         let mut random = Random::new(seed(record) * 1000 + percent as u64);
         let mut times = vec![Vec::new(); sides.len()];
         let mut additions = [0, 0];
@@ -207,7 +222,7 @@ impl Bench {
             if round >= least && start.elapsed() >= self.each * sides.len() as u32 {
                 break;
             }
-            let pattern = random.shuffled(code.n());
+            let pattern: Vec<usize> = random.shuffled(code.n()).into_iter().filter(|&position| !record.is_idle(position)).collect();
             let hear = |b: &mut Receiving| b.hear(&word, &pattern[..missing]);
             let mut first = None;
             for side in order(round, sides.len()) {
@@ -225,19 +240,46 @@ impl Bench {
                     hear(b);
                     b.symbols[wrong] ^= 1;
                 };
-                Bench::agree(&name, block, hear_wrong, sides, outcome);
+                Bench::agree(name, block, hear_wrong, sides, outcome);
             }
         }
         let patterns = times[0].len();
         let seconds: Vec<f64> = times.into_iter().map(median).collect();
         let [ours, simple] = additions.map(|count| count as f64 / COUNTED.min(patterns) as f64);
-        let more = format!(" additions={ours:.0} simple_additions={simple:.0} patterns={patterns}");
-        self.line(Line::new(code, name, "MB/s", sent.megabytes(), &seconds), &more);
+        (seconds, format!(" additions={ours:.0} simple_additions={simple:.0} patterns={patterns}"))
+    }
+
+    /// Blocks of these fills, of which the first is k: how many a second, and how long each takes beside a full one.
+    fn short(&mut self, full: Record, fills: [usize; 3]) {
+        let mut cases = vec![("encode".to_string(), None)];
+        cases.extend(MISSING_SHORT.map(|percent| (format!("close/{percent}%"), Some(percent))));
+        for (what, percent) in cases {
+            let mut of_full: Option<Vec<f64>> = None;
+            for fill in fills {
+                let record = full.with_fill(fill);
+                let name = format!("short/{what}/{}/W{}/fill{fill}", record.code(), record.w());
+                if !self.wants(&name) {
+                    continue;
+                }
+                let mut sent = Sending::new(record);
+                let (seconds, more) = match percent {
+                    None => (self.encode_seconds(&name, &mut sent), String::new()),
+                    Some(percent) => self.close_seconds(&name, &sent, percent),
+                };
+                let times = of_full
+                    .as_ref()
+                    .map_or(String::new(), |full| format!(" time={:.2} rust_time={:.2}", seconds[0] / full[0], seconds[1] / full[1]));
+                self.line(Line::new(record, name, "blocks/s", 1.0, &seconds), &format!("{times}{more}"));
+                if fill == full.k() {
+                    of_full = Some(seconds);
+                }
+            }
+        }
     }
 
     fn encoding_cold(&mut self, sent: &Sending) {
-        let code = sent.record.code();
-        let name = format!("cold/encode/{code}/W{}", sent.record.w());
+        let record = sent.record;
+        let name = format!("cold/encode/{}/W{}", record.code(), record.w());
         if !self.wants(&name) {
             return;
         }
@@ -246,8 +288,8 @@ impl Bench {
             s.information.copy_from_slice(&sent.information);
             s.parity.fill(0xA5);
         };
-        let seconds = cold(&mut blocks, self.rounds[0] * 4, prepare, &sides!(code, encode));
-        self.line(Line::new(code, name, "MB/s", sent.megabytes(), &seconds), "");
+        let seconds = cold(&mut blocks, self.rounds[0] * 4, prepare, &sides!(record, encode));
+        self.line(Line::new(record, name, "MB/s", sent.megabytes(), &seconds), "");
     }
 
     fn closing_cold(&mut self, sent: &Sending) {
@@ -267,9 +309,9 @@ impl Bench {
             let prepare =
                 |b: &mut Receiving, i: usize| b.hear(&word, &Random::new((percent << 16 | i) as u64).shuffled(code.n())[..missing]);
             let most = self.rounds[0] * 4;
-            let seconds = cold(&mut blocks, most, prepare, &sides!(code, close));
+            let seconds = cold(&mut blocks, most, prepare, &sides!(record, close));
             let more = format!(" patterns={}", most.min(blocks.len()));
-            self.line(Line::new(code, name(percent), "MB/s", sent.megabytes(), &seconds), &more);
+            self.line(Line::new(record, name(percent), "MB/s", sent.megabytes(), &seconds), &more);
         }
     }
 
@@ -333,8 +375,9 @@ fn main() {
         COLD >> 20
     );
     println!("  were written since these were.");
+    println!("short: blocks of which fill information symbols are sent; so much of m is missing among all that are sent. time: beside a full block.");
     #[cfg(earlier)]
-    println!("earlier: the archive of version {}, where that has the code; gain: ours to it.", earlier::version());
+    println!("earlier: the archive of version {}, where that has such blocks; gain: ours to it.", earlier::version());
     for &code in Code::ALL {
         let widths = if [Code::C1, Code::C2].contains(&code) { &[1, 16, 64, 1024][..] } else { &[16, 1024] };
         for (w, border) in [(1, 1), (16, 1), (1024, 1), (1024, 16)] {
@@ -356,5 +399,7 @@ fn main() {
         bench.encoding_cold(&sent);
         bench.closing_cold(&sent);
     }
+    let full = record(Code::C2, 1024);
+    bench.short(full, [full.k(), full.k() / 2, full.k() / 8]);
     bench.summary();
 }

@@ -86,7 +86,7 @@ struct Plan<const MOST: usize> {
 }
 
 impl<const MOST: usize> Plan<MOST> {
-    fn new(layout: &'static Layout, w: usize, marks: &[u8]) -> Plan<MOST> {
+    fn new(layout: &'static Layout, w: usize, fill: usize, marks: &[u8]) -> Plan<MOST> {
         let mut known = [Known::Heard; 3072];
         for (known, &mark) in known.iter_mut().zip(marks) {
             *known = if mark == 1 { Known::Heard } else { Known::Open };
@@ -94,7 +94,7 @@ impl<const MOST: usize> Plan<MOST> {
         Plan {
             layout,
             w,
-            positions: Positions::lay(layout),
+            positions: Positions::lay(layout, fill),
             known,
             steps: [(0, 0); 1024],
             turns: 0,
@@ -318,9 +318,17 @@ pub fn check_close(record: Record, symbols: &[u8], marks: &[u8], words: &[u64], 
     Ok(layout)
 }
 
-/// The verdict, from the marks afterwards.
-pub fn tell(ok: bool, marks: &[u8]) -> Found {
-    let count = |v| marks.iter().filter(|&&mark| mark == v).count();
+/// Sets symbols and marks of the idle positions: zero, and known for what follows.
+pub fn know_idle(record: Record, layout: &Layout, symbols: &mut [u8], marks: &mut [u8]) {
+    symbols[record.fill() * record.w()..layout.k * record.w()].fill(0);
+    marks[record.fill()..layout.k].fill(1);
+}
+
+/// The verdict, from the marks afterwards. Idle positions have mark 0 then, and don't count.
+pub fn tell(record: Record, layout: &Layout, ok: bool, marks: &mut [u8]) -> Found {
+    marks[record.fill()..layout.k].fill(0);
+    let counts = |marks: &[u8], v| marks.iter().filter(|&&mark| mark == v).count();
+    let count = |v| counts(&marks[..record.fill()], v) + counts(&marks[layout.k..], v);
     let (heard, filled, left) = (count(1), count(2), count(0));
     let verdict = match (ok, left) {
         (false, _) => Verdict::Inconsistent,
@@ -333,14 +341,15 @@ pub fn tell(ok: bool, marks: &[u8]) -> Found {
 /// Answers whether there is a solution.
 fn solve<const MOST: usize>(
     layout: &'static Layout,
-    w: usize,
+    record: Record,
     symbols: &mut [u8],
     marks: &mut [u8],
     words: &mut [u64],
     bytes: &mut [u8],
     tally: &mut impl Tally,
 ) -> bool {
-    let mut plan = Plan::<MOST>::new(layout, w, marks);
+    let w = record.w();
+    let mut plan = Plan::<MOST>::new(layout, w, record.fill(), marks);
     plan.peel(symbols, marks);
     if plan.put_off == 0 {
         finish(plan.hold(symbols), w, symbols, marks)
@@ -359,8 +368,9 @@ pub fn close<T: Tally>(
     tally: &mut T,
 ) -> Result<Found, Refusal> {
     let layout = check_close(record, symbols, marks, words, bytes)?;
-    let ok = by_most!(layout, solve(layout, record.w(), symbols, marks, words, bytes, tally));
+    know_idle(record, layout, symbols, marks);
+    let ok = by_most!(layout, solve(layout, record, symbols, marks, words, bytes, tally));
     words.fill(0);
     bytes.fill(0);
-    Ok(tell(ok, marks))
+    Ok(tell(record, layout, ok, marks))
 }

@@ -1,10 +1,10 @@
-//! Encode in plain Rust: the steps of `ccsds::encode`.
+//! Encode in plain Rust: the steps of `encoder::encode`.
 use crate::plain_gather::put_sum;
-use crate::plain_tables::{by_most, check_code, check_length, Layout, Positions};
+use crate::plain_tables::{by_most, check_code, check_fill, check_length, Layout, Positions};
 use lipvezor::{Record, Refusal};
 
-fn encode_rows<const MOST: usize>(layout: &'static Layout, w: usize, information: &[u8], parity: &mut [u8]) {
-    let positions = Positions::<MOST>::lay(layout);
+fn encode_rows<const MOST: usize>(layout: &'static Layout, w: usize, fill: usize, information: &[u8], parity: &mut [u8]) {
+    let positions = Positions::<MOST>::lay(layout, fill);
     let mut xs = [0; MOST];
     for s in 0..layout.q {
         for r in 0..layout.a {
@@ -18,9 +18,10 @@ fn encode_rows<const MOST: usize>(layout: &'static Layout, w: usize, information
 #[inline(never)]
 pub fn encode(record: Record, information: &[u8], parity: &mut [u8]) -> Result<(), Refusal> {
     let layout = check_code(record)?;
-    let w = record.w();
-    check_length(information.len(), layout.k * w)?;
+    check_fill(record, layout)?;
+    let (w, fill) = (record.w(), record.fill());
+    check_length(information.len(), fill * w)?;
     check_length(parity.len(), layout.m * w)?;
-    by_most!(layout, encode_rows(layout, w, information, parity));
+    by_most!(layout, encode_rows(layout, w, fill, information, parity));
     Ok(())
 }

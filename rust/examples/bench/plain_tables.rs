@@ -78,20 +78,26 @@ impl Layout {
     }
 }
 
-/// The positions of the check rows: the steps of `ccsds::positions`. An address belongs to the check rows of one remainder modulo a, its class; the
-/// table is laid out by class once, and then each position of a check row follows by one addition.
+/// The positions of the check rows that are sent: the steps of `encoder::positions`. An address belongs to the check rows of one remainder modulo a,
+/// its class; the table is laid out by class once, and then each position of a check row follows by one addition. Table rows that are idle as a
+/// whole are not laid out.
 pub struct Positions<const MOST: usize> {
     layout: &'static Layout,
+    fill: u32,
+    /// No table row is idle in part.
+    whole: bool,
     firsts: [[u32; MOST]; 8],
     ends: [[u32; MOST]; 8],
     counts: [usize; 8],
 }
 
 impl<const MOST: usize> Positions<MOST> {
-    pub fn lay(layout: &'static Layout) -> Positions<MOST> {
+    pub fn lay(layout: &'static Layout, fill: usize) -> Positions<MOST> {
         // entries beyond a class's count stay in range too
-        let mut all = Positions { layout, firsts: [[0; MOST]; 8], ends: [[u32::MAX; MOST]; 8], counts: [0; 8] };
-        for (addresses, end) in layout.table.iter().zip((layout.q..).step_by(layout.q)) {
+        let (firsts, ends) = ([[0; MOST]; 8], [[u32::MAX; MOST]; 8]);
+        let rows = fill.div_ceil(layout.q);
+        let mut all = Positions { layout, fill: fill as u32, whole: rows * layout.q == fill, firsts, ends, counts: [0; 8] };
+        for (addresses, end) in layout.table[..rows].iter().zip((layout.q..).step_by(layout.q)) {
             for &address in *addresses {
                 let r = address % layout.a;
                 let i = all.counts[r];
@@ -103,7 +109,7 @@ impl<const MOST: usize> Positions<MOST> {
         all
     }
 
-    /// The information positions of check row s * a + r, at the front of xs. Answers how many.
+    /// The information positions of check row s * a + r that are sent, at the front of xs. Answers how many.
     #[inline]
     pub fn information(&self, s: usize, r: usize, xs: &mut [u32; MOST]) -> usize {
         let q = self.layout.q as u32;
@@ -111,10 +117,22 @@ impl<const MOST: usize> Positions<MOST> {
             let further = first + s as u32;
             *x = if further < end { further } else { further - q };
         }
-        self.counts[r]
+        let n = self.counts[r];
+        if self.whole {
+            return n;
+        }
+        // of the last table row some are idle, and its entries, 8 at most, are the last of a class
+        let first = n.saturating_sub(8);
+        let mut kept = first;
+        for e in first..n {
+            let x = xs[e];
+            xs[kept] = x;
+            kept += usize::from(x < self.fill);
+        }
+        kept
     }
 
-    /// All positions of check row j, at the front of xs. Answers how many.
+    /// All positions of check row j that are sent, at the front of xs. Answers how many.
     #[inline]
     pub fn of_row(&self, j: usize, xs: &mut [u32; MOST]) -> usize {
         let n = self.information(j / self.layout.a, j % self.layout.a, xs);
@@ -145,6 +163,25 @@ pub fn check_label(record: Record) -> Result<(), Refusal> {
     Ok(())
 }
 
+/// Refusal 13.
+pub fn check_fill(record: Record, layout: &Layout) -> Result<(), Refusal> {
+    if record.fill() == 0 || record.fill() > layout.k {
+        return Err(Refusal::Fill);
+    }
+    Ok(())
+}
+
+/// Refusals 9 and 14.
+pub fn check_lwc(record: Record, layout: &Layout, lwc: usize) -> Result<(), Refusal> {
+    if lwc == 0 || lwc > layout.n() {
+        return Err(Refusal::Position);
+    }
+    if lwc > record.fill() && lwc <= layout.k {
+        return Err(Refusal::Idle);
+    }
+    Ok(())
+}
+
 /// Refusal 4.
 pub fn check_length(is: usize, asked: usize) -> Result<(), Refusal> {
     if is != asked {
@@ -153,10 +190,11 @@ pub fn check_length(is: usize, asked: usize) -> Result<(), Refusal> {
     Ok(())
 }
 
-/// Refusals 1 to 4, of a block.
+/// Refusals 1 to 3, 13 and 4, of a block.
 pub fn check_block(record: Record, symbols: &[u8], marks: &[u8]) -> Result<&'static Layout, Refusal> {
     let layout = check_code(record)?;
     check_label(record)?;
+    check_fill(record, layout)?;
     check_length(symbols.len(), layout.n() * record.w())?;
     check_length(marks.len(), layout.n())?;
     Ok(layout)

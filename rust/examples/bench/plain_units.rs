@@ -1,5 +1,5 @@
 //! Write and take in plain Rust: the steps of `ccsds::writer`, `ccsds::reader` and `block::take`.
-use crate::plain_tables::{check_block, check_code, check_label, check_length, Layout};
+use crate::plain_tables::{check_block, check_code, check_fill, check_label, check_length, check_lwc, Layout};
 use lipvezor::{Record, Refusal, Taken};
 
 /// An output that is written from the front.
@@ -39,12 +39,11 @@ impl Output<'_> {
 pub fn write(record: Record, lwc: usize, symbol: &[u8], out: &mut [u8]) -> Result<(), Refusal> {
     let layout = check_code(record)?;
     check_label(record)?;
+    check_fill(record, layout)?;
     let (k, n, w) = (layout.k, layout.n(), record.w());
     let value = if w >= 128 { 7 } else { 6 };
     check_length(out.len(), 8 + value + w)?;
-    if lwc == 0 || lwc > n {
-        return Err(Refusal::Position);
-    }
+    check_lwc(record, layout, lwc)?;
     if symbol.len() != w {
         return Err(Refusal::Symbol);
     }
@@ -202,9 +201,7 @@ fn admit(layout: &Layout, record: Record, parts: Parts, len: usize) -> Result<us
     if parts.lsc != record.lsc() || parts.protocol != record.protocol() {
         return Err(Refusal::Foreign);
     }
-    if parts.lwc == 0 || parts.lwc > layout.n() {
-        return Err(Refusal::Position);
-    }
+    check_lwc(record, layout, parts.lwc)?;
     if len - parts.symbol != record.w() {
         return Err(Refusal::Symbol);
     }

@@ -1,7 +1,7 @@
 //! Close by plain least-weight Gauss-Jordan elimination on packed rows with a digit for each position: in each turn the row of least weight among
 //! those without a pivot gets its lowest position as pivot, and is added to all other rows that have it.
 use crate::layers::Found;
-use crate::plain_close::{check_close, tell};
+use crate::plain_close::{check_close, know_idle, tell};
 use crate::plain_rows::{add, lowest, only, weight, System, Tally};
 use crate::plain_tables::Layout;
 use lipvezor::{Record, Refusal};
@@ -32,13 +32,13 @@ fn add_at(rows: &mut [u8], w: usize, js: &[usize], symbol: &[u8]) {
 }
 
 /// The equations of a block.
-fn build(system: &mut System, layout: &Layout, symbols: &[u8], marks: &[u8]) {
+fn build(system: &mut System, layout: &Layout, fill: usize, symbols: &[u8], marks: &[u8]) {
     let (w, stride) = (system.w, system.stride());
     system.rows.fill(0);
     system.rhs.fill(0);
     for (row, addresses) in layout.table.iter().enumerate() {
-        for step in 0..layout.q {
-            let x = row * layout.q + step;
+        for x in (row * layout.q..(row + 1) * layout.q).take_while(|&x| x < fill) {
+            let step = x % layout.q;
             let js = layout.check_rows(addresses, step);
             if marks[x] == 1 {
                 add_at(system.rhs, w, &js[..addresses.len()], &symbols[x * w..(x + 1) * w]);
@@ -130,10 +130,11 @@ pub fn close<T: Tally>(
     let w = record.w();
     let packed = layout.n() / 64;
     let mut system = System { rows: &mut words[..layout.m * (packed + 1)], rhs: &mut bytes[..], words: packed, w };
-    build(&mut system, layout, symbols, marks);
+    know_idle(record, layout, symbols, marks);
+    build(&mut system, layout, record.fill(), symbols, marks);
     eliminate(&mut system, layout.m, tally);
     let ok = settle(&system, symbols, marks);
     words.fill(0);
     bytes.fill(0);
-    Ok(tell(ok, marks))
+    Ok(tell(record, layout, ok, marks))
 }

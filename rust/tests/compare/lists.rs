@@ -1,6 +1,6 @@
 //! Lists of takes and closes, with everything compared after each call.
 use super::random::Random;
-use super::{ours, same, same_buffer, Difference, Stats};
+use super::{all_counted, ours, same, same_buffer, Difference, Stats};
 use crate::model::blocks::Block;
 use crate::model::refusals::Record;
 use crate::model::{Code, Fault};
@@ -74,6 +74,7 @@ impl Pair<'_> {
         let name = || format!("call {index}, close with {} words and {} bytes", words.len(), bytes.len());
         same(answer, self.model.close(words.len(), bytes.len()), || format!("{}: {}", self.list.label, name()))?;
         self.same_buffers(name)?;
+        all_counted(self.list.record, answer, || format!("{}: {}", self.list.label, name()))?;
         if answer.is_ok() {
             words_due.fill(0);
             bytes_due.fill(0);
@@ -91,7 +92,7 @@ impl Pair<'_> {
 }
 
 /// Work buffers of random content.
-fn dirty(words: usize, bytes: usize, dirt: u64) -> (Vec<u64>, Vec<u8>) {
+pub fn dirty(words: usize, bytes: usize, dirt: u64) -> (Vec<u64>, Vec<u8>) {
     let mut random = Random::new(dirt);
     let words = (0..words).map(|_| random.next()).collect();
     let mut content = vec![0; bytes];

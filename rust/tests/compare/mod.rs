@@ -3,8 +3,10 @@
 
 pub mod all_strings;
 pub mod cases;
+pub mod closes;
 pub mod drafts;
 pub mod encode;
+pub mod fills;
 pub mod lists;
 pub mod low_weight;
 pub mod ours;
@@ -16,6 +18,8 @@ pub mod unit_forms;
 pub mod units;
 
 use crate::model::answers::{Report, Taken, UnitParts, Verdict};
+use crate::model::refusals::Record;
+use crate::model::Code;
 use random::Random;
 use std::collections::BTreeMap;
 use std::fmt;
@@ -50,6 +54,13 @@ pub fn same_buffer<T: PartialEq + fmt::Debug>(archive: &[T], model: &[T], what: 
         Some(i) => format!("{}, at {i}: archive {:?}, model {:?}", what(), archive[i], model[i]),
         None => format!("{}: archive has {}, model {}", what(), archive.len(), model.len()),
     }))
+}
+
+/// A verdict counts every position but the idle ones.
+pub fn all_counted(record: Record, answer: Result<Report, u8>, what: impl FnOnce() -> String) -> Result<(), Difference> {
+    let Ok(Report { heard, filled, left, .. }) = answer else { return Ok(()) };
+    let code = Code::of_number(record.code).expect("of another code there is no verdict");
+    same(heard + filled + left, record.fill + code.m, || format!("{}, sum of the counts", what()))
 }
 
 /// The largest number of a refusal.

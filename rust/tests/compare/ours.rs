@@ -7,8 +7,8 @@ use lipvezor::Refusal;
 const UNKNOWN: &str = "an answer that the tests don't know";
 
 pub fn record(record: Record) -> lipvezor::Record {
-    let Record { code, w, protocol, lsc } = record;
-    lipvezor::Record::new(lipvezor::Code::from_number(code), w).with_protocol(protocol).with_lsc(lsc)
+    let Record { code, w, protocol, lsc, fill } = record;
+    lipvezor::Record::new(lipvezor::Code::from_number(code), w).with_protocol(protocol).with_lsc(lsc).with_fill(fill)
 }
 
 pub fn taken(taken: lipvezor::Taken) -> Taken {

@@ -16,7 +16,7 @@ pub enum Between {
 }
 
 pub fn list(case: &Case, between: Between, random: &mut Random) -> List {
-    let record = Record { code: case.code.number, w: case.w, protocol: random.below(8), lsc: 1 + random.below(65534) };
+    let record = Record { code: case.code.number, w: case.w, protocol: random.below(8), lsc: 1 + random.below(65534), fill: case.fill };
     let mut script = Script { case, record, between, heard: Vec::new(), calls: Vec::new(), random };
     script.units();
     script.close();
@@ -62,7 +62,7 @@ impl Script<'_> {
     /// What follows a verdict: more closes, symbols that were lost, right or wrong, and a verdict again.
     fn late(&mut self) {
         for _ in 0..self.random.below(3) {
-            let lost: Vec<usize> = (0..self.case.code.n).filter(|&i| self.case.lost[i]).collect();
+            let lost: Vec<usize> = (0..self.case.code.n).filter(|&i| self.case.lost[i] && !self.case.is_idle(i)).collect();
             match self.random.below(3) {
                 _ if lost.is_empty() => {}
                 0 => {
@@ -148,6 +148,9 @@ impl Script<'_> {
     fn useless(&mut self, position: usize) -> Vec<u8> {
         let mut draft = self.draft(position);
         let code = self.case.code;
+        if self.case.fill < code.k && self.random.chance(0.15) {
+            return self.idle();
+        }
         match self.random.below(17) {
             0 | 1 => {}
             2 | 3 => return self.altered(position),
@@ -176,6 +179,16 @@ impl Script<'_> {
                 return unit;
             }
         }
+        draft.bytes()
+    }
+
+    /// The unit of an idle position, all zero or not, of any length.
+    fn idle(&mut self) -> Vec<u8> {
+        let (fill, k) = (self.case.fill, self.case.code.k);
+        let position = [fill, k - 1, fill + self.random.below(k - fill)][self.random.below(3)];
+        let mut draft = self.draft(position);
+        draft.symbol[self.random.below(self.case.w)] ^= self.random.below(2) as u8;
+        draft.symbol.resize((self.case.w + self.random.below(3)).saturating_sub(1), 0);
         draft.bytes()
     }
 

@@ -1,7 +1,7 @@
 //! The comparisons of blocks, each from a seed.
 use super::random::Random;
 use super::scripts::{self, Between};
-use super::{cases, lists, Difference, Stats};
+use super::{cases, closes, lists, Difference, Stats};
 use crate::model::{Code, Fault};
 use std::time::Instant;
 
@@ -25,13 +25,44 @@ pub fn chosen_blocks(code: &'static Code, fault: Fault, seed: u64) -> Result<Sta
     Ok(stats)
 }
 
-/// Random losses until an instant.
+/// The chosen losses of blocks of chosen fills, each closed once, with anything at the idle positions.
+pub fn short_closes(code: &'static Code, fault: Fault, seed: u64) -> Result<Stats, Difference> {
+    let mut random = Random::new(seed);
+    let mut stats = Stats::default();
+    for fill in cases::chosen_fills(code) {
+        for (index, loss) in cases::chosen_short(code, fill, &mut random).iter().enumerate() {
+            let w = if index % 40 == 17 { 1024 } else { WIDTHS[index % 4] };
+            let case = loss.sent_short(code, w, fill, &mut random);
+            stats += closes::compare(&case, fault, &mut random)?;
+        }
+    }
+    Ok(stats)
+}
+
+/// One in so many of them as lists of calls.
+pub fn short_lists(code: &'static Code, fault: Fault, seed: u64) -> Result<Stats, Difference> {
+    let mut random = Random::new(seed);
+    let mut stats = Stats::default();
+    let step = if code.n < 1000 { 3 } else { 9 };
+    for fill in cases::chosen_fills(code) {
+        for (index, loss) in cases::chosen_short(code, fill, &mut random).iter().enumerate().skip(fill % step).step_by(step) {
+            let w = if index == 0 { 1024 } else { WIDTHS[index % 4] };
+            let case = loss.sent_short(code, w, fill, &mut random);
+            stats += lists::compare(&scripts::list(&case, Between::Harmless, &mut random), fault)?;
+        }
+    }
+    Ok(stats)
+}
+
+/// Random losses until an instant, of full blocks and of short ones.
 pub fn random_blocks(code: &'static Code, fault: Fault, seed: u64, until: Instant) -> Result<Stats, Difference> {
     let mut random = Random::new(seed);
     let mut stats = Stats::default();
     while Instant::now() < until {
         let w = if random.chance(0.01) { 1023 + random.below(2) } else { WIDTHS[random.below(4)] };
-        let case = cases::any(code, &mut random).sent(code, w, &mut random);
+        let fill = if random.chance(0.4) { code.k } else { cases::any_fill(code, &mut random) };
+        let case = cases::any_short(code, fill, &mut random).sent_short(code, w, fill, &mut random);
+        stats += closes::compare(&case, fault, &mut random)?;
         let between = if random.chance(0.5) { Between::Harmless } else { Between::Anything };
         stats += lists::compare(&scripts::list(&case, between, &mut random), fault)?;
     }

@@ -11,9 +11,16 @@ use crate::model::{codes, units, Code, Fault};
 /// Each byte of a few units with each value; each unit cut off at each length, and longer.
 pub fn altered(fault: Fault, random: &mut Random) -> Result<Stats, Difference> {
     let mut stats = Stats::default();
-    for (code, w) in [(&codes::C1, 3), (&codes::C2, 1), (&codes::C4, 2), (&codes::C5, 1), (&codes::C7, 200), (&codes::C8, 1)] {
-        let mut reader = Reader::new(code, w, fault);
-        for lwc in [1, code.k, code.k + 1, code.n] {
+    for (code, w, fill) in [
+        (&codes::C1, 3, 512),
+        (&codes::C2, 1, 2048),
+        (&codes::C4, 2, 300),
+        (&codes::C5, 1, 1),
+        (&codes::C7, 200, 512),
+        (&codes::C8, 1, 2047),
+    ] {
+        let mut reader = Reader::short(code, w, fill, fault);
+        for lwc in [1, fill, code.k + 1, code.n] {
             let mut plain = reader.draft(lwc, random);
             // Where a larger length takes in the symbol, a fifth number begins with 80.
             plain.symbol[0] = 0x80;
@@ -55,9 +62,9 @@ fn each_value(reader: &mut Reader, unit: &[u8], places: usize) -> Result<(), Dif
 pub fn unexpected(fault: Fault, random: &mut Random) -> Result<Stats, Difference> {
     let mut stats = Stats::default();
     for code in codes::ALL {
-        for w in [16, 127, 128, 129] {
-            let mut reader = Reader::new(code, w, fault);
-            let unit = reader.draft(code.k, random).bytes();
+        for (w, fill) in [(16, code.k), (127, code.k / 2), (128, code.k), (129, 3)] {
+            let mut reader = Reader::short(code, w, fill, fault);
+            let unit = reader.draft(fill, random).bytes();
             reader.compare(&unit)?;
             each_value(&mut reader, &unit, 16)?;
             stats += reader.stats;
@@ -159,8 +166,15 @@ pub fn counts(fault: Fault, random: &mut Random) -> Result<Stats, Difference> {
 /// Random units, from readable to nonsense.
 pub fn random_units(rounds: usize, fault: Fault, random: &mut Random) -> Result<Stats, Difference> {
     let mut stats = Stats::default();
-    for (code, w) in [(&codes::C1, 1), (&codes::C2, 2), (&codes::C4, 16), (&codes::C5, 3), (&codes::C7, 2), (&codes::C8, 1)] {
-        let mut reader = Reader::new(code, w, fault);
+    for (code, w, fill) in [
+        (&codes::C1, 1, 512),
+        (&codes::C2, 2, 1500),
+        (&codes::C4, 16, 512),
+        (&codes::C5, 3, 2048),
+        (&codes::C7, 2, 100),
+        (&codes::C8, 1, 2048),
+    ] {
+        let mut reader = Reader::short(code, w, fill, fault);
         for _ in 0..rounds {
             let unit = any_unit(&reader, code, w, random);
             reader.compare(&unit)?;

@@ -30,10 +30,15 @@ pub struct Reader {
 }
 
 impl Reader {
+    /// With a full block.
     pub fn new(code: &Code, w: usize, fault: Fault) -> Reader {
+        Reader::short(code, w, code.k, fault)
+    }
+
+    pub fn short(code: &Code, w: usize, fill: usize, fault: Fault) -> Reader {
         let (symbols, marks) = (vec![0; code.n * w], vec![0; code.n]);
         Reader {
-            record: Record { code: code.number, w, protocol: 5, lsc: 1000 },
+            record: Record { code: code.number, w, protocol: 5, lsc: 1000, fill },
             fault,
             expected_symbols: symbols.clone(),
             expected_marks: marks.clone(),
@@ -43,9 +48,9 @@ impl Reader {
         }
     }
 
-    /// A unit that the block takes.
+    /// A unit that the block takes, if the LWC is that of a symbol that is sent.
     pub fn draft(&self, lwc: usize, random: &mut Random) -> Draft {
-        let Record { code, w, protocol, lsc } = self.record;
+        let Record { code, w, protocol, lsc, .. } = self.record;
         let mut symbol = vec![0; w];
         random.fill(&mut symbol);
         Draft::proper(Code::of_number(code).unwrap(), w, protocol, lsc, lwc, &symbol)
@@ -70,23 +75,39 @@ impl Reader {
 pub fn written(code: &'static Code, fault: Fault, random: &mut Random) -> Result<Stats, Difference> {
     let mut stats = Stats::default();
     for w in WIDTHS {
-        let step = if w < 1000 { 1 } else { 97 };
-        let mut reader = Reader::new(code, w, fault);
-        for lwc in (0..=code.n + 1).step_by(step).chain([code.k, code.k + 1, code.n, code.n + 1, 65535, 65536 + 1]) {
-            let record = Record { code: code.number, w, protocol: random.below(8), lsc: 1 + random.below(65534) };
-            let unit = write(record, lwc, fault, random)?;
-            let own = write(Record { protocol: 5, lsc: 1000, ..record }, lwc, fault, random)?;
-            reader.compare(&unit)?;
-            reader.compare(&own)?;
-            if lwc > 0 && lwc <= code.n {
-                let parts = ours::read(&unit).map_err(|number| Difference(format!("a written unit: {number}")))?;
-                let said = [parts.protocol, parts.lsc, parts.lwc, parts.count, unit.len() - parts.symbol];
-                same(said, [record.protocol, record.lsc, lwc, 1, w], || format!("read of written {unit:02X?}"))?;
-            }
-        }
-        stats += reader.stats;
+        stats += written_of(code, w, code.k, fault, random)?;
     }
     Ok(stats)
+}
+
+/// The same of short blocks. Of an idle position nothing is written, and what would be its unit is not taken.
+pub fn written_short(code: &'static Code, fault: Fault, random: &mut Random) -> Result<Stats, Difference> {
+    let mut stats = Stats::default();
+    for (fill, w) in [(1, 2), (code.q + 1, 16), (code.k / 2, 1023), (code.k - 1, 3)] {
+        stats += written_of(code, w, fill, fault, random)?;
+    }
+    Ok(stats)
+}
+
+fn written_of(code: &'static Code, w: usize, fill: usize, fault: Fault, random: &mut Random) -> Result<Stats, Difference> {
+    let step = if w < 1000 { 1 } else { 97 };
+    let mut reader = Reader::short(code, w, fill, fault);
+    let borders = [fill, fill + 1, code.k, code.k + 1, code.n, code.n + 1, 65535, 65536 + 1];
+    for lwc in (0..=code.n + 1).step_by(step).chain(borders) {
+        let record = Record { code: code.number, w, protocol: random.below(8), lsc: 1 + random.below(65534), fill };
+        let unit = write(record, lwc, fault, random)?;
+        let own = write(Record { protocol: 5, lsc: 1000, ..record }, lwc, fault, random)?;
+        reader.compare(&unit)?;
+        reader.compare(&own)?;
+        if (1..=fill).contains(&lwc) || (code.k + 1..=code.n).contains(&lwc) {
+            let parts = ours::read(&unit).map_err(|number| Difference(format!("a written unit: {number}")))?;
+            let said = [parts.protocol, parts.lsc, parts.lwc, parts.count, unit.len() - parts.symbol];
+            same(said, [record.protocol, record.lsc, lwc, 1, w], || format!("read of written {unit:02X?}"))?;
+        } else if lwc <= code.n {
+            reader.compare(&reader.draft(lwc, random).bytes())?;
+        }
+    }
+    Ok(reader.stats)
 }
 
 /// Writes random symbols of these LWCs. The LSC goes from 1 to 65534 as the LWC goes from 1 to n; the protocol ID goes round.
@@ -94,7 +115,7 @@ pub fn written_at(code: &Code, w: usize, lwcs: impl IntoIterator<Item = usize>, 
     let mut stats = Stats::default();
     for lwc in lwcs {
         let lsc = 1 + (lwc - 1) * 65533 / (code.n - 1);
-        let unit = write(Record { code: code.number, w, protocol: (lwc + w) % 8, lsc }, lwc, Fault::None, random)?;
+        let unit = write(Record { code: code.number, w, protocol: (lwc + w) % 8, lsc, fill: code.k }, lwc, Fault::None, random)?;
         stats.count_read(units::read(&unit, Fault::None));
     }
     Ok(stats)
@@ -135,21 +156,21 @@ fn unlike_neighbours(length: usize, random: &mut Random) -> Vec<u8> {
     (0..length).map(|_| next()).collect()
 }
 
-/// Shows every symbol of a block, and what is past its ends.
-pub fn shown(code: &Code, w: usize, fault: Fault, random: &mut Random) -> Result<Stats, Difference> {
-    let mut information = vec![0; code.k * w];
+/// Shows every symbol of a block of so many information symbols, its idle ones, and what is past its ends.
+pub fn shown(code: &Code, w: usize, fill: usize, fault: Fault, random: &mut Random) -> Result<Stats, Difference> {
+    let mut information = vec![0; fill * w];
     let mut parity = vec![0; code.m * w];
     random.fill(&mut information);
     random.fill(&mut parity);
     let mut stats = Stats::default();
     for lwc in (0..=code.n + 2).chain([65535, 65536, 65537, usize::MAX]) {
         // Protocol ID and LSC may be any.
-        let record = Record { code: code.number, w, protocol: random.below(16), lsc: random.below(70_000) };
+        let record = Record { code: code.number, w, protocol: random.below(16), lsc: random.below(70_000), fill };
         for length in [w, w - 1, w + 1] {
             let mut out = vec![0xEE; length];
             let mut expected = out.clone();
             let answer = ours::show(record, &information, &parity, lwc, &mut out);
-            let name = || format!("show of C{}, W {w}, LWC {lwc}, to {length} bytes", code.number);
+            let name = || format!("show of C{}, W {w}, fill {fill}, LWC {lwc}, to {length} bytes", code.number);
             same(answer, model::show(record, &information, &parity, lwc, &mut expected, fault), name)?;
             same_buffer(&out, &expected, name)?;
             stats.shown += 1;

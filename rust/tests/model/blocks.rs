@@ -15,7 +15,8 @@ pub struct Block {
 
 impl Block {
     pub fn open(record: Record, fault: Fault) -> Result<Block, u8> {
-        let code = record.checked()?;
+        let code = record.code_to_label()?;
+        record.fill_and_length(code, true, fault)?;
         Ok(Block { record, code, fault, kept: vec![None; code.n], symbols: vec![0; code.n * record.w], marks: vec![0; code.n] })
     }
 
@@ -37,7 +38,7 @@ impl Block {
     pub fn close(&mut self, words: usize, bytes: usize) -> Result<Report, u8> {
         refuse_if(words != self.code.work_words() || bytes != self.code.m * self.record.w, 4)?;
         let heard: Vec<Option<&[u8]>> = self.kept.iter().map(Option::as_deref).collect();
-        let outcome = closing::close(self.code, self.record.w, &heard, self.fault);
+        let outcome = closing::close(self.record, self.code, &heard, self.fault);
         self.symbols = outcome.symbols;
         self.marks = outcome.marks;
         Ok(outcome.report)

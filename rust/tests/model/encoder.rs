@@ -1,12 +1,12 @@
 //! The encoder of 4.2.1, which accumulates.
 use super::{Code, Fault};
 
-/// The parity of k symbols of w bytes.
+/// The parity of up to k symbols of w bytes; the others up to k are zero.
 pub fn parity(code: &Code, w: usize, information: &[u8], fault: Fault) -> Vec<u8> {
     // Step 1.
     let mut p = vec![0; code.m * w];
-    // Steps 2 to 4: the first symbol of each q at the addresses of its row, each next one a further.
-    for (group, row) in information.chunks_exact(code.q * w).zip(code.table) {
+    // Steps 2 to 4: the first symbol of each q at the addresses of its row, each next one a further. Zero adds nothing.
+    for (group, row) in information.chunks(code.q * w).zip(code.table) {
         let mut addresses = row.to_vec();
         for u in group.chunks_exact(w) {
             for address in &mut addresses {
@@ -27,9 +27,12 @@ pub fn parity(code: &Code, w: usize, information: &[u8], fault: Fault) -> Vec<u8
     p
 }
 
-/// The codeword of k symbols of w bytes.
+/// The codeword of up to k symbols of w bytes; the others up to k are zero.
 pub fn codeword(code: &Code, w: usize, information: &[u8]) -> Vec<u8> {
-    [information, &parity(code, w, information, Fault::None)].concat()
+    let mut word = information.to_vec();
+    word.resize(code.k * w, 0);
+    word.extend(parity(code, w, information, Fault::None));
+    word
 }
 
 /// The positions at which the codeword of these single information symbols, all of one value, isn't zero.

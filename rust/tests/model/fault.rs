@@ -1,4 +1,5 @@
-//! The errors seen elsewhere, wrong readings of extensions, wrong writings of units and wrong showings. The model can be given each on purpose.
+//! The errors seen elsewhere, wrong readings of extensions, wrong writings of units, wrong showings and wrong short blocks. The model can be given
+//! each on purpose.
 
 #[derive(Clone, Copy, Debug, Default, PartialEq, Eq)]
 pub enum Fault {
@@ -38,6 +39,20 @@ pub enum Fault {
     PositionBeforeLength,
     /// Show copies as much of the symbol as the output holds.
     ShownToAnyOutput,
+    /// Idle symbols may be any for close.
+    IdleUnknown,
+    /// Close counts idle positions as left.
+    IdleCountedAsLeft,
+    /// Close takes the symbol of an idle position with mark 1 as heard.
+    IdleMarkBelieved,
+    /// Positions fill to k are idle.
+    PositionKIdle,
+    /// Positions fill - 1 to k - 1 are idle.
+    LastSentIdle,
+    /// 13 is tried after 4.
+    FillAfterLength,
+    /// 14 is tried after 10.
+    IdleAfterSymbol,
 }
 
 impl Fault {

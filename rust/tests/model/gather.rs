@@ -14,7 +14,7 @@ pub fn output(input: &[u8]) -> String {
 fn run(input: &[u8]) -> Option<String> {
     let (header, mut rest) = input.split_first_chunk::<6>()?;
     let [code, w_high, w_low, protocol, lsc_high, lsc_low] = header.map(usize::from);
-    let record = Record { code, w: w_high * 256 + w_low, protocol, lsc: lsc_high * 256 + lsc_low };
+    let record = Record { code, w: w_high * 256 + w_low, protocol, lsc: lsc_high * 256 + lsc_low, fill: codes::C1.k };
     let mut block = Block::open(record, Fault::None).ok()?;
     if code != codes::C1.number || record.w > WIDEST {
         return None;

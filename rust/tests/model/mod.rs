@@ -10,6 +10,7 @@ pub mod codes;
 pub mod encoder;
 pub mod fault;
 pub mod gather;
+pub mod generator;
 pub mod refusals;
 pub mod solver;
 #[path = "../../support/tables.rs"]

@@ -6,23 +6,37 @@ pub struct Solution {
     pub failed: bool,
     /// Some unknown has no pivot.
     pub free: bool,
-    /// For each missing position, in order, its value if the equations determine it. Of no meaning where one fails.
+    /// For each position, its value if it is missing and the equations determine it. Of no meaning where one fails.
     pub values: Vec<Option<Vec<u8>>>,
 }
 
-struct Equation {
-    coefficients: Vec<u8>,
-    right: Vec<u8>,
+pub struct Equation {
+    pub coefficients: Vec<u8>,
+    pub right: Vec<u8>,
 }
 
-/// Each row lists the positions of symbols whose sum is zero; each known symbol has w bytes.
-pub fn solve(rows: &[Vec<usize>], w: usize, known: &[Option<&[u8]>]) -> Solution {
-    let missing: Vec<usize> = (0..known.len()).filter(|&i| known[i].is_none()).collect();
-    let mut equations = equations(rows, w, known, &missing);
+impl Equation {
+    pub fn add(&mut self, other: &Equation) {
+        add(&mut self.coefficients, &other.coefficients);
+        add(&mut self.right, &other.right);
+    }
 
+    /// Without unknowns, its right-hand side isn't zero.
+    pub fn fails(&self) -> bool {
+        self.right.iter().any(|&b| b != 0)
+    }
+
+    /// The value of its only unknown, if it has just one.
+    pub fn alone(&self) -> Option<Vec<u8>> {
+        (self.coefficients.iter().filter(|&&c| c != 0).count() == 1).then(|| self.right.clone())
+    }
+}
+
+/// Brings equations to reduced form. Answers the pivots' columns, in rising order: the first equations have one each, the others no unknowns.
+pub fn eliminate(equations: &mut [Equation], columns: usize) -> Vec<usize> {
     // The equations before `settled` have a pivot each; the others are zero in all columns done so far.
     let mut pivots = Vec::new();
-    for column in 0..missing.len() {
+    for column in 0..columns {
         let settled = pivots.len();
         let Some(found) = (settled..equations.len()).find(|&e| equations[e].coefficients[column] != 0) else { continue };
         equations.swap(settled, found);
@@ -36,18 +50,20 @@ pub fn solve(rows: &[Vec<usize>], w: usize, known: &[Option<&[u8]>]) -> Solution
         }
         pivots.push(column);
     }
+    pivots
+}
 
-    let mut values = vec![None; missing.len()];
-    for (equation, &column) in equations.iter().zip(&pivots) {
-        if equation.coefficients.iter().filter(|&&c| c != 0).count() == 1 {
-            values[column] = Some(equation.right.clone());
-        }
+/// Each row lists the positions of symbols whose sum is zero; each known symbol has w bytes.
+pub fn solve(rows: &[Vec<usize>], w: usize, known: &[Option<&[u8]>]) -> Solution {
+    let missing: Vec<usize> = (0..known.len()).filter(|&i| known[i].is_none()).collect();
+    let mut equations = equations(rows, w, known, &missing);
+    let pivots = eliminate(&mut equations, missing.len());
+    let (with_pivot, without) = equations.split_at(pivots.len());
+    let mut values = vec![None; known.len()];
+    for (equation, &column) in with_pivot.iter().zip(&pivots) {
+        values[missing[column]] = equation.alone();
     }
-    Solution {
-        failed: equations[pivots.len()..].iter().any(|e| e.right.iter().any(|&b| b != 0)),
-        free: pivots.len() < missing.len(),
-        values,
-    }
+    Solution { failed: without.iter().any(Equation::fails), free: pivots.len() < missing.len(), values }
 }
 
 fn equations(rows: &[Vec<usize>], w: usize, known: &[Option<&[u8]>], missing: &[usize]) -> Vec<Equation> {

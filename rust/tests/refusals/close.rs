@@ -1,34 +1,33 @@
-//! Close: 1 to 4 and 11.
-use crate::compare::ours;
+//! Close: 1, 2, 3, 13, 4 and 11.
+use crate::compare::cases::any_fill;
 use crate::compare::random::Random;
-use crate::edits::{check_all, code_edits, edit, label_edits, length_edits, pattern, plain_record, shape, HasRecord, Off};
+use crate::compare::{closes, ours};
+use crate::edits::{check_all, code_edits, edit, fill_edits, label_edits, length_edits, pattern, HasNumbers, Numbers, Off, Shape};
 use crate::model::refusals::Record;
 use crate::model::{calls as model, codes, encoder, Fault};
 
 #[derive(Clone)]
 struct Input {
-    record: Record,
+    numbers: Numbers,
     symbols: Off,
     marks: Off,
     words: Off,
     bytes: Off,
-    /// Marks at the first, the middle and the last position.
-    first: Option<u8>,
-    middle: Option<u8>,
-    last: Option<u8>,
+    /// Marks at the first position, at those before, at and after the fill, at the last before the parity and the first of it, and at the last one.
+    marked: [Option<u8>; 7],
 }
 
-impl HasRecord for Input {
-    fn record(&mut self) -> &mut Record {
-        &mut self.record
+impl HasNumbers for Input {
+    fn numbers(&mut self) -> &mut Numbers {
+        &mut self.numbers
     }
 }
 
-/// A codeword with a few marks of 0 and 2, at which the bytes are others.
+/// A codeword with a few marks of 0 and 2, at which the bytes are others; so are some at idle positions, with mark 1, too.
 fn block(input: &Input) -> (Vec<u8>, Vec<u8>) {
-    let (code, w) = shape(&input.record);
+    let Shape { code, w, fill } = input.numbers.shape();
     let mut random = Random::new(3);
-    let mut information = vec![0; code.k * w];
+    let mut information = vec![0; fill * w];
     random.fill(&mut information);
     let word = encoder::codeword(code, w, &information);
 
@@ -40,13 +39,14 @@ fn block(input: &Input) -> (Vec<u8>, Vec<u8>) {
     for _ in 0..60 {
         let position = random.below(code.n);
         if let Some(mark) = marks.get_mut(position) {
-            *mark = [0, 2][random.below(2)];
+            *mark = if (fill..code.k).contains(&position) { random.below(3) } else { 2 * random.below(2) } as u8;
         }
         if let Some(symbol) = symbols.get_mut(position * w..(position + 1) * w) {
             random.fill(symbol);
         }
     }
-    for (place, mark) in [(0, input.first), (code.n / 2, input.middle), (code.n - 1, input.last)] {
+    let places = [0, fill - 1, fill, fill + 1, code.k - 1, code.k, code.n - 1];
+    for (place, mark) in places.into_iter().zip(input.marked) {
         if let (Some(place), Some(mark)) = (marks.get_mut(place), mark) {
             *place = mark;
         }
@@ -55,9 +55,10 @@ fn block(input: &Input) -> (Vec<u8>, Vec<u8>) {
 }
 
 /// Closes in the archive and in the model.
-fn compare(record: Record, mut symbols: Vec<u8>, mut marks: Vec<u8>, words: Off, bytes: Off, label: &str) -> u8 {
-    let (code, w) = shape(&record);
-    let (mut words, mut bytes) = (pattern(code.work_words(), words), pattern(code.m * w, bytes));
+fn compare(input: &Input, label: &str) -> u8 {
+    let (record, Shape { code, w, .. }) = (input.numbers.record(), input.numbers.shape());
+    let (mut symbols, mut marks) = block(input);
+    let (mut words, mut bytes) = (pattern(code.work_words(), input.words), pattern(code.m * w, input.bytes));
     let mut expected = (symbols.clone(), marks.clone(), words.clone(), bytes.clone());
 
     let answer = ours::close(record, &mut symbols, &mut marks, &mut words, &mut bytes);
@@ -69,38 +70,35 @@ fn compare(record: Record, mut symbols: Vec<u8>, mut marks: Vec<u8>, words: Off,
 
 #[test]
 fn close() {
-    let plain = Input {
-        record: plain_record(),
-        symbols: Off::Exact,
-        marks: Off::Exact,
-        words: Off::Exact,
-        bytes: Off::Exact,
-        first: None,
-        middle: None,
-        last: None,
-    };
+    let plain =
+        Input { numbers: Numbers::PLAIN, symbols: Off::Exact, marks: Off::Exact, words: Off::Exact, bytes: Off::Exact, marked: [None; 7] };
     let mut edits = code_edits();
     edits.extend(label_edits());
+    edits.extend(fill_edits());
     edits.extend(length_edits!(symbols));
     edits.extend(length_edits!(marks));
     edits.extend(length_edits!(words));
     edits.extend(length_edits!(bytes));
     edits.extend([
-        edit(0, "first mark 2", |i: &mut Input| i.first = Some(2)),
-        edit(0, "last mark 2", |i: &mut Input| i.last = Some(2)),
-        edit(0, "first mark 0", |i: &mut Input| i.first = Some(0)),
-        edit(11, "first mark 3", |i: &mut Input| i.first = Some(3)),
-        edit(11, "middle mark 3", |i: &mut Input| i.middle = Some(3)),
-        edit(11, "last mark 3", |i: &mut Input| i.last = Some(3)),
-        edit(11, "last mark 255", |i: &mut Input| i.last = Some(255)),
+        edit(0, "first mark 2", |i: &mut Input| i.marked[0] = Some(2)),
+        edit(0, "first mark 0", |i: &mut Input| i.marked[0] = Some(0)),
+        edit(11, "first mark 3", |i: &mut Input| i.marked[0] = Some(3)),
+        edit(11, "mark 3 before the fill", |i: &mut Input| i.marked[1] = Some(3)),
+        edit(0, "mark 2 at the fill", |i: &mut Input| i.marked[2] = Some(2)),
+        edit(0, "mark 1 at the fill", |i: &mut Input| i.marked[2] = Some(1)),
+        edit(11, "mark 3 at the fill", |i: &mut Input| i.marked[2] = Some(3)),
+        edit(11, "mark 255 after the fill", |i: &mut Input| i.marked[3] = Some(255)),
+        edit(0, "mark 1 at k - 1", |i: &mut Input| i.marked[4] = Some(1)),
+        edit(11, "mark 3 at k - 1", |i: &mut Input| i.marked[4] = Some(3)),
+        edit(11, "mark 3 at k", |i: &mut Input| i.marked[5] = Some(3)),
+        edit(0, "last mark 2", |i: &mut Input| i.marked[6] = Some(2)),
+        edit(11, "last mark 3", |i: &mut Input| i.marked[6] = Some(3)),
+        edit(11, "last mark 255", |i: &mut Input| i.marked[6] = Some(255)),
     ]);
-    check_all(&plain, &edits, |input, label| {
-        let (symbols, marks) = block(input);
-        compare(input.record, symbols, marks, input.words, input.bytes, label)
-    });
+    check_all(&plain, &edits, compare);
 }
 
-/// Blocks that no list of calls leaves: any symbol bytes, marks of 0, 1 and 2 in any mixture.
+/// Blocks that no list of calls leaves: any symbol bytes, marks of 0, 1 and 2 in any mixture, idle positions or not.
 #[test]
 fn close_of_any_buffers() {
     let mut random = Random::new(5);
@@ -111,12 +109,13 @@ fn close_of_any_buffers() {
         } else {
             [&codes::C1, &codes::C4, &codes::C7][round % 3]
         };
-        let record = Record { code: code.number, w: 1 + random.below(4), protocol: 1, lsc: 1 };
+        let fill = if round % 2 == 0 { code.k } else { any_fill(code, &mut random) };
+        let record = Record { code: code.number, w: 1 + random.below(4), protocol: 1, lsc: 1, fill };
         let mut symbols = vec![0; code.n * record.w];
         random.fill(&mut symbols);
         // From some position on nothing is heard; with few heard, codewords may agree.
         let end = random.below(code.n);
         let marks = (0..code.n).map(|position| if position < end { random.below(3) as u8 } else { 2 * random.below(2) as u8 }).collect();
-        compare(record, symbols, marks, Off::Exact, Off::Exact, &format!("round {round}"));
+        closes::close(record, symbols, marks, &format!("round {round}"), Fault::None, random.next()).unwrap();
     }
 }

@@ -1,42 +1,48 @@
-//! Encode: 1, 2 and 4. Show: 1, 2, 4 and 9. Write: 1 to 4, 9 and 10.
+//! Encode: 1, 2, 13 and 4. Show: 1, 2, 13, 4, 9 and 14. Write: 1, 2, 3, 13, 4, 9, 14 and 10.
 use crate::compare::ours;
-use crate::edits::{check_all, code_edits, edit, label_edits, length_edits, pattern, plain_record, shape, Edit, HasRecord, Off};
-use crate::model::refusals::Record;
+use crate::edits::{
+    check_all, code_edits, edit, fill_edits, idle_edits, label_edits, length_edits, pattern, position_edits, Edit, HasLwc, HasNumbers, Lwc,
+    Numbers, Off, Shape,
+};
 use crate::model::{calls as model, units, Fault};
 
 #[derive(Clone)]
 struct Input {
-    record: Record,
+    numbers: Numbers,
     information: Off,
     parity: Off,
     symbol: Off,
     out: Off,
-    /// LWC, of the code's n and k.
-    lwc: fn(usize, usize) -> usize,
+    lwc: Lwc,
 }
 
-impl HasRecord for Input {
-    fn record(&mut self) -> &mut Record {
-        &mut self.record
+impl HasNumbers for Input {
+    fn numbers(&mut self) -> &mut Numbers {
+        &mut self.numbers
+    }
+}
+
+impl HasLwc for Input {
+    fn lwc(&mut self) -> &mut Lwc {
+        &mut self.lwc
     }
 }
 
 fn plain() -> Input {
-    Input { record: plain_record(), information: Off::Exact, parity: Off::Exact, symbol: Off::Exact, out: Off::Exact, lwc: |_, k| k }
+    Input { numbers: Numbers::PLAIN, information: Off::Exact, parity: Off::Exact, symbol: Off::Exact, out: Off::Exact, lwc: |s| s.fill }
 }
 
-fn position_edits() -> Vec<Edit<Input>> {
-    vec![
-        edit(0, "LWC 1", |i| i.lwc = |_, _| 1),
-        edit(0, "LWC k + 1", |i| i.lwc = |_, k| k + 1),
-        edit(0, "LWC n", |i| i.lwc = |n, _| n),
-        edit(9, "LWC 0", |i| i.lwc = |_, _| 0),
-        edit(9, "LWC n + 1", |i| i.lwc = |n, _| n + 1),
-        edit(9, "LWC 65536", |i| i.lwc = |_, _| 65536),
-        edit(9, "LWC 65537", |i| i.lwc = |_, _| 65537),
-        edit(9, "LWC 2^32 + 1", |i| i.lwc = |_, _| (1 << 32) + 1),
-        edit(9, "the largest LWC", |i| i.lwc = |_, _| usize::MAX),
-    ]
+/// 9 and 14.
+fn lwc_edits() -> Vec<Edit<Input>> {
+    let mut edits = position_edits();
+    edits.extend(idle_edits());
+    edits.extend([
+        edit(9, "LWC 65536", |i: &mut Input| i.lwc = |_| 65536),
+        edit(9, "LWC 65537", |i: &mut Input| i.lwc = |_| 65537),
+        edit(9, "LWC 2^32 + 1", |i: &mut Input| i.lwc = |_| (1 << 32) + 1),
+        edit(9, "the largest LWC", |i: &mut Input| i.lwc = |_| usize::MAX),
+    ]);
+    edits
 }
 
 /// Of these encode and show refuse none.
@@ -50,15 +56,16 @@ fn any_labels() -> Vec<Edit<Input>> {
 fn encode() {
     let mut edits = code_edits();
     edits.extend(any_labels());
+    edits.extend(fill_edits());
     edits.extend(length_edits!(information));
     edits.extend(length_edits!(parity));
     check_all(&plain(), &edits, |input, label| {
-        let (code, w) = shape(&input.record);
-        let information: Vec<u8> = pattern(code.k * w, input.information);
+        let (record, Shape { code, w, fill }) = (input.numbers.record(), input.numbers.shape());
+        let information: Vec<u8> = pattern(fill * w, input.information);
         let mut parity = pattern(code.m * w, input.parity);
         let mut expected: Vec<u8> = parity.clone();
-        let answer = ours::encode(input.record, &information, &mut parity);
-        assert_eq!(answer, model::encode(input.record, &information, &mut expected, Fault::None), "{label}");
+        let answer = ours::encode(record, &information, &mut parity);
+        assert_eq!(answer, model::encode(record, &information, &mut expected, Fault::None), "{label}");
         assert!(parity == expected, "{label}: parity");
         answer.err().unwrap_or(0)
     });
@@ -68,22 +75,23 @@ fn encode() {
 fn write() {
     let mut edits = code_edits();
     edits.extend(label_edits());
+    edits.extend(fill_edits());
     edits.extend(length_edits!(out));
-    edits.extend(position_edits());
+    edits.extend(lwc_edits());
     edits.extend([
         edit(10, "symbol one short", |i: &mut Input| i.symbol = Off::By(-1)),
         edit(10, "symbol one long", |i: &mut Input| i.symbol = Off::By(1)),
         edit(10, "symbol empty", |i: &mut Input| i.symbol = Off::Empty),
     ]);
     check_all(&plain(), &edits, |input, label| {
-        let (code, w) = shape(&input.record);
-        let lwc = (input.lwc)(code.n, code.k);
+        let (record, shape) = (input.numbers.record(), input.numbers.shape());
+        let (Shape { code, w, .. }, lwc) = (shape, (input.lwc)(&shape));
         let symbol: Vec<u8> = pattern(w, input.symbol);
         let size = units::write(code, w, 1, 1, 1, &vec![0; w]).len();
         let mut out = pattern(size, input.out);
         let mut expected: Vec<u8> = out.clone();
-        let answer = ours::write(input.record, lwc, &symbol, &mut out);
-        assert_eq!(answer, model::write(input.record, lwc, &symbol, &mut expected, Fault::None), "{label}");
+        let answer = ours::write(record, lwc, &symbol, &mut out);
+        assert_eq!(answer, model::write(record, lwc, &symbol, &mut expected, Fault::None), "{label}");
         assert!(out == expected, "{label}: unit");
         answer.err().unwrap_or(0)
     });
@@ -93,18 +101,19 @@ fn write() {
 fn show() {
     let mut edits = code_edits();
     edits.extend(any_labels());
+    edits.extend(fill_edits());
     edits.extend(length_edits!(information));
     edits.extend(length_edits!(parity));
     edits.extend(length_edits!(out));
-    edits.extend(position_edits());
+    edits.extend(lwc_edits());
     check_all(&plain(), &edits, |input, label| {
-        let (code, w) = shape(&input.record);
-        let lwc = (input.lwc)(code.n, code.k);
-        let (information, parity): (Vec<u8>, Vec<u8>) = (pattern(code.k * w, input.information), pattern(code.m * w, input.parity));
+        let (record, shape) = (input.numbers.record(), input.numbers.shape());
+        let (Shape { code, w, fill }, lwc) = (shape, (input.lwc)(&shape));
+        let (information, parity): (Vec<u8>, Vec<u8>) = (pattern(fill * w, input.information), pattern(code.m * w, input.parity));
         let mut out = pattern(w, input.out);
         let mut expected: Vec<u8> = out.clone();
-        let answer = ours::show(input.record, &information, &parity, lwc, &mut out);
-        assert_eq!(answer, model::show(input.record, &information, &parity, lwc, &mut expected, Fault::None), "{label}");
+        let answer = ours::show(record, &information, &parity, lwc, &mut out);
+        assert_eq!(answer, model::show(record, &information, &parity, lwc, &mut expected, Fault::None), "{label}");
         assert!(out == expected, "{label}: output");
         answer.err().unwrap_or(0)
     });

@@ -1,19 +1,20 @@
-//! Take: all fourteen; and read: 5, 6, 19 and 20.
+//! Take: all sixteen; and read: 5, 6, 19 and 20.
 use crate::compare::drafts::{padded_sdnv, Draft, Extension};
 use crate::compare::ours;
 use crate::compare::units::read;
-use crate::edits::{check_all, code_edits, edit, label_edits, length_edits, pattern, plain_record, shape, Edit, HasRecord, Off};
-use crate::model::refusals::Record;
+use crate::edits::{
+    check_all, code_edits, edit, fill_edits, idle_edits, label_edits, length_edits, pattern, position_edits, Edit, HasLwc, HasNumbers, Lwc,
+    Numbers, Off, Shape,
+};
 use crate::model::units::sdnv;
 use crate::model::{calls as model, codes, Code, Fault};
 
 #[derive(Clone)]
 struct Input {
-    record: Record,
+    numbers: Numbers,
     symbols: Off,
     marks: Off,
-    /// LWC, of the code's n and k.
-    lwc: fn(usize, usize) -> usize,
+    lwc: Lwc,
     /// The mark at the unit's position.
     mark: u8,
     /// Whether the symbol stored there is the unit's.
@@ -28,17 +29,23 @@ struct Input {
     cut: usize,
 }
 
-impl HasRecord for Input {
-    fn record(&mut self) -> &mut Record {
-        &mut self.record
+impl HasNumbers for Input {
+    fn numbers(&mut self) -> &mut Numbers {
+        &mut self.numbers
+    }
+}
+
+impl HasLwc for Input {
+    fn lwc(&mut self) -> &mut Lwc {
+        &mut self.lwc
     }
 }
 
 fn check(input: &Input, label: &str) -> u8 {
-    let (code, w) = shape(&input.record);
-    let lwc = (input.lwc)(code.n, code.k);
+    let (record, shape) = (input.numbers.record(), input.numbers.shape());
+    let (Shape { code, w, .. }, lwc) = (shape, (input.lwc)(&shape));
     let symbol: Vec<u8> = (0..w).map(|i| (i * 11) as u8).collect();
-    let mut draft = Draft::proper(code, w, input.record.protocol % 8, input.record.lsc % 65536, lwc, &symbol);
+    let mut draft = Draft::proper(code, w, record.protocol % 8, record.lsc % 65536, lwc, &symbol);
     draft.extensions = vec![Extension::coding((input.coding)([w, code.k, code.n, 0]))];
     draft.symbol.resize((input.length)(w), 0);
     input.unit.iter().for_each(|change| change(&mut draft));
@@ -59,8 +66,8 @@ fn check(input: &Input, label: &str) -> u8 {
     if let Err(difference) = read(&unit, Fault::None) {
         panic!("{label}: {difference:?}");
     }
-    let answer = ours::take(input.record, &mut symbols, &mut marks, &unit);
-    assert_eq!(answer, model::take(input.record, &mut expected_symbols, &mut expected_marks, &unit, Fault::None), "{label}");
+    let answer = ours::take(record, &mut symbols, &mut marks, &unit);
+    assert_eq!(answer, model::take(record, &mut expected_symbols, &mut expected_marks, &unit, Fault::None), "{label}");
     assert!(symbols == expected_symbols && marks == expected_marks, "{label}: buffers");
     answer.err().unwrap_or(0)
 }
@@ -218,12 +225,6 @@ fn block_edits() -> Vec<Edit<Input>> {
         edit(8, "another LSC", |i| i.unit.push(|u| u.lsc ^= 1)),
         edit(8, "an LSC of another high byte", |i| i.unit.push(|u| u.lsc ^= 0x8000)),
         edit(8, "another protocol", |i| i.unit.push(|u| u.protocol ^= 1)),
-        edit(0, "LWC 1", |i| i.lwc = |_, _| 1),
-        edit(0, "LWC k + 1", |i| i.lwc = |_, k| k + 1),
-        edit(0, "LWC n", |i| i.lwc = |n, _| n),
-        edit(9, "LWC 0", |i| i.lwc = |_, _| 0),
-        edit(9, "LWC n + 1", |i| i.lwc = |n, _| n + 1),
-        edit(9, "LWC 65535", |i| i.lwc = |_, _| 65535),
         edit(10, "a symbol one short", |i| i.length = |w| w - 1),
         edit(10, "a symbol one long", |i| i.length = |w| w + 1),
         edit(10, "a symbol twice as long", |i| i.length = |w| 2 * w),
@@ -238,10 +239,10 @@ fn block_edits() -> Vec<Edit<Input>> {
 #[test]
 fn take() {
     let plain = Input {
-        record: plain_record(),
+        numbers: Numbers::PLAIN,
         symbols: Off::Exact,
         marks: Off::Exact,
-        lwc: |_, k| k,
+        lwc: |s| s.fill,
         mark: 0,
         stored: false,
         coding: |proper| proper,
@@ -251,6 +252,7 @@ fn take() {
     };
     let mut edits = code_edits();
     edits.extend(label_edits());
+    edits.extend(fill_edits());
     edits.extend(length_edits!(symbols));
     edits.extend(length_edits!(marks));
     edits.extend(header_edits());
@@ -259,5 +261,7 @@ fn take() {
     edits.extend(kind_edits());
     edits.extend(parameter_edits());
     edits.extend(block_edits());
+    edits.extend(position_edits());
+    edits.extend(idle_edits());
     check_all(&plain, &edits, check);
 }
