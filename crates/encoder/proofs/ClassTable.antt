@@ -21,7 +21,7 @@ use Rattle.ccsds.specs.inner.Layout.{maxN}
 use Rattle.ccsds.specs.Tables.{codeOf, codes, Known, c1, c2, c4, c5, c7, c8, rows1, rows2, rows4, rows5, rows7, rows8}
 use Rattle.ccsds.proofs.Table.{every, upTo, in-range, both-left, both-right}
 use Rattle.ccsds.proofs.Valid.{Valid, valid-of, each-of, some-a, address-lt}
-use Rattle.encoder.specs.inner.Positions.{Entry, entryIf, classIn, classFrom, classOf, firstAt, endAt, countAt, addressAt, entryPut, entryAdded, entered, rowEntered, tableEntered, entriesOf, EntryBounds, Classes, maxClasses, tableSize}
+use Rattle.encoder.specs.inner.Positions.{Entry, entryIf, classIn, classFrom, classOf, firstAt, endAt, countAt, addressAt, entryPut, entryAdded, entered, rowEntered, tableEntered, entriesOf, EntryBounds, Classes, Whole, maxClasses, wholeAt, tableSize}
 use Rattle.encoder.proofs.Touched.{quotient-lt}
 
 -- ---- one address
@@ -326,3 +326,44 @@ module _ (number : ℕ) (known : Known number) where
         counts = λ r g. held r g .count;
         each = λ r g i j. bounds-kept (sym (entry-front c r rows i j)) refl refl (held r g .each i j);
       }
+
+-- ---- how many entries have no idle position
+
+module _ (c : Params) (rows r e : ℕ) (t : List ℕ) (laid : Classes c rows t) (hr : r < maxClasses) where
+  abbrev noted : List ℕ
+  noted = set t (wholeAt r) e
+
+  -- the places before these numbers are as they were
+  before-whole : (p : ℕ) → p < wholeAt 0 → getD noted p 0 ≡ getD t p 0
+  before-whole p h = getD-set-other t (wholeAt r) p e 0 (λ z. omega arith)
+
+  room : (x i : ℕ) → x < c .a → i < entriesOf c x rows → (x < maxClasses) × (i < maxPositions)
+  room x i h g = (omega (arith, laid .few .classes), omega (arith, laid .few .entries x h, entries-few c x rows))
+
+  pub noted-laid : Classes c rows noted
+  noted-laid = record {
+    few = laid .few;
+    size = length-set t (wholeAt r) e ∙ laid .size;
+    counts = λ x h. before-whole (countAt x) (omega (arith, laid .few .classes)) ∙ laid .counts x h;
+    each = λ x h i g. let b = room x i h g in bounds-kept refl (before-whole (firstAt x i) (omega (arith, b))) (before-whole (endAt x i) (omega (arith, b))) (laid .each x h i g);
+  }
+
+  noted-other : (fill x : ℕ) → x < c .a → {d d′ : ℕ} → d′ ≡ d → Whole fill x (getD t (countAt x) 0) t d → Whole fill x (getD noted (countAt x) 0) noted d′
+  noted-other fill x h {d} {d′} z w = record {
+    few = omega (arith, w .few, before-whole (countAt x) (omega (arith, laid .few .classes)));
+    last = λ g.
+        let b = room x (d - 1) h (omega (arith, w .few, laid .counts x h)) in
+        omega (arith, w .last (omega arith), before-whole (endAt x (d - 1)) (omega (arith, b)), ap (λ (k : ℕ). getD noted (endAt x (k - 1)) 0) z);
+  }
+
+  -- one class more
+  pub noted-more : (fill : ℕ) → r < c .a → Whole fill r (getD t (countAt r) 0) t e → ((x : ℕ) → x < r → Whole fill x (getD t (countAt x) 0) t (getD t (wholeAt x) 0))
+      → (x : ℕ) → x < r + 1 → Whole fill x (getD noted (countAt x) 0) noted (getD noted (wholeAt x) 0)
+  noted-more fill a w h x l = go (decLt x r)
+    where
+      go : Dec (x < r) → Whole fill x (getD noted (countAt x) 0) noted (getD noted (wholeAt x) 0)
+      go (yes d) = noted-other fill x (omega arith) (getD-set-other t (wholeAt r) (wholeAt x) e 0 (λ z. omega arith)) (h x d)
+      go (no d) =
+          let z : r ≡ x = omega arith in
+          noted-other fill x (omega arith) (ap (λ (k : ℕ). getD noted (wholeAt k) 0) (sym z) ∙ getD-set-same t (wholeAt r) e 0 (omega (arith, laid .size)))
+          (subst (λ (k : ℕ). Whole fill k (getD t (countAt k) 0) t e) z w)

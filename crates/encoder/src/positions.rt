@@ -15,7 +15,7 @@ ghost use lib.Dec.{ltb};
 ghost use lib.ListN.{length, getD, replicate};
 ghost use Rattle.ccsds.specs.Tables.{codeOf, Known};
 ghost use Rattle.ccsds.specs.inner.Layout.{LayoutOf, FrontIs, joined, maxN, maxM, maxRows, maxDegree, maxAddresses};
-ghost use Rattle.encoder.specs.inner.Positions.{entered, rowEntered, Classes, WithinRow, checks, Shaped, Table, Entries, Kept, Information, RowOf, endAt, maxClasses, tableSize};
+ghost use Rattle.encoder.specs.inner.Positions.{entered, rowEntered, Classes, WithinRow, checks, Shaped, Whole, Counted, Table, Entries, Kept, Information, RowOf, maxClasses, tableSize};
 ghost use Rattle.symbol_sums.specs.Gather.{maxPositions};
 
 // The most classes of a code.
@@ -32,8 +32,11 @@ const COUNTS: usize = ENDS + MAX_CLASSES * MAX_POSITIONS;
 // The addresses as they stand in the standard's table, MAX_DEGREE places a row.
 pub const ADDRESSES: usize = COUNTS + MAX_CLASSES;
 
+// How many entries of each class are of table rows that end by fill, so that none of their positions is idle.
+const WHOLE: usize = ADDRESSES + MAX_ADDRESSES;
+
 // All of it.
-pub const TABLE_SIZE: usize = ADDRESSES + MAX_ADDRESSES;
+pub const TABLE_SIZE: usize = WHOLE + MAX_CLASSES;
 
 // The shape of a block: its code's number and layout, the bytes of a symbol, its fill, and how many table rows have a position that is sent.
 pub struct Shape {
@@ -132,9 +135,8 @@ pub fn no_addresses() -> [u16; MAX_ADDRESSES]
     [0u16; MAX_ADDRESSES]
 }
 
-// Lays out the table of a code, as far as positions are sent. The array for its addresses is the caller's, so that no call stands on two large
-// frames.
-pub fn lay(s: Shape, flat: &mut [u16; MAX_ADDRESSES], table: &mut [u16; TABLE_SIZE])
+// Enters the table rows that have a position that is sent.
+fn enter_rows(s: Shape, flat: &mut [u16; MAX_ADDRESSES], table: &mut [u16; TABLE_SIZE])
     requires { ⌜ Shaped s ⌝ }
     requires { ⌜ (length (now flat) ≡ maxAddresses) × (now table ≡ replicate tableSize 0) ⌝ }
     ensures { λ _. ⌜ Classes (codeOf (s .number)) (s .rows) (now (table .exit)) ⌝ }
@@ -147,6 +149,48 @@ pub fn lay(s: Shape, flat: &mut [u16; MAX_ADDRESSES], table: &mut [u16; TABLE_SI
     while row < rows {
         enter_row(number, l, flat, row, table);
         row += 1;
+    }
+}
+
+// How many of the first n entries of class r come before the last table row, if that goes beyond fill.
+fn before_last_row(fill: usize, table: &[u16; TABLE_SIZE], r: usize, n: usize) -> usize
+    requires { ⌜ (length (now table) ≡ tableSize) × (r < maxClasses) × (n ≤ maxPositions) ⌝ }
+    ensures { λ e. ⌜ Whole fill r n (now (table .entry)) e ⌝ }
+{
+    let mut e = n;
+    while e > 0 {
+        if tables::wide(table[ENDS + r * MAX_POSITIONS + e - 1]) <= fill {
+            return e;
+        }
+        e -= 1;
+    }
+    e
+}
+
+// The same of all entries of class r, into the table: asked once, and not for each check row.
+fn count_whole(s: Shape, r: usize, table: &mut [u16; TABLE_SIZE])
+    requires { ⌜ Counted s r (now table) × (r < codeOf (s .number) .a) ⌝ }
+    ensures { λ _. ⌜ Counted s (r + 1) (now (table .exit)) ⌝ }
+{
+    let n = tables::wide(table[COUNTS + r]);
+    let e = before_last_row(s.fill, table, r, n);
+    table[WHOLE + r] = e as u16;
+}
+
+// Lays out the table of a code, as far as positions are sent. The array for its addresses is the caller's, so that no call stands on two large
+// frames.
+pub fn lay(s: Shape, flat: &mut [u16; MAX_ADDRESSES], table: &mut [u16; TABLE_SIZE])
+    requires { ⌜ Shaped s ⌝ }
+    requires { ⌜ (length (now flat) ≡ maxAddresses) × (now table ≡ replicate tableSize 0) ⌝ }
+    ensures { λ _. ⌜ Table s (now (table .exit)) ⌝ }
+{
+    enter_rows(s, flat, table);
+    let l = s.layout;
+    let a = l.a;
+    let mut r = 0;
+    while r < a {
+        count_whole(s, r, table);
+        r += 1;
     }
 }
 
@@ -220,21 +264,6 @@ fn keep_sent(fill: usize, from: usize, n: usize, xs: &mut [u16; MAX_POSITIONS]) 
     kept
 }
 
-// How many of the first n entries of class r come before the last table row, if that goes beyond fill.
-fn before_last_row(fill: usize, table: &[u16; TABLE_SIZE], r: usize, n: usize) -> usize
-    requires { ⌜ (length (now table) ≡ tableSize) × (r < maxClasses) × (n ≤ maxPositions) ⌝ }
-    ensures { λ e. ⌜ (e ≤ n) × (0 < e → getD (now (table .entry)) (endAt r (e - 1)) 0 ≤ fill) ⌝ }
-{
-    let mut e = n;
-    while e > 0 {
-        if tables::wide(table[ENDS + r * MAX_POSITIONS + e - 1]) <= fill {
-            return e;
-        }
-        e -= 1;
-    }
-    e
-}
-
 // The information positions of check row i * a + r that are sent, at the front of xs; answers how many. Only of the last table row may some be
 // idle, and its entries are the last of a class.
 pub fn information(
@@ -250,13 +279,7 @@ pub fn information(
     ensures { λ n. ⌜ Information (codeOf (s .number)) (s .fill) (i * codeOf (s .number) .a + r) n (now (xs .exit)) ⌝ }
 {
     let n = entries(s, table, i, r, xs);
-    let fill = s.fill;
-    let l = s.layout;
-    if s.rows * l.q == fill {
-        return n;
-    }
-    let from = before_last_row(fill, table, r, n);
-    keep_sent(fill, from, n, xs)
+    keep_sent(s.fill, tables::wide(table[WHOLE + r]), n, xs)
 }
 
 // All positions of check row j that are sent, at the front of xs; answers how many. The last two, or the last where j is 0, are those of the parity

@@ -77,8 +77,12 @@ countAt r = 2 * (maxClasses * maxPositions) + r
 abbrev pub addressAt : ℕ → ℕ → ℕ
 addressAt row i = 2 * (maxClasses * maxPositions) + maxClasses + row * maxDegree + i
 
+-- how many entries of class r are of table rows that end by fill
+abbrev pub wholeAt : ℕ → ℕ
+wholeAt r = addressAt maxRows 0 + r
+
 abbrev pub tableSize : ℕ
-tableSize = addressAt maxRows 0
+tableSize = wholeAt maxClasses
 
 -- entry n of class r gets its start and its end, and the class one entry more
 abbrev pub entryPut : ℕ → ℕ → ℕ → ℕ → List ℕ → List ℕ
@@ -148,10 +152,21 @@ pub record Shaped (s : Shape) : Type 0 where
   pub no-more : s .rows * codeOf (s .number) .q < s .fill + codeOf (s .number) .q
   pub within : s .rows ≤ length (codeOf (s .number) .rows)
 
--- the classes of these rows stand in the table
+-- of n entries of class r, the first e are of table rows that end by fill
+pub record Whole (fill r n : ℕ) (t : List ℕ) (e : ℕ) : Type 0 where
+  pub few : e ≤ n
+  pub last : 0 < e → getD t (endAt r (e - 1)) 0 ≤ fill
+
+-- the classes of these rows stand in the table, and of the first r classes how many entries have no idle position
+pub record Counted (s : Shape) (r : ℕ) (t : List ℕ) : Type 0 where
+  pub laid : Classes (codeOf (s .number)) (s .rows) t
+  pub whole : (x : ℕ) → x < r → Whole (s .fill) x (getD t (countAt x) 0) t (getD t (wholeAt x) 0)
+
+-- so of all classes
 pub record Table (s : Shape) (t : List ℕ) : Type 0 where
   pub shaped : Shaped s
   pub laid : Classes (codeOf (s .number)) (s .rows) t
+  pub whole : (r : ℕ) → r < codeOf (s .number) .a → Whole (s .fill) r (getD t (countAt r) 0) t (getD t (wholeAt r) 0)
 
 -- the n information positions of check row j in the first `rows` table rows, at the front of an array
 pub record Entries (c : Params) (rows j n : ℕ) (xs : List ℕ) : Type 0 where

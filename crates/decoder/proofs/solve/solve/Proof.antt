@@ -47,7 +47,7 @@ lay-requires c κs = (is-shaped (c .before .before .before .before), (c .before 
 
 -- and the table
 table : (c : tie.After-lay) → Table (shape (c .before .before .before .before .before)) (c .lay .last .1 .1 .0)
-table c = record { shaped = is-shaped (c .before .before .before .before .before); laid = c .lay .ensures }
+table c = c .lay .ensures
 
 slice-aggregate-peel : tie.Need-slice-aggregate-peel
 slice-aggregate-peel c = search needs

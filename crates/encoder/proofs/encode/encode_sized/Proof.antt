@@ -67,7 +67,7 @@ put-rows-requires : tie.Need-put-rows-requires Inv-loop μ-loop
 put-rows-requires c κs =
     let r = c .before .before .before .before .before .before .before .before .before in
     let l = c .before .before .before .before .loop in
-    ((record { shaped = shaped _ (known r) (given r) (most r) (r .rows-to .ensures); laid = c .before .before .before .before .before .lay .ensures }, l .inv .1), (omega (arith, given r .q), (start r .pre .1 .info, l .inv .2)))
+    ((c .before .before .before .before .before .lay .ensures, l .inv .1), (omega (arith, given r .q), (start r .pre .1 .info, l .inv .2)))
 
 add-i : tie.Need-add-i Inv-loop μ-loop
 add-i c = omega arith

@@ -41,11 +41,13 @@ wide-requires c κs = tt
 returns : tie.Need-returns Inv-loop μ-loop
 returns c =
     let s = c .before .before .before .before .before in
-    let e = c .before .before .before .before .loop .e in (
-      omega arith,
-      λ h. let z : 512 + s .args .r * 64 + e - 1 ≡ endAt (s .args .r) (e - 1) = omega arith in
-          omega (arith, c .before .wide .ensures .0, ap (λ (t : ℕ). getD (s .args .table .now) t 0) z, c .if1 .taken),
-    )
+    let e = c .before .before .before .before .loop .e in
+    record {
+      few = omega arith;
+      last = λ h.
+          let z : 512 + s .args .r * 64 + e - 1 ≡ endAt (s .args .r) (e - 1) = omega arith in
+          omega (arith, c .before .wide .ensures .0, ap (λ (t : ℕ). getD (s .args .table .now) t 0) z, c .if1 .taken);
+    }
 
 sub-e : tie.Need-sub-e Inv-loop μ-loop
 sub-e c = omega arith
@@ -57,7 +59,7 @@ loop-again : tie.Need-loop-again Inv-loop μ-loop
 loop-again c = omega arith
 
 returns-2 : tie.Need-returns-2 Inv-loop μ-loop
-returns-2 c = (omega arith, λ h. absurd (omega arith))
+returns-2 c = record { few = omega arith; last = λ h. absurd (omega arith) }
 
 pub before-last-row-spec : {M : Type 1} → statement M
 before-last-row-spec =
