@@ -23,7 +23,8 @@ use Rattle.block.specs.Take.{unitRefusal}
 use Rattle.block.specs.Close.{wrongWork, wrongMarks, sentMarks, idleCleared, agreeingWords, symbolsAfter, marksAfter, closeRefusal}
 use Rattle.block.specs.FullBlock.{heardBy, As01, FullBlock}
 use Rattle.block.specs.declared.Block.{Block}
-use Rattle.block.proofs.Idle.{idle-not-below, idle-not-above, sent}
+use Rattle.block.proofs.Idle.{sent}
+use Rattle.ccsds.proofs.FillLaws.{idle-not-below, idle-not-above}
 
 module _ (b : Block) (e : b .fill ≡ codeOf (b .code) .k) where
   none-idle : (i : ℕ) → isIdle (codeOf (b .code) .k) (b .fill) i ≡ false
@@ -31,7 +32,7 @@ module _ (b : Block) (e : b .fill ≡ codeOf (b .code) .k) where
     where
       go : Dec (i < b .fill) → isIdle (codeOf (b .code) .k) (b .fill) i ≡ false
       go (yes h) = idle-not-below (codeOf (b .code) .k) (b .fill) i h
-      go (no h) = idle-not-above (codeOf (b .code) .k) (b .fill) i (omega arith) (omega arith)
+      go (no h) = idle-not-above (codeOf (b .code) .k) (b .fill) i (omega arith)
 
   by-mark : (marks : List ℕ) (i : ℕ) → statusOf b marks i ≡ statusBy (getD marks i 0)
   unfolding idleAt

@@ -7,15 +7,13 @@ use Prim.Native.Nat.{ℕ, _+_, _-_, _*_, _≤_, _<_}
 use native.Mathlib.Nat.{mul-comm, mul-sub, mul-le-mul-right}
 use native.Mathlib.Decide.{decLt}
 use native.Mathlib.Omega.{arith}
-use lib.Dec.{leb, ltb}
 use lib.ListN.{length, getD, take, drop, replicate, length-append, length-drop, length-replicate, getD-replicate, List·getD-append}
 use lib.Seq.{length-take-le, getD-take, getD-drop, getD-append-add, ext-getD}
-use borrow.Author.Tests.{le-leb, lt-leb, lt-ltb, le-ltb, leb-true, ltb-true}
 use Rattle.algebra.specs.Codeword.{byteAt}
-use Rattle.algebra.proofs.Lists.{and-iff}
 use Rattle.algebra.proofs.Codeword.{slot}
 use Rattle.ccsds.specs.Tables.{codeOf}
 use Rattle.ccsds.specs.Fill.{isIdle}
+use Rattle.ccsds.proofs.FillLaws.{idle-in, idle-not-below, idle-not-above}
 use Rattle.block.specs.Block.{idleAt}
 use Rattle.block.specs.Status.{Status, idle, statusBy, statusOf}
 use Rattle.block.specs.Close.{idleCleared}
@@ -23,23 +21,6 @@ use Rattle.block.specs.inner.Idle.{IdleIn, PartSet}
 use Rattle.block.specs.declared.Block.{Block}
 
 -- ---- positions
-
-module _ (k f i : ℕ) where
-  pub idle-between : f ≤ i → i < k → isIdle k f i ≡ true
-  unfolding isIdle
-  idle-between h l = rw (le-leb f i h, lt-ltb i k l)
-
-  pub idle-not-below : i < f → isIdle k f i ≡ false
-  unfolding isIdle
-  idle-not-below h = rw (lt-leb f i h)
-
-  pub idle-not-above : f ≤ i → k ≤ i → isIdle k f i ≡ false
-  unfolding isIdle
-  idle-not-above h l = rw (le-leb f i h, le-ltb i k l)
-
-  pub idle-bounds : isIdle k f i ≡ true → (f ≤ i) × (i < k)
-  unfolding isIdle
-  idle-bounds e = let p = and-iff (leb f i) (ltb i k) .0 e in (leb-true f i (p .0), ltb-true i k (p .1))
 
 -- the bytes of an idle position
 pub idle-byte : (k f i w j : ℕ) → j < w → isIdle (k * w) (f * w) (i * w + j) ≡ isIdle k f i
@@ -53,10 +34,10 @@ idle-byte k f i w j h = go (decLt i f) (decLt i k)
         inside b m d
       where
         inside : f ≤ i → f * w ≤ i * w + j → Dec (i < k) → isIdle (k * w) (f * w) (i * w + j) ≡ isIdle k f i
-        inside b m (yes c) = idle-between (k * w) (f * w) (i * w + j) m (omega (arith, slot i k w c)) ∙ sym (idle-between k f i b c)
+        inside b m (yes c) = idle-in (k * w) (f * w) (i * w + j) m (omega (arith, slot i k w c)) ∙ sym (idle-in k f i b c)
         inside b m (no c) =
             let u : k ≤ i = omega arith in
-            idle-not-above (k * w) (f * w) (i * w + j) m (omega (arith, mul-le-mul-right w u)) ∙ sym (idle-not-above k f i b u)
+            idle-not-above (k * w) (f * w) (i * w + j) (omega (arith, mul-le-mul-right w u)) ∙ sym (idle-not-above k f i u)
 
 -- a block's idle positions
 pub idle-at : {b : Block} {k n : ℕ} → IdleIn b k n → (i : ℕ) → isIdle k (b .fill) i ≡ idleAt b i
@@ -111,10 +92,10 @@ module _ (l : List ℕ) (f k v : ℕ) (h : f ≤ k) (room : k ≤ length l) wher
       go (no a) (yes c) =
           List·getD-append (take f l ++ replicate (k - f) v) (drop k l) 0 i (omega (arith, both))
           ∙ past (take f l) (replicate (k - f) v) f i front (omega arith) ∙ getD-replicate (k - f) (i - f) v 0 (omega arith)
-          ∙ by true (idle-between k f i (omega arith) c)
+          ∙ by true (idle-in k f i (omega arith) c)
       go (no a) (no c) =
           past (take f l ++ replicate (k - f) v) (drop k l) k i both (omega arith) ∙ getD-drop k l (i - k) 0
-          ∙ ap (λ (n : ℕ). getD l n 0) (omega arith) ∙ by false (idle-not-above k f i (omega arith) (omega arith))
+          ∙ ap (λ (n : ℕ). getD l n 0) (omega arith) ∙ by false (idle-not-above k f i (omega arith))
 
   pub set-is : {l′ : List ℕ} → PartSet f k v l l′ → l′ ≡ partSet l f k v
   set-is {l′} P =

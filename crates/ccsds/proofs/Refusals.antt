@@ -74,31 +74,6 @@ pub fill-is-right : (k fill : ℕ) → 0 < fill → fill ≤ k → wrongFill k f
 unfolding wrongFill
 fill-is-right k fill h l = rw (ne-eqb fill 0 (λ e. omega arith), le-ltb k fill l)
 
--- an LWC names an idle position; one that is sent; or a parity symbol's
-module _ (k fill lwc : ℕ) where
-  pub is-idle : fill ≤ lwc - 1 → lwc - 1 < k → idleLwc k fill lwc ≡ true
-  unfolding idleLwc isIdle
-  is-idle h l = rw (le-leb fill (lwc - 1) h, lt-ltb (lwc - 1) k l)
-
-  pub is-sent : lwc - 1 < fill → idleLwc k fill lwc ≡ false
-  unfolding idleLwc isIdle
-  is-sent h = rw (lt-leb fill (lwc - 1) h)
-
-  pub is-parity : k ≤ lwc - 1 → idleLwc k fill lwc ≡ false
-  unfolding idleLwc isIdle
-  is-parity h = go (leb fill (lwc - 1)) (le-ltb (lwc - 1) k h)
-    where
-      go : (b : Bool) {a : Bool} → a ≡ false → b && a ≡ false
-      go true e = e
-      go false e = refl
-
-  pub not-idle : idleLwc k fill lwc ≡ false → lwc - 1 < k → lwc - 1 < fill
-  not-idle e h = go (decLt (lwc - 1) fill)
-    where
-      go : Dec (lwc - 1 < fill) → lwc - 1 < fill
-      go (yes l) = l
-      go (no l) = absurd (false≢true (sym e ∙ is-idle (omega arith) h))
-
 pub length-right : (have size : ℕ) → wrongLength have size ≡ false → have ≡ size
 unfolding wrongLength
 length-right have size e = eqb-true have size (not-false (eqb have size) e)

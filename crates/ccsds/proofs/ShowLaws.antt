@@ -15,7 +15,8 @@ use Rattle.ccsds.specs.RefusalTable as refusal
 use Rattle.ccsds.specs.Refusals.{encoderConditions, wrongPosition}
 use Rattle.ccsds.specs.Show.{partOf, showRefusal, showOf}
 use Rattle.ccsds.proofs.RefusalOrder.{in-order, parts-none, first-none}
-use Rattle.ccsds.proofs.Refusals.{code-known, width-right, position-right, not-idle, encoder-none}
+use Rattle.ccsds.proofs.Refusals.{code-known, width-right, position-right, encoder-none}
+use Rattle.ccsds.proofs.FillLaws.{sent-below}
 use Rattle.algebra.proofs.Codeword.{slot}
 
 pub record Showable (number w fill infoLength parityLength lwc : ℕ) : Type 0 where
@@ -28,7 +29,7 @@ pub record Showable (number w fill infoLength parityLength lwc : ℕ) : Type 0 w
 
 pub showable : (number w fill infoLength parityLength lwc : ℕ) → showRefusal number w fill infoLength parityLength lwc ≡ 0
     → Showable number w fill infoLength parityLength lwc
-unfolding showRefusal
+unfolding showRefusal idleLwc
 showable number w fill infoLength parityLength lwc e =
     let a = parts-none (encoderConditions number w fill infoLength parityLength) _ (sym (in-order _ refl) ∙ e) in
     let b = encoder-none number w fill infoLength parityLength (a .0) in
@@ -39,7 +40,7 @@ showable number w fill infoLength parityLength lwc e =
       information = b .3;
       parity = b .4;
       position = position-right (nOf (codeOf number)) lwc (p .0);
-      sent = not-idle (codeOf number .k) fill lwc (first-none refusal.idle (idleLwc (codeOf number .k) fill lwc) _ (p .1) .0);
+      sent = sent-below (codeOf number .k) fill (lwc - 1) (first-none refusal.idle (idleLwc (codeOf number .k) fill lwc) _ (p .1) .0);
     }
 
 -- the symbol lies within its buffer

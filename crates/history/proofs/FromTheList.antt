@@ -29,7 +29,8 @@ use Rattle.block.specs.Close.{reportOf, wrongWork, idleCleared, agreeingWords, 
 use Rattle.history.specs.Calls.{Call, takeUnit, closeWith, History, State, taken, closed, opened, next, answer, run, isAt, symbolOf, heardAt, keptAt, keptSymbols, statusAt, knownAt, agreeingWith, latest, markOf, byteBy, byteOf, stateOf, takeAnswer, answerOf, FollowsList, FromTheList}
 use Rattle.block.specs.declared.Block.{Block}
 use Rattle.block.proofs.Symbols.{symbol-is, length-stored, stored-same, stored-other}
-use Rattle.block.proofs.Idle.{idle-bounds, cleared-byte}
+use Rattle.ccsds.proofs.FillLaws.{idle-range}
+use Rattle.block.proofs.Idle.{cleared-byte}
 use Rattle.block.proofs.BlockRefusal.{checks-n, Right, block-right, not-refused, marks-right}
 use Rattle.block.proofs.CloseRefusal.{work-decides}
 use Rattle.block.proofs.Taking.{Inside, admitted-inside, at-right, take-by}
@@ -49,7 +50,7 @@ module _ (b : Block) (r : Right b) where
 
   pub idle-inside : (i : ℕ) → idleAt b i ≡ true → i < checks b .n
   unfolding idleAt
-  idle-inside i e = omega (arith, idle-bounds (codeOf (b .code) .k) (b .fill) i e .1, checks-n b)
+  idle-inside i e = omega (arith, idle-range (codeOf (b .code) .k) (b .fill) i e .1, checks-n b)
 
   -- no unit is admitted there
   pub heard-sent : (h : History) (i : ℕ) → heardAt b h i ≡ true → idleAt b i ≡ false

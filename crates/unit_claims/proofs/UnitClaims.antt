@@ -28,8 +28,8 @@ use Rattle.ccsds.specs.Writer.{headerOf, valueBytes, extensionOf, unitOf, symbo
 use Rattle.ccsds.specs.Show.{Slice, showRefusal, showOf}
 use Rattle.algebra.specs.Codeword.{symbolAt}
 use Rattle.ccsds.proofs.Valid.{few-of, valid-of}
-use Rattle.ccsds.proofs.Refusals.{code-known, length-same, position-is-right, fill-right, fill-is-right, is-sent, is-parity, not-idle}
-use Rattle.ccsds.proofs.FillLaws.{padded-length}
+use Rattle.ccsds.proofs.Refusals.{code-known, length-same, position-is-right, fill-right, fill-is-right}
+use Rattle.ccsds.proofs.FillLaws.{idle-not-below, idle-not-above, idle-range, sent-below, padded-length}
 use Rattle.wire.proofs.SdnvRound.{reads-back}
 use Rattle.ccsds.proofs.ReaderLaws.{from-value}
 use Rattle.ccsds.proofs.UnitLaws.{value-most, extension-length, unit-length, unit-right, writable}
@@ -191,7 +191,7 @@ module _ (number w fill position : ℕ) (code : wrongCode number ≡ false) (wid
         go : Dec (position < k) → showOf number w fill info parity (lwcOf position) .bytes ≡ symbolAt w (padded k w fill (info .now) ++ parity .now) position
         go (yes h) =
             let l : lwcOf position - 1 < k = rw (back position) h in
-            let f : position < fill = rw (back position) at (not-idle k fill (lwcOf position) (idle-of k fill position sent) l) in
+            let f : position < fill = sent-below k fill position sent h in
             ap (λ (s : Slice). s .bytes) (shows-information number w fill info parity (lwcOf position) zero l)
             ∙ rw (back position) (sym (in-sent k w fill (info .now) (parity .now) hi position f))
         go (no h) =
@@ -213,28 +213,23 @@ sends-codeword number w protocol lsc fill position info parity code width label 
     let r = round-trip number w protocol lsc fill (lwcOf position) shown (unitBytes number w) o in
     (o, record { read = r .read; rest = r .rest ∙ s })
 
-idle-below : (k fill position : ℕ) → isIdle k fill position ≡ true → position < k
-idle-below k fill position e = go (decLt position k)
-  where
-    go : Dec (position < k) → position < k
-    go (yes h) = h
-    go (no h) = absurd (false≢true (sym (is-parity k fill (lwcOf position) (omega arith)) ∙ idle-of k fill position e))
-
 pub idle-not-sent : IdleNotSent
 idle-not-sent number w protocol lsc fill position info parity symbolLength code width label fills idle =
     let k = codeOf number .k in
-    let h : position < k = idle-below k fill position idle in (
-      shows-none number w fill info parity (lwcOf position) (λ z. false≢true (sym (is-sent k fill (lwcOf position) (showable number w fill _ _ _ z .sent (rw (back position) h))) ∙ idle-of k fill position idle)),
+    let r = idle-range k fill position idle in
+    let h : position < k = r .1 in (
+      shows-none number w fill info parity (lwcOf position) (λ z. absurd (omega (arith, showable number w fill _ _ _ z .sent (rw (back position) h), back position, r .0))),
       write-refuses number w fill position code width fills (omega arith) protocol lsc symbolLength label idle,
     )
 
 -- with fill k
 none-idle : (k lwc : ℕ) → idleLwc k k lwc ≡ false
+unfolding idleLwc
 none-idle k lwc = go (decLt (lwc - 1) k)
   where
-    go : Dec (lwc - 1 < k) → idleLwc k k lwc ≡ false
-    go (yes h) = is-sent k k lwc h
-    go (no h) = is-parity k k lwc (omega arith)
+    go : Dec (lwc - 1 < k) → isIdle k k (lwc - 1) ≡ false
+    go (yes h) = idle-not-below k k (lwc - 1) h
+    go (no h) = idle-not-above k k (lwc - 1) (omega arith)
 
 pub sends-full : SendsFull
 unfolding showRefusal writeRefusal firstOf firstIn applies

@@ -10,7 +10,7 @@ use lib.ListN.{getD}
 use Rattle.algebra.proofs.Fronts.{Changed, changed-more}
 use Rattle.ccsds.specs.Fill.{isIdle}
 use Rattle.block.specs.inner.Idle.{PartSet}
-use Rattle.block.proofs.Idle.{idle-between, idle-not-below, idle-not-above}
+use Rattle.ccsds.proofs.FillLaws.{idle-in, idle-not-below, idle-not-above}
 use Rattle.block.proofs.status.set_part.Statement.{statement}
 use Rattle.block.proofs.status.set_part.Tie as tie
 
@@ -29,7 +29,7 @@ ends l t from to v i h e C = record { size = C .size; each = λ j k. go j (decLt
   where
     go : (j : ℕ) → Dec (j < i) → getD t j 0 ≡ goal l from to v j
     go j (yes a) = C .done j a
-    go j (no a) = C .rest j (omega arith) ∙ sym (by l from to v j false (idle-not-above to from j (omega arith) (omega arith)))
+    go j (no a) = C .rest j (omega arith) ∙ sym (by l from to v j false (idle-not-above to from j (omega arith)))
 
 abbrev Inv-loop : tie.InvT-loop
 Inv-loop buf₀ from to value i₀ buf i = (from ≤ i) × (i ≤ to) × Changed (goal buf₀ from to value) buf₀ buf i
@@ -53,7 +53,7 @@ loop-again : tie.Need-loop-again Inv-loop μ-loop
 loop-again c =
     let l = c .before .loop in
     let a = c .before .before .args in
-    let e = by (a .buf .now) (a .from) (a .to) (a .value) (l .i) true (idle-between (a .to) (a .from) (l .i) (omega arith) (omega arith)) in
+    let e = by (a .buf .now) (a .from) (a .to) (a .value) (l .i) true (idle-in (a .to) (a .from) (l .i) (omega arith) (omega arith)) in
     (omega arith, omega arith, changed-more _ (l .inv .2) (omega arith) (sym e))
 
 same-length : tie.Need-same-length Inv-loop μ-loop
