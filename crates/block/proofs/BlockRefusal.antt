@@ -18,8 +18,6 @@ use Rattle.ccsds.proofs.RefusalOrder.{chain, in-order, part-refuses, part-passe
 use Rattle.ccsds.proofs.Refusals.{or-false, width-right, length-right, length-same, length-wrong, record-none}
 use Rattle.ccsds.proofs.UnitLaws.{n-of}
 use Rattle.block.specs.Block.{checks, wrongBuffers, blockRefusal}
-use Rattle.block.specs.Status.{wrongMark}
-use Rattle.block.specs.Close.{wrongMarks}
 use Rattle.block.specs.declared.Block.{Block}
 
 -- the number of positions is the code's
@@ -90,8 +88,3 @@ block-right b symbols marks z =
 pub not-refused : (b : Block) (symbols marks : ℕ) → Right b → symbols ≡ checks b .n * b .w → marks ≡ checks b .n → blockRefusal b symbols marks ≡ 0
 unfolding blockRefusal firstOf firstIn applies
 not-refused b symbols marks r e f = rw (r .code, r .width, r .label, r .fill, buffers-right b symbols marks e f)
-
-pub marks-right : (l : List ℕ) → ((i : ℕ) → getD l i 0 ≤ 2) → wrongMarks l ≡ false
-unfolding wrongMarks wrongMark
-marks-right [] h = refl
-marks-right (mark ∷ l) h = rw (le-ltb 2 mark (h zero), marks-right l (λ i. h (suc i)))

@@ -1,7 +1,7 @@
 -- The refusals of a unit row by row, what is known of one that is admitted, and the ways of a take.
 -- Assumes nothing.
 use mathlib.Core.Path.{_≡_, refl, sym, ap, _∙_, subst}
-use mathlib.Core.Bool.{true, false}
+use mathlib.Core.Bool.{Bool, true, false, cond}
 use mathlib.Core.List.{List}
 use Prim.Native.Nat.{ℕ, zero, suc, _-_, _≤_, _<_}
 use native.Mathlib.Omega.{arith}
@@ -10,11 +10,11 @@ use Rattle.ccsds.specs.Tables.{codeOf}
 use Rattle.ccsds.specs.Fill.{idleLwc}
 use Rattle.ccsds.specs.RefusalTable as refusal
 use Rattle.ccsds.specs.Refusals.{wrongLength, wrongPosition, Outcome, refused, answered, outcome, _⟫_}
-use Rattle.ccsds.specs.Reader.{Parts, readUnit}
+use Rattle.unit_reader.specs.Reader.{Parts, readUnit}
 use Rattle.ccsds.proofs.RefusalOrder.{in-order, first-is, first-on, first-end, first-none}
 use Rattle.ccsds.proofs.Refusals.{position-right, length-right, length-same, length-wrong, refused-by, answered-by}
 use Rattle.block.specs.Block.{checks, idleAt, blockRefusal}
-use Rattle.block.specs.Status.{wrongMark, Status, statusOf}
+use Rattle.block.specs.Status.{wrongMark, Status, idle, statusBy, statusOf}
 use Rattle.block.specs.Take.{wrongParameters, foreign, unitRefusal, AdmittedUnit, admission, TakeResult, Take, unchanged, takeAt, takeSymbol, takeAdmitted, takeBy, takeOf}
 use Rattle.block.specs.declared.Block.{Block}
 
@@ -143,3 +143,7 @@ module _ (b : Block) (symbols marks unit : List ℕ) where
 -- part by part
 pub apart : {o : Take} {a : Outcome TakeResult} {s m : List ℕ} → o ≡ record { answer = a; symbols = s; marks = m } → (a ≡ o .answer) × ((s ≡ o .symbols) × (m ≡ o .marks))
 apart e = (sym (ap (λ (o : Take). o .answer) e), (sym (ap (λ (o : Take). o .symbols) e), sym (ap (λ (o : Take). o .marks) e)))
+
+-- a position that is not idle has its status by its mark
+pub sent : (b : Block) (marks : List ℕ) (i : ℕ) → idleAt b i ≡ false → statusOf b marks i ≡ statusBy (getD marks i 0)
+sent b marks i e = ap (λ (t : Bool). cond t idle (statusBy (getD marks i 0))) e

@@ -36,21 +36,6 @@ statusBy mark = cond (eqb mark heardMark) heard missing
 abbrev pub statusOf : Block → List ℕ → ℕ → Status
 statusOf b marks i = cond (idleAt b i) idle (statusBy (getD marks i 0))
 
--- close knows the symbols of the heard positions, and those of the idle ones, which are zero
-abbrev pub isKnown : Status → Bool
-isKnown idle = true
-isKnown heard = true
-isKnown missing = false
-
-unfoldable pub known : Block → List ℕ → ℕ → Bool
-known b marks i = isKnown (statusOf b marks i)
-
--- the mark after a verdict, by the status and by whether all codewords that agree have the same symbol there
-abbrev pub markAfter : Status → Bool → ℕ
-markAfter idle determined = missingMark
-markAfter heard determined = heardMark
-markAfter missing determined = cond determined filledMark missingMark
-
 -- the cases of the status in the code, which goes by marks and treats idle positions apart
 abbrev pub statusAs : coded.Status → Status
 statusAs Heard = heard

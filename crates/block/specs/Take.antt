@@ -10,7 +10,7 @@ use Rattle.ccsds.specs.Tables.{codeOf}
 use Rattle.ccsds.specs.Fill.{idleLwc}
 use Rattle.ccsds.specs.RefusalTable as refusal
 use Rattle.ccsds.specs.Refusals.{firstOf, wrongLength, wrongPosition, Outcome, refused, answered, outcome, _⟫_, refusedFor}
-use Rattle.ccsds.specs.Reader.{Coding, Parts, readUnit}
+use Rattle.unit_reader.specs.Reader.{Coding, Parts, readUnit}
 use Rattle.block.specs.Block.{checks, blockRefusal}
 use Rattle.block.specs.Status.{heardMark, wrongMark, Status, idle, heard, missing, statusOf}
 use Rattle.algebra.specs.Codeword.{symbolAt}

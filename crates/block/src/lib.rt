@@ -1,6 +1,5 @@
-// Blocks: open, take, close. Built on the contracts of the codes and units alone.
-mod checks;
-pub mod close;
+// Blocks: open and take; the crate closing has close. Built on the contracts of the codes and units alone.
+pub mod checks;
 pub mod open;
 pub mod status;
 pub mod take;

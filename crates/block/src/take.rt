@@ -3,9 +3,9 @@ use crate::Block;
 use crate::checks;
 use crate::status;
 use crate::status::Status;
-use ccsds::reader::Extension;
-use ccsds::reader::UnitParts;
-use ccsds::reader::UnitRead;
+use unit_reader::Extension;
+use unit_reader::UnitParts;
+use unit_reader::UnitRead;
 use ccsds::refusal;
 use ccsds::tables;
 use ccsds::tables::Layout;
@@ -16,7 +16,7 @@ ghost use Prim.Native.Nat.{_<_, _≤_, _+_, _*_};
 ghost use lib.ListN.{length};
 ghost use Rattle.ccsds.specs.Tables.{codeOf};
 ghost use Rattle.ccsds.specs.Refusals.{answered};
-ghost use Rattle.ccsds.specs.Reader.{extensionAs, readUnit};
+ghost use Rattle.unit_reader.specs.Reader.{extensionAs, readUnit};
 ghost use Rattle.ccsds.specs.inner.Compact.{Compact};
 ghost use Rattle.ccsds.specs.inner.Layout.{LayoutOf};
 ghost use Rattle.block.specs.Block.{idleAt};
@@ -113,7 +113,7 @@ fn admit(b: Block, l: Layout, unit: &[u8]) -> Admitted
     if let Expected::Parts(p) = unit_claims::expected::read(l, b.w, b.protocol, b.lsc, unit) {
         return admit_parts(b, l, p, unit);
     }
-    match ccsds::reader::read_unit(unit) {
+    match unit_reader::read_unit(unit) {
         UnitRead::Refused(number) => Admitted::Refused(number),
         UnitRead::Read(p) => admit_parts(b, l, p, unit),
     }

@@ -1,9 +1,9 @@
 // What the programs on blocks share: the steps of a pass, and how the answers are printed.
 pub mod pass;
 
-use block::close::Closed;
-use block::close::Report;
-use block::close::Verdict;
+use closing::Closed;
+use closing::Report;
+use closing::Verdict;
 use block::take::Taken;
 
 // Prints take's answer.

@@ -1,11 +1,11 @@
 // The steps of a pass, as the programs take them. The units of a block stand one after the other, in the order of their positions; the place
 // of an idle position stays as it is.
 use block::Block;
-use block::close::Closed;
+use closing::Closed;
 use block::open::Opened;
 use block::take::Taken;
 use ccsds::code::Code;
-use ccsds::writer::Written;
+use sending::writer::Written;
 ghost use Prim.Native.Nat.{_<_, _≤_};
 
 // The start of unit p among units of u bytes each: the end of the buffer where that has no such unit.
@@ -32,8 +32,8 @@ fn send<'a>(b: Block, info: &'a [u8], parity: &'a [u8], units: &mut [u8], p: usi
     if units.len() - at < u {
         return 0;
     }
-    let symbol = ccsds::show::show(b.code, b.w, b.fill, info, parity, p + 1);
-    let answer = ccsds::writer::write(
+    let symbol = sending::show::show(b.code, b.w, b.fill, info, parity, p + 1);
+    let answer = sending::writer::write(
         b.code,
         b.w,
         b.protocol,
@@ -115,7 +115,7 @@ fn close_in(
     if n > bytes.len() {
         return Closed::Refused(4);
     }
-    block::close::close(b, symbols, marks, &mut words[0..m], &mut bytes[0..n])
+    closing::close(b, symbols, marks, &mut words[0..m], &mut bytes[0..n])
 }
 
 // Closes the block.

@@ -4,6 +4,4 @@ pub mod FlatTable
 pub mod RefusalOrder
 pub mod Refusals
 pub mod FillLaws
-pub mod ReaderLaws
 pub mod UnitLaws
-pub mod ShowLaws

@@ -3,7 +3,5 @@ pub mod Tables
 pub mod Fill
 pub mod RefusalTable
 pub mod Refusals
-pub mod Reader
-pub mod Writer
-pub mod Show
+pub mod Units
 pub mod inner

@@ -1,8 +1,6 @@
-// The standard's side: codes and units of CCSDS 131.5-O-1. It knows nothing of blocks.
+// The standard's codes, the length of a unit, and the refusals that calls share. It knows nothing of blocks.
 pub mod checks;
 pub mod code;
-pub mod reader;
 pub mod refusal;
-pub mod show;
 pub mod tables;
-pub mod writer;
+pub mod unit_size;

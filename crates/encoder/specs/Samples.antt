@@ -14,7 +14,7 @@ use Rattle.ccsds.specs.Tables.{codeOf}
 use Rattle.ccsds.specs.RefusalTable as refusal
 use Rattle.ccsds.specs.Refusals.{Outcome, refused, answered, _⟫_, refusedFor}
 use Rattle.wire.specs.Sdnv.{numberAt, sdnvBytes}
-use Rattle.ccsds.specs.Reader.{numberOr}
+use Rattle.unit_reader.specs.Reader.{numberOr}
 
 -- In every codeword of the code whose information symbols outside first .. last are zero, each parity symbol j of from .. to is the sum of
 -- all information symbols if one of the runs has j, and zero if none has. Where first is last, that sum is the one symbol's value.

@@ -21,18 +21,19 @@ use Rattle.algebra.proofs.Counts.{count-all}
 use Rattle.ccsds.specs.Tables.{codeOf}
 use Rattle.ccsds.specs.Refusals.{Outcome, refused, answered}
 use Rattle.block.specs.Block.{checks, idleAt}
-use Rattle.block.specs.Status.{idle, heard, missing, isKnown, markAfter}
+use Rattle.block.specs.Status.{idle, heard, missing}
+use Rattle.closing.specs.Close.{isKnown, markAfter}
 use Rattle.block.specs.Open.{openOf}
 use Rattle.block.specs.Take.{AdmittedUnit, kept, repeated, admission, sameBytes}
-use Rattle.block.specs.Close.{Report, sentMarks, reportOf, wrongWork}
-use Rattle.block.specs.inner.Idle.{IdleIn}
+use Rattle.closing.specs.Close.{Report, sentMarks, reportOf, wrongWork}
+use Rattle.closing.specs.inner.Idle.{IdleIn}
 use Rattle.history.specs.Calls.{takeUnit, closeWith, History, State, taken, closed, opened, isAt, symbolOf, heardAt, keptAt, keptSymbols, knownAt, agreeingWith, latest, markOf, byteOf, stateOf, takeAnswer, answerOf}
 use Rattle.history.specs.Demand3.{Agrees, Missing, Closes, Demand3, Demand2}
 use Rattle.block.specs.declared.Block.{Block}
 use Rattle.block.proofs.Symbols.{length-symbol, symbol-byte, symbol-is}
 use Rattle.block.proofs.BlockRefusal.{checks-n, Right}
-use Rattle.block.proofs.Idle.{set-is, idle-at}
-use Rattle.block.proofs.Marks.{idle-count, sent-all}
+use Rattle.closing.proofs.Idle.{set-is, idle-at}
+use Rattle.closing.proofs.Marks.{idle-count, sent-all}
 use Rattle.block.proofs.Taking.{admitted-inside}
 use Rattle.history.proofs.FromTheList.{pos, fill-most, idle-inside, heard-sent, kept-zero, marks-size, symbols-size, mark-is, byte-is, small, kept-byte, kept-size, heard-symbol, idle-mark, idle-symbol, opens, from-the-list}
 

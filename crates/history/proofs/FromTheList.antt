@@ -22,19 +22,21 @@ use Rattle.ccsds.specs.Refusals.{Outcome, refused, answered, outcome, afterward
 use Rattle.ccsds.proofs.Refusals.{width-right, fill-right}
 use Rattle.ccsds.specs.Tables.{codeOf}
 use Rattle.block.specs.Block.{checks, idleAt, blockRefusal}
-use Rattle.block.specs.Status.{wrongMark, Status, idle, heard, missing, statusBy, statusOf, isKnown, known, markAfter}
+use Rattle.block.specs.Status.{wrongMark, Status, idle, heard, missing, statusBy, statusOf}
+use Rattle.closing.specs.Close.{isKnown, known, markAfter}
 use Rattle.block.specs.Open.{openOf}
 use Rattle.block.specs.Take.{AdmittedUnit, Take, kept, repeated, admission, sameBytes, stored, unchanged, takeSymbol, takeOf}
-use Rattle.block.specs.Close.{reportOf, wrongWork, idleCleared, agreeingWords, symbolsAfter, marksAfter, closeRefusal, closeOf}
+use Rattle.closing.specs.Close.{reportOf, wrongWork, idleCleared, agreeingWords, symbolsAfter, marksAfter, closeRefusal, closeOf}
 use Rattle.history.specs.Calls.{Call, takeUnit, closeWith, History, State, taken, closed, opened, next, answer, run, isAt, symbolOf, heardAt, keptAt, keptSymbols, statusAt, knownAt, agreeingWith, latest, markOf, byteBy, byteOf, stateOf, takeAnswer, answerOf, FollowsList, FromTheList}
 use Rattle.block.specs.declared.Block.{Block}
 use Rattle.block.proofs.Symbols.{symbol-is, length-stored, stored-same, stored-other}
 use Rattle.ccsds.proofs.FillLaws.{idle-range}
-use Rattle.block.proofs.Idle.{cleared-byte}
-use Rattle.block.proofs.BlockRefusal.{checks-n, Right, block-right, not-refused, marks-right}
-use Rattle.block.proofs.CloseRefusal.{work-decides}
+use Rattle.closing.proofs.Idle.{cleared-byte}
+use Rattle.block.proofs.BlockRefusal.{checks-n, Right, block-right, not-refused}
+use Rattle.closing.proofs.Marks.{marks-right}
+use Rattle.closing.proofs.CloseRefusal.{work-decides}
 use Rattle.block.proofs.Taking.{Inside, admitted-inside, at-right, take-by}
-use Rattle.block.proofs.Closing.{mark-small}
+use Rattle.closing.proofs.Closing.{mark-small}
 
 same-state : {s t s′ t′ : List ℕ} → s ≡ s′ → t ≡ t′ → _≡_ {A = State} (record { symbols = s; marks = t }) (record { symbols = s′; marks = t′ })
 same-state = ap₂ {C = State} (λ (s t : List ℕ). record { symbols = s; marks = t })

@@ -13,10 +13,11 @@ use Rattle.algebra.specs.Agreeing.{agreeing, verdictOf, determined, first}
 use Rattle.ccsds.specs.RefusalTable as refusal
 use Rattle.ccsds.specs.Refusals.{Outcome, refused, answered, refusedFor}
 use Rattle.block.specs.Block.{checks, idleAt}
-use Rattle.block.specs.Status.{missingMark, wrongMark, Status, idle, heard, missing, isKnown, markAfter}
+use Rattle.block.specs.Status.{missingMark, wrongMark, Status, idle, heard, missing}
+use Rattle.closing.specs.Close.{isKnown, markAfter}
 use Rattle.block.specs.Open.{Open, openOf}
 use Rattle.block.specs.Take.{AdmittedUnit, TakeResult, kept, repeated, admission, sameBytes, takeOf}
-use Rattle.block.specs.Close.{Report, reportOf, wrongWork, closeOf}
+use Rattle.closing.specs.Close.{Report, reportOf, wrongWork, closeOf}
 use Rattle.block.specs.declared.Block.{Block}
 
 -- a take with its unit's bytes, or a close with its two work buffers

@@ -17,7 +17,7 @@ use Rattle.block.specs.Block.{checks, idleAt}
 use Rattle.block.specs.Status.{missingMark, heardMark, filledMark}
 use Rattle.block.specs.Open.{openOf}
 use Rattle.block.specs.Take.{AdmittedUnit, kept, admission}
-use Rattle.block.specs.Close.{Report, sentMarks}
+use Rattle.closing.specs.Close.{Report, sentMarks}
 use Rattle.history.specs.Calls.{takeUnit, closeWith, History, State, taken, closed, opened, answer, run, heardAt, keptAt}
 use Rattle.block.specs.declared.Block.{Block}
 

@@ -4,17 +4,17 @@ use mathlib.Core.Path.{_≡_, refl, _∙_, sym, ap}
 use mathlib.Core.List.{List, [], _∷_}
 use Prim.Native.Nat.{ℕ, zero, suc}
 use Rattle.ccsds.specs.Refusals.{Outcome, outcome}
-use Rattle.ccsds.specs.Reader.{Parts, readAs, extensionAs}
-use Rattle.ccsds.specs.declared.reader.Parameters.{Parameters}
-use Rattle.ccsds.specs.declared.reader.Extension.{Extension}
-use Rattle.ccsds.specs.declared.reader.Extension.the-variants.{Coding, PassedOver}
-use Rattle.ccsds.specs.declared.reader.UnitParts.{UnitParts}
-use Rattle.ccsds.specs.declared.reader.UnitRead.{UnitRead}
-use Rattle.ccsds.specs.declared.reader.UnitRead.the-variants.{Read}
-use Rattle.block.specs.Close.{Report, closedAs, verdictAs}
-use Rattle.block.specs.declared.close.Report as coded-report
-use Rattle.block.specs.declared.close.Closed.{Closed}
-use Rattle.block.specs.declared.close.Closed.the-variants.{Reported}
+use Rattle.unit_reader.specs.Reader.{Parts, readAs, extensionAs}
+use Rattle.unit_reader.specs.declared.Parameters.{Parameters}
+use Rattle.unit_reader.specs.declared.Extension.{Extension}
+use Rattle.unit_reader.specs.declared.Extension.the-variants.{Coding, PassedOver}
+use Rattle.unit_reader.specs.declared.UnitParts.{UnitParts}
+use Rattle.unit_reader.specs.declared.UnitRead.{UnitRead}
+use Rattle.unit_reader.specs.declared.UnitRead.the-variants.{Read}
+use Rattle.closing.specs.Close.{Report, closedAs, verdictAs}
+use Rattle.closing.specs.declared.Report as coded-report
+use Rattle.closing.specs.declared.Closed.{Closed}
+use Rattle.closing.specs.declared.Closed.the-variants.{Reported}
 use Rattle.lipvezor.specs.Numbers.{numberOf, recordAfter, codingValues, partsValues, verdictNumber, reportValues}
 
 -- an answer a, which the call's contract equates with o, is the case b

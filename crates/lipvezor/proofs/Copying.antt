@@ -13,10 +13,10 @@ use Rattle.ccsds.specs.Tables.{codeOf}
 use Rattle.ccsds.specs.RefusalTable as refusal
 use Rattle.ccsds.specs.Fill.{idleLwc}
 use Rattle.ccsds.specs.Refusals.{Conditions, encoderConditions, wrongLength, wrongPosition}
-use Rattle.ccsds.specs.Show.{Slice, showRefusal, showOf}
+use Rattle.sending.specs.Show.{Slice, showRefusal, showOf}
 use Rattle.ccsds.proofs.RefusalOrder.{in-order, parts-none, part-passed, first-none}
 use Rattle.ccsds.proofs.Refusals.{length-right}
-use Rattle.ccsds.proofs.ShowLaws.{Showable, showable, in-information, in-parity, shows-information, shows-parity}
+use Rattle.sending.proofs.ShowLaws.{Showable, showable, in-information, in-parity, shows-information, shows-parity}
 use Rattle.lipvezor.specs.Sending.{copyRefusal}
 
 -- show is not refused, and the output has W bytes

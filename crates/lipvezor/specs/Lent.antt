@@ -5,7 +5,7 @@ use Prim.Native.Nat.{ℕ}
 use denote.Ref.{now, at-last}
 use Rattle.block.specs.Open.{Open, openOf}
 use Rattle.block.specs.Take.{Take, takeOf}
-use Rattle.block.specs.Close.{Close, closeOf}
+use Rattle.closing.specs.Close.{Close, closeOf}
 use Rattle.lipvezor.specs.Numbers.{blockOf}
 use Rattle.lipvezor.specs.Sending.{Sending, encoding}
 use Rattle.lipvezor.specs.declared.Codeword.{Codeword}

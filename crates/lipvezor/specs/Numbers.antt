@@ -7,14 +7,14 @@ use Prim.Native.Nat.{ℕ}
 use lib.ListN.{getD}
 use Rattle.algebra.specs.Agreeing.{Verdict, whole, ambiguous, inconsistent}
 use Rattle.ccsds.specs.Refusals.{Outcome, refused, answered}
-use Rattle.ccsds.specs.Reader.{Coding, Parts}
+use Rattle.unit_reader.specs.Reader.{Coding, Parts}
 use Rattle.block.specs.Take.{TakeResult, kept, repeated}
-use Rattle.block.specs.Close.{Report}
+use Rattle.closing.specs.Close.{Report}
 use Rattle.block.specs.declared.Block.{Block}
 
 -- the library's version: first number × 10000 + second × 100 + third
 abbrev pub version : ℕ
-version = 500
+version = 501
 
 -- a block's record from its five numbers
 unfoldable pub blockOf : List ℕ → Block

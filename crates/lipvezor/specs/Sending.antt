@@ -9,8 +9,9 @@ use Rattle.ccsds.specs.Tables.{codeOf}
 use Rattle.ccsds.specs.Fill.{idleLwc}
 use Rattle.ccsds.specs.RefusalTable as refusal
 use Rattle.ccsds.specs.Refusals.{Outcome, outcome, firstOf, encoderConditions, wrongLength, wrongPosition, afterwards}
-use Rattle.ccsds.specs.Show.{showOf}
-use Rattle.ccsds.specs.Writer.{unitOf, writeRefusal}
+use Rattle.sending.specs.Show.{showOf}
+use Rattle.ccsds.specs.Units.{unitOf}
+use Rattle.sending.specs.Writer.{writeRefusal}
 use Rattle.encoder.specs.Encode.{encodeRefusal, parityOf}
 use Rattle.block.specs.declared.Block.{Block}
 

@@ -3,26 +3,26 @@
 // pass as a pointer to a record of their pointers and lengths; no call writes to that record. Each call answers 0, or the number of its
 // refusal; the values of records are those of specs/Numbers.antt.
 use block::Block;
-use block::close::Closed;
-use block::close::Verdict;
+use closing::Closed;
+use closing::Verdict;
 use block::open::Opened;
 use block::take::Taken;
 use ccsds::code::Code;
-use ccsds::reader::Extension;
-use ccsds::reader::UnitRead;
+use unit_reader::Extension;
+use unit_reader::UnitRead;
 use ccsds::refusal;
-use ccsds::writer::Written;
+use sending::writer::Written;
 use encoder::encode::Encoded;
 ghost use mathlib.Core.Path.{_≡_};
 ghost use Prim.Native.Nat.{_+_, _*_, _/_};
 ghost use Rattle.ccsds.specs.Codes.{nOf};
 ghost use Rattle.ccsds.specs.Tables.{codeOf};
 ghost use Rattle.ccsds.specs.Refusals.{bytesOf, informationBytes};
-ghost use Rattle.ccsds.specs.Writer.{unitBytes};
-ghost use Rattle.ccsds.specs.Reader.{readUnit};
+ghost use Rattle.ccsds.specs.Units.{unitBytes};
+ghost use Rattle.unit_reader.specs.Reader.{readUnit};
 ghost use Rattle.block.specs.Open.{openOf};
 ghost use Rattle.block.specs.Take.{takeOf};
-ghost use Rattle.block.specs.Close.{closeOf, verdictAs};
+ghost use Rattle.closing.specs.Close.{closeOf, verdictAs};
 ghost use Rattle.lipvezor.specs.Numbers.{version, blockOf, numberOf, recordAfter, partsValues, resultValues, verdictNumber, reportValues};
 ghost use Rattle.lipvezor.specs.Sending.{encoding, copyRefusal, showing, writing};
 ghost use Rattle.lipvezor.specs.Lent.{codewordAfter, buffersAfter, workAfter, encodingLent, opening, taking, closing};
@@ -60,7 +60,7 @@ pub struct Work<'a> {
 pub extern "C" fn lipvezor_version() -> usize
     ensures { λ r. ⌜ r ≡ version ⌝ }
 {
-    500
+    501
 }
 
 // Symbols of a block, and bytes of its marks.
@@ -231,7 +231,7 @@ fn show_in<'a, 'b, 'c>(
     if number != 0 {
         return number;
     }
-    let shown = ccsds::show::show(b.code, b.w, b.fill, info, parity, lwc);
+    let shown = sending::show::show(b.code, b.w, b.fill, info, parity, lwc);
     bytes::copy(shown, out);
     0
 }
@@ -257,7 +257,7 @@ pub extern "C" fn lipvezor_write(
     ensures output { λ _. ⌜ now (out .exit) ≡ writing (blockOf (now (numbers .entry))) lwc (now (symbol .entry)) (now (out .entry)) .output ⌝ }
 {
     let b = block_of(numbers);
-    match ccsds::writer::write(b.code, b.w, b.protocol, b.lsc, b.fill, lwc, symbol, out) {
+    match sending::writer::write(b.code, b.w, b.protocol, b.lsc, b.fill, lwc, symbol, out) {
         Written::Done => 0,
         Written::Refused(number) => number,
     }
@@ -269,7 +269,7 @@ pub extern "C" fn lipvezor_read(unit: &[u8], parts: &mut [usize; 10]) -> u8
     ensures answer { λ r. ⌜ r ≡ numberOf (readUnit (now (unit .entry))) ⌝ }
     ensures parts { λ _. ⌜ now (parts .exit) ≡ recordAfter partsValues (now (parts .entry)) (readUnit (now (unit .entry))) ⌝ }
 {
-    match ccsds::reader::read_unit(unit) {
+    match unit_reader::read_unit(unit) {
         UnitRead::Refused(number) => number,
         UnitRead::Read(p) => {
             let x = p.coding;
@@ -396,7 +396,7 @@ fn close_in(
     ensures report { λ _. ⌜ now (report .exit) ≡ recordAfter reportValues (now (report .entry)) (closeOf (blockOf (now (numbers .entry))) (now (symbols .entry)) (now (marks .entry)) (now («work_words» .entry)) (now («work_bytes» .entry)) .answer) ⌝ }
 {
     let b = block_of(numbers);
-    match block::close::close(b, symbols, marks, work_words, work_bytes) {
+    match closing::close(b, symbols, marks, work_words, work_bytes) {
         Closed::Refused(number) => number,
         Closed::Reported(told) => {
             let v = told.verdict;

@@ -14,15 +14,15 @@ use Rattle.ccsds.specs.Codes.{nOf}
 use Rattle.ccsds.specs.RefusalTable as refusal
 use Rattle.ccsds.specs.Refusals.{answered}
 use Rattle.wire.specs.Sdnv.{Number, numberAt, sdnvBytes}
-use Rattle.ccsds.specs.Reader.{Coding, ExtensionsRead, Parts, parameterAt, codingOf, extensionAt, after, extensionsOf}
+use Rattle.unit_reader.specs.Reader.{Coding, ExtensionsRead, Parts, parameterAt, codingOf, extensionAt, after, extensionsOf}
 use Rattle.wire.specs.Bytes.{part, pairAt, OfBytes}
-use Rattle.ccsds.specs.Writer.{headerOf, valueBytes, extensionOf, unitOf}
+use Rattle.ccsds.specs.Units.{headerOf, valueBytes, extensionOf, unitOf}
 use Rattle.unit_claims.specs.UnitClaims.{CanonicalUnit}
 use Rattle.ccsds.proofs.Refusals.{of-steps, of-test, the-answer}
 use Rattle.wire.proofs.PartLaws.{part-length, part-all, part-then, part-rest, part-bytes}
 use Rattle.wire.proofs.SdnvLaws.{Fine, is-fine}
 use Rattle.wire.proofs.SdnvRound.{one-form}
-use Rattle.ccsds.proofs.ReaderLaws.{of-number, of-extension, Header, of-unit}
+use Rattle.unit_reader.proofs.ReaderLaws.{of-number, of-extension, Header, of-unit}
 
 -- ---- the value of a type 1
 

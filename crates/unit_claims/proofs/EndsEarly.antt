@@ -15,12 +15,12 @@ use Rattle.ccsds.specs.RefusalTable.{Refusal, numberOf}
 use Rattle.ccsds.specs.RefusalTable as refusal
 use Rattle.ccsds.specs.Refusals.{Outcome, refused, answered, _⟫_, refuseIf}
 use Rattle.wire.specs.Sdnv.{Number, Reading, finished, unfinished, wrong, longer, sdnvFrom, numberAt}
-use Rattle.ccsds.specs.Reader.{numberOr, Coding, ExtensionsRead, Parts, lengthAt, parameterAt, codingOf, valueOf, wrongType, extensionAt, isSome, after, oneMore, extensionsOf, wrongHeader, readUnit}
+use Rattle.unit_reader.specs.Reader.{numberOr, Coding, ExtensionsRead, Parts, lengthAt, parameterAt, codingOf, valueOf, wrongType, extensionAt, isSome, after, oneMore, extensionsOf, wrongHeader, readUnit}
 use Rattle.wire.specs.Bytes.{part}
 use Rattle.unit_claims.specs.UnitClaims.{EndsEarly}
 use Rattle.ccsds.proofs.Refusals.{never}
 use Rattle.wire.proofs.SdnvLaws.{goes-on, by-test}
-use Rattle.ccsds.proofs.ReaderLaws.{from-value, extensions-end, six-bytes}
+use Rattle.unit_reader.proofs.ReaderLaws.{from-value, extensions-end, six-bytes}
 use Rattle.unit_claims.proofs.FirstByte.{byte-stays, number-stays, extensions-stay, header-stays}
 
 -- ---- a value is never refused with 6

@@ -10,9 +10,9 @@ use lib.ListN.{length, getD, drop}
 use Rattle.ccsds.specs.Codes.{Params}
 use Rattle.ccsds.specs.Refusals.{answered}
 use Rattle.wire.specs.Bytes.{part, pairAt, OfBytes}
-use Rattle.ccsds.specs.Reader.{readUnit}
+use Rattle.unit_reader.specs.Reader.{readUnit}
 use Rattle.ccsds.specs.inner.Compact.{Compact}
-use Rattle.ccsds.specs.Writer.{headerOf, valueBytes, extensionOf, unitOf}
+use Rattle.ccsds.specs.Units.{headerOf, valueBytes, extensionOf, unitOf}
 use Rattle.unit_claims.specs.inner.Expected.{Starts}
 use Rattle.wire.proofs.PartLaws.{part-cons, part-then, part-rest}
 use Rattle.wire.proofs.SdnvRound.{in-one, in-two, two-long}

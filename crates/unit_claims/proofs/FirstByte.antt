@@ -13,11 +13,11 @@ use borrow.Author.Tests.{lt-leb, le-leb, le-ltb, ltb-false}
 use Rattle.ccsds.specs.RefusalTable as refusal
 use Rattle.ccsds.specs.Refusals.{Outcome, refused, answered, _⟫_, refuseIf}
 use Rattle.wire.specs.Sdnv.{Number, Reading, finished, unfinished, wrong, longer, sdnvFrom, numberAt}
-use Rattle.ccsds.specs.Reader.{numberOr, ExtensionsRead, Parts, lengthAt, valueOf, wrongType, extensionAt, isSome, oneMore, extensionsOf, wrongHeader, readUnit}
+use Rattle.unit_reader.specs.Reader.{numberOr, ExtensionsRead, Parts, lengthAt, valueOf, wrongType, extensionAt, isSome, oneMore, extensionsOf, wrongHeader, readUnit}
 use Rattle.wire.specs.Bytes.{part}
 use Rattle.unit_claims.specs.UnitClaims.{FirstByteDecides}
 use Rattle.wire.proofs.SdnvLaws.{ends-early}
-use Rattle.ccsds.proofs.ReaderLaws.{of-length}
+use Rattle.unit_reader.proofs.ReaderLaws.{of-length}
 
 module _ (s after : List ℕ) where
   pub byte-stays : (i : ℕ) → i < length s → getD (s ++ after) i 0 ≡ getD s i 0

@@ -22,18 +22,20 @@ use Rattle.ccsds.specs.Fill.{isIdle, wrongFill, idleLwc, padded}
 use Rattle.ccsds.specs.Refusals.{firstOf, firstIn, applies, wrongCode, wrongWidth, wrongLabel, wrongPosition, answered}
 use Rattle.wire.specs.Sdnv.{finished, numberAt, sdnvBytes}
 use Rattle.wire.specs.Bytes.{part}
-use Rattle.ccsds.specs.Reader.{lengthAt, codingOf, valueOf, wrongType, extensionAt, extensionsOf, wrongHeader, readUnit}
+use Rattle.unit_reader.specs.Reader.{lengthAt, codingOf, valueOf, wrongType, extensionAt, extensionsOf, wrongHeader, readUnit}
 use Rattle.unit_claims.specs.UnitClaims.{lwcOf, partsOf, ReadsAs, RoundTrip, SendsCodeword, IdleNotSent, SendsFull}
-use Rattle.ccsds.specs.Writer.{headerOf, valueBytes, extensionOf, unitOf, symbolStart, unitBytes, writeRefusal}
-use Rattle.ccsds.specs.Show.{Slice, showRefusal, showOf}
+use Rattle.ccsds.specs.Units.{headerOf, valueBytes, extensionOf, unitOf, symbolStart, unitBytes}
+use Rattle.sending.specs.Writer.{writeRefusal}
+use Rattle.sending.specs.Show.{Slice, showRefusal, showOf}
 use Rattle.algebra.specs.Codeword.{symbolAt}
 use Rattle.ccsds.proofs.Valid.{few-of, valid-of}
 use Rattle.ccsds.proofs.Refusals.{code-known, length-same, position-is-right, fill-right, fill-is-right}
 use Rattle.ccsds.proofs.FillLaws.{idle-not-below, idle-not-above, idle-range, sent-below, padded-length}
 use Rattle.wire.proofs.SdnvRound.{reads-back}
-use Rattle.ccsds.proofs.ReaderLaws.{from-value}
-use Rattle.ccsds.proofs.UnitLaws.{value-most, extension-length, unit-length, unit-right, writable}
-use Rattle.ccsds.proofs.ShowLaws.{showable, shows-none, shows-information, shows-parity}
+use Rattle.unit_reader.proofs.ReaderLaws.{from-value}
+use Rattle.ccsds.proofs.UnitLaws.{value-most, extension-length, unit-length, unit-right}
+use Rattle.sending.proofs.Writable.{writable}
+use Rattle.sending.proofs.ShowLaws.{showable, shows-none, shows-information, shows-parity}
 
 -- a number that stands at a position
 there : (v : ℕ) → v < 4294967296 → (s before after : List ℕ) (at : ℕ) → s ≡ before ++ (sdnvBytes v ++ after) → length before ≡ at

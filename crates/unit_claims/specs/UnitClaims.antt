@@ -13,11 +13,12 @@ use Rattle.ccsds.specs.Fill.{wrongFill, isIdle, padded}
 use Rattle.ccsds.specs.RefusalTable.{numberOf}
 use Rattle.ccsds.specs.RefusalTable as refusal
 use Rattle.ccsds.specs.Refusals.{firstOf, codeConditions, wrongCode, wrongWidth, wrongLabel, wrongLength, wrongPosition, refusedFor, answered}
-use Rattle.ccsds.specs.Reader.{Parts, readUnit}
+use Rattle.unit_reader.specs.Reader.{Parts, readUnit}
 use Rattle.algebra.specs.Codeword.{symbolAt}
 use Rattle.wire.specs.Bytes.{OfBytes}
-use Rattle.ccsds.specs.Writer.{unitOf, symbolStart, unitLength, unitBytes, writeRefusal}
-use Rattle.ccsds.specs.Show.{partOf, showRefusal, showOf}
+use Rattle.ccsds.specs.Units.{unitOf, symbolStart, unitLength, unitBytes}
+use Rattle.sending.specs.Writer.{writeRefusal}
+use Rattle.sending.specs.Show.{partOf, showRefusal, showOf}
 
 -- The first byte that can't be accepted decides: what a unit's bytes say, read or refused, stays so whatever bytes come after them, unless
 -- they ended early.

@@ -1,8 +1,8 @@
 // A quick reader for the units that a receiver expects: those whose bytes before the symbol are as write makes them for a code, a W, a protocol ID
 // and an LSC, whatever their LWC. Internal: block's take.
-use ccsds::reader::Extension;
-use ccsds::reader::Parameters;
-use ccsds::reader::UnitParts;
+use unit_reader::Extension;
+use unit_reader::Parameters;
+use unit_reader::UnitParts;
 use ccsds::tables::Layout;
 use wire::big_endian;
 ghost use mathlib.Core.Path.{_≡_};
@@ -11,8 +11,8 @@ ghost use mathlib.Core.List.{_++_};
 ghost use Prim.Native.Nat.{_+_, _*_, _<_, _≤_};
 ghost use lib.ListN.{length, drop};
 ghost use Rattle.wire.specs.Bytes.{pairAt};
-ghost use Rattle.ccsds.specs.Reader.{readUnit};
-ghost use Rattle.ccsds.specs.Writer.{headerOf, extensionOf};
+ghost use Rattle.unit_reader.specs.Reader.{readUnit};
+ghost use Rattle.ccsds.specs.Units.{headerOf, extensionOf};
 ghost use Rattle.ccsds.specs.inner.Compact.{Compact};
 ghost use Rattle.unit_claims.specs.inner.Expected.{Starts, Agrees};
 

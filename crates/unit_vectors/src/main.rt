@@ -1,9 +1,9 @@
 // Runs vectors from outside through the unit reader, the unit writer and show, and prints a line for each. tests/vectors/units.py makes
 // the vectors (stdin) and the lines (stdout); it shares no code with this repository.
 use ccsds::code::Code;
-use ccsds::reader::Extension;
-use ccsds::reader::UnitRead;
-use ccsds::writer::Written;
+use unit_reader::Extension;
+use unit_reader::UnitRead;
+use sending::writer::Written;
 use libc::STDIN_FILENO;
 use wire::big_endian;
 
@@ -65,7 +65,7 @@ fn print_coding(x: Extension) {
 
 // Reads a unit.
 fn read(u: &[u8]) {
-    match ccsds::reader::read_unit(u) {
+    match unit_reader::read_unit(u) {
         UnitRead::Refused(r) => report::print_count(b"read: refused ", r as usize),
         UnitRead::Read(p) => {
             report::print_count(b"read: protocol ", p.protocol);
@@ -82,7 +82,7 @@ fn read(u: &[u8]) {
 
 // Writes a unit, and reads it.
 fn write(v: Vector, symbol: &[u8], out: &mut [u8]) {
-    let answer = ccsds::writer::write(v.code, v.w, v.protocol, v.lsc, v.fill, v.lwc, symbol, out);
+    let answer = sending::writer::write(v.code, v.w, v.protocol, v.lsc, v.fill, v.lwc, symbol, out);
     match answer {
         Written::Refused(r) => {
             report::print_count(b"write: refused ", r as usize);
@@ -113,7 +113,7 @@ fn write_new(v: Vector, symbol: &[u8]) {
 
 // Shows a symbol.
 fn show<'a>(v: Vector, info: &'a [u8], parity: &'a [u8]) {
-    let symbol = ccsds::show::show(v.code, v.w, v.fill, info, parity, v.lwc);
+    let symbol = sending::show::show(v.code, v.w, v.fill, info, parity, v.lwc);
     report::print_count(b"show: ", symbol.len());
     report::print_buffer(symbol, SHOWN);
 }

@@ -4,8 +4,8 @@ use mathlib.Core.List.{List}
 use Prim.Native.Nat.{ℕ}
 use lib.ListN.{drop}
 use Rattle.ccsds.specs.Refusals.{Outcome, refused, answered}
-use Rattle.ccsds.specs.Reader.{Parts, extensionAs}
-use Rattle.ccsds.specs.declared.reader.UnitParts.{UnitParts}
+use Rattle.unit_reader.specs.Reader.{Parts, extensionAs}
+use Rattle.unit_reader.specs.declared.UnitParts.{UnitParts}
 use Rattle.block.specs.Take.{AdmittedUnit}
 use Rattle.block.specs.declared.take.Admitted.{Admitted}
 use Rattle.block.specs.declared.take.Admitted.the-variants.{At, Refused}

@@ -1,6 +1,6 @@
 -- `lipvezor::close_in` meets its contract: each case of the answer has its number, a verdict its values in the lent record.
 -- Assumes nothing.
-use Rattle.block.specs.Close.{closedAs}
+use Rattle.closing.specs.Close.{closedAs}
 use Rattle.lipvezor.specs.Numbers.{reportValues}
 use Rattle.lipvezor.proofs.Answers.{told, reported}
 use borrow.Author.Needs.{needs}

@@ -39,7 +39,7 @@ use denote.Triple.Walked.{Stays, stay-dropped, stay-ref, gave-ref, walkOf, goes-
 use denote.Exit.{yes}
 use denote.Signature.{Slot, namedLft, plain, shrRefTo}
 use denote.Signature.Array.{arrayOf}
-use Rattle.block.specs.Close.{Close}
+use Rattle.closing.specs.Close.{Close}
 use Rattle.lipvezor.specs.Numbers.{numberOf, recordAfter, reportValues}
 use Rattle.lipvezor.specs.Lent.{buffersAfter, workAfter, closing}
 use Rattle.lipvezor.specs.declared.Buffers.{Buffers}

@@ -1,6 +1,6 @@
 -- `lipvezor::lipvezor_read` meets its contract: each case of the reader's answer has its numbers.
 -- Assumes nothing.
-use Rattle.ccsds.specs.Reader.{readAs}
+use Rattle.unit_reader.specs.Reader.{readAs}
 use Rattle.lipvezor.specs.Numbers.{partsValues}
 use Rattle.lipvezor.proofs.Answers.{told, came, absent}
 use borrow.Author.Needs.{needs}

@@ -1,6 +1,6 @@
 -- `lipvezor::lipvezor_write` meets its contract: each case of the answer has its number.
 -- Assumes nothing.
-use Rattle.ccsds.specs.Writer.{writtenAs}
+use Rattle.sending.specs.Writer.{writtenAs}
 use Rattle.lipvezor.specs.Numbers.{numberOf}
 use Rattle.lipvezor.proofs.Answers.{by-case}
 use borrow.Author.Needs.{needs}

@@ -3,7 +3,7 @@
 use mathlib.Core.Path.{_≡_, sym, ap, _∙_}
 use native.Mathlib.Omega.{arith}
 use lib.ListN.{length}
-use Rattle.ccsds.specs.Show.{Slice}
+use Rattle.sending.specs.Show.{Slice}
 use Rattle.ccsds.proofs.Refusals.{kept-by, changed-by}
 use Rattle.lipvezor.specs.Sending.{copyRefusal}
 use Rattle.lipvezor.proofs.Answers.{number-by}

@@ -5,8 +5,8 @@ use mathlib.Core.List.{List, _++_}
 use Prim.Native.Nat.{ℕ, _+_}
 use lib.ListN.{length, drop}
 use Rattle.ccsds.specs.Refusals.{Outcome}
-use Rattle.ccsds.specs.Reader.{Parts, readAs}
-use Rattle.ccsds.specs.declared.reader.UnitRead.the-variants.{Read}
+use Rattle.unit_reader.specs.Reader.{Parts, readAs}
+use Rattle.unit_reader.specs.declared.UnitRead.the-variants.{Read}
 use Rattle.unit_claims.specs.declared.expected.Expected.{Expected}
 use Rattle.unit_claims.specs.declared.expected.Expected.the-variants as expected
 

@@ -1,7 +1,7 @@
 -- `block::take::admit` meets its contract, by the quick reader and by the reader.
 -- Assumes nothing.
 use mathlib.Core.Path.{sym, ap, _∙_, subst}
-use Rattle.ccsds.specs.Reader.{readUnit, readAs}
+use Rattle.unit_reader.specs.Reader.{readUnit, readAs}
 use Rattle.unit_claims.specs.inner.Expected.{Agrees}
 use Rattle.unit_claims.specs.declared.expected.Expected.{Expected}
 use Rattle.block.proofs.Taking.{unread}

@@ -3,7 +3,7 @@
 use mathlib.Core.Path.{sym, _∙_}
 use native.Mathlib.Omega.{arith}
 use lib.ListN.{length}
-use Rattle.ccsds.proofs.ReaderLaws.{symbol-within}
+use Rattle.unit_reader.proofs.ReaderLaws.{symbol-within}
 use Rattle.block.specs.inner.Steps.{partsAs}
 use Rattle.block.proofs.Taking.{Fitting, fitting, turned-down, admitted}
 use Rattle.block.proofs.take.admit_parts.Statement.{statement}

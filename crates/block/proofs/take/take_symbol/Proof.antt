@@ -8,7 +8,7 @@ use Rattle.ccsds.specs.Refusals.{refused, answered}
 use Rattle.block.specs.Status.{heard, missing, statusOf, statusAs}
 use Rattle.block.specs.Take.{repeated, sameBytes, unchanged, takeSymbol}
 use Rattle.block.proofs.Symbols.{part-is, same-is, stores}
-use Rattle.block.proofs.Idle.{sent}
+use Rattle.block.proofs.Taking.{sent}
 use Rattle.block.proofs.Taking.{at-wrong, at-right, apart}
 use borrow.Author.Needs.{needs}
 use Rattle.block.proofs.take.take_symbol.Statement.{statement}

@@ -6,12 +6,12 @@ use Prim.Native.Nat.{_+_}
 use lib.Dec.{eqb}
 use borrow.Author.Tests.{eq-eqb, ne-eqb}
 use Rattle.ccsds.specs.Tables.{codeOf}
-use Rattle.ccsds.specs.Reader.{extensionAs}
+use Rattle.unit_reader.specs.Reader.{extensionAs}
 use Rattle.ccsds.specs.inner.Layout.{LayoutOf}
 use Rattle.ccsds.specs.declared.tables.Layout.{Layout}
-use Rattle.ccsds.specs.declared.reader.Parameters.{Parameters}
-use Rattle.ccsds.specs.declared.reader.Extension.{Extension}
-use Rattle.ccsds.specs.declared.reader.Extension.the-variants.{Coding, PassedOver}
+use Rattle.unit_reader.specs.declared.Parameters.{Parameters}
+use Rattle.unit_reader.specs.declared.Extension.{Extension}
+use Rattle.unit_reader.specs.declared.Extension.the-variants.{Coding, PassedOver}
 use Rattle.block.specs.Block.{checks}
 use Rattle.block.specs.Take.{wrongParameters}
 use Rattle.block.specs.declared.Block.{Block}

@@ -3,7 +3,7 @@
 use mathlib.Core.Path.{_≡_, sym, ap, _∙_}
 use mathlib.Core.Bool.{false, not}
 use Rattle.ccsds.specs.Refusals.{wrongCode, wrongWidth}
-use Rattle.ccsds.specs.Writer.{unitBytes}
+use Rattle.ccsds.specs.Units.{unitBytes}
 use Rattle.ccsds.proofs.Refusals.{code-known, width-right}
 use Rattle.ccsds.proofs.UnitLaws.{compact-of, length-of, unit-right}
 use borrow.Author.Needs.{needs}

@@ -1,0 +1,5 @@
+pub mod Idle
+pub mod Marks
+pub mod CloseRefusal
+pub mod Closing
+pub mod FullBlock
