@@ -35,7 +35,7 @@ use Rattle.block.proofs.BlockRefusal.{checks-n, Right}
 use Rattle.closing.proofs.Idle.{set-is, idle-at}
 use Rattle.closing.proofs.Marks.{idle-count, sent-all}
 use Rattle.block.proofs.Taking.{admitted-inside}
-use Rattle.history.proofs.FromTheList.{pos, fill-most, idle-inside, heard-sent, kept-zero, marks-size, symbols-size, mark-is, byte-is, small, kept-byte, kept-size, heard-symbol, idle-mark, idle-symbol, opens, from-the-list}
+use Rattle.history.proofs.FromTheList.{verdict-given, pos, fill-most, idle-inside, heard-sent, kept-zero, marks-size, symbols-size, mark-is, byte-is, small, kept-byte, kept-size, heard-symbol, idle-mark, idle-symbol, opens, from-the-list}
 
 -- ---- counts of marks
 
@@ -305,18 +305,9 @@ module _ (b : Block) (r : Right b) (h : History) where
     }
 
   reports : (words bytes : List ℕ) (q : Report) → answerOf b h (closeWith words bytes) ≡ closed (answered q) → Closes b h q (stateOf b (closeWith words bytes ∷ h))
-  unfolding answerOf
-  reports words bytes q = go (wrongWork b (length words) (length bytes)) refl
-    where
-      report : Report
-      report = reportOf b (verdictOf (agreeingWith b h)) (stateOf b (closeWith words bytes ∷ h) .marks)
-
-      go : (a : Bool) → wrongWork b (length words) (length bytes) ≡ a → closed (cond a (refused 4) (answered report)) ≡ closed (answered q)
-          → Closes b h q (stateOf b (closeWith words bytes ∷ h))
-      go true t e = let z : _≡_ {A = ℕ} 0 1 = cc in absurd (omega arith)
-      go false t e =
-          let p : report ≡ q = cc in
-          subst (λ (u : Report). Closes b h u (stateOf b (closeWith words bytes ∷ h))) p (closes words bytes t)
+  reports words bytes q e =
+      let g = verdict-given b h words bytes q e in
+      subst (λ (u : Report). Closes b h u (stateOf b (closeWith words bytes ∷ h))) (g .1) (closes words bytes (g .0))
 
   -- ---- a take
 

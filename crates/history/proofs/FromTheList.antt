@@ -26,7 +26,7 @@ use Rattle.block.specs.Status.{wrongMark, Status, idle, heard, missing, statusB
 use Rattle.closing.specs.Close.{isKnown, known, markAfter}
 use Rattle.block.specs.Open.{openOf}
 use Rattle.block.specs.Take.{AdmittedUnit, Take, kept, repeated, admission, sameBytes, stored, unchanged, takeSymbol, takeOf}
-use Rattle.closing.specs.Close.{reportOf, wrongWork, idleCleared, agreeingWords, symbolsAfter, marksAfter, closeRefusal, closeOf}
+use Rattle.closing.specs.Close.{Report, reportOf, wrongWork, idleCleared, agreeingWords, symbolsAfter, marksAfter, closeRefusal, closeOf}
 use Rattle.history.specs.Calls.{Call, takeUnit, closeWith, History, State, taken, closed, opened, next, answer, run, isAt, symbolOf, heardAt, keptAt, keptSymbols, statusAt, knownAt, agreeingWith, latest, markOf, byteBy, byteOf, stateOf, takeAnswer, answerOf, FollowsList, FromTheList}
 use Rattle.block.specs.declared.Block.{Block}
 use Rattle.block.proofs.Symbols.{symbol-is, length-stored, stored-same, stored-other}
@@ -40,6 +40,28 @@ use Rattle.closing.proofs.Closing.{mark-small}
 
 same-state : {s t s′ t′ : List ℕ} → s ≡ s′ → t ≡ t′ → _≡_ {A = State} (record { symbols = s; marks = t }) (record { symbols = s′; marks = t′ })
 same-state = ap₂ {C = State} (λ (s t : List ℕ). record { symbols = s; marks = t })
+
+-- a close that the list says is not refused gives a verdict, and its report
+pub verdict-given : (b : Block) (h : History) (words bytes : List ℕ) (q : Report) → answerOf b h (closeWith words bytes) ≡ closed (answered q)
+    → (wrongWork b (length words) (length bytes) ≡ false) × (reportOf b (verdictOf (agreeingWith b h)) (stateOf b (closeWith words bytes ∷ h) .marks) ≡ q)
+unfolding answerOf
+verdict-given b h words bytes q = go (wrongWork b (length words) (length bytes))
+  where
+    report : Report
+    report = reportOf b (verdictOf (agreeingWith b h)) (stateOf b (closeWith words bytes ∷ h) .marks)
+
+    go : (a : Bool) → closed (cond a (refused 4) (answered report)) ≡ closed (answered q) → (a ≡ false) × (report ≡ q)
+    go true e = let z : _≡_ {A = ℕ} 0 1 = cc in absurd (omega arith)
+    go false e = (refl, cc)
+
+-- what a close by the record b sees of state s is what the list says: the sizes, what the positions are, and the bytes of the heard ones; and no
+-- mark is one that 11 refuses
+pub record Shows (b : Block) (h : History) (s : State) : Type 0 where
+  pub bytes-all : length (s .symbols) ≡ checks b .n * b .w
+  pub marks-all : length (s .marks) ≡ checks b .n
+  pub marks-small : (i : ℕ) → getD (s .marks) i 0 ≤ 2
+  pub statuses : (i : ℕ) → i < checks b .n → statusOf b (s .marks) i ≡ statusAt b h i
+  pub heard-bytes : (i j : ℕ) → i < checks b .n → j < b .w → heardAt b h i ≡ true → byteAt (b .w) (s .symbols) j i ≡ getD (keptAt b h i) j 0
 
 module _ (b : Block) (r : Right b) where
   pub pos : 0 < b .w
@@ -161,46 +183,11 @@ module _ (b : Block) (r : Right b) where
         go false false true = refl
         go false false false = refl
 
-    known-is : (i : ℕ) → i < checks b .n → known b (stateOf b h .marks) i ≡ knownAt b h i
-    unfolding known knownAt
-    known-is i k = ap isKnown (status-is i k)
-
     pub kept-byte : (i j : ℕ) → i < checks b .n → j < b .w → byteAt (b .w) (keptSymbols b h) j i ≡ getD (keptAt b h i) j 0
     unfolding keptSymbols
     kept-byte i j k l =
         getD-tab (checks b .n * b .w) (λ u. getD (keptAt b h (u / b .w)) (u % b .w) 0) 0 (i * b .w + j) (digits-lt k l)
         ∙ ap₂ (λ (u v : ℕ). getD (keptAt b h u) v 0) (digits-div i l) (digits-mod i l)
-
-    -- the byte of a known position is that of the kept symbol
-    known-byte : (i j : ℕ) → knownAt b h i ≡ true → cond (idleAt b i) 0 (byteOf b h j i) ≡ getD (keptAt b h i) j 0
-    unfolding byteOf knownAt
-    known-byte i j = go (idleAt b i) refl (heardAt b h i)
-      where
-        go : (u : Bool) → idleAt b i ≡ u → (a : Bool) → isKnown (cond u idle (cond a heard missing)) ≡ true
-            → cond u 0 (byteBy b h j i (cond u idle (cond a heard missing))) ≡ getD (keptAt b h i) j 0
-        go true q a t = sym (kept-zero h i j q)
-        go false q true t = refl
-        go false q false t = absurd (false≢true t)
-
-    same-known : SameKnown (checks b) (b .w) (known b (stateOf b h .marks)) (idleCleared b (stateOf b h .symbols)) (knownAt b h) (keptSymbols b h)
-    same-known =
-        let m : codeOf (b .code) .k ≤ checks b .n = omega (arith, checks-n b) in
-        let room : codeOf (b .code) .k * b .w ≤ length (stateOf b h .symbols) = omega (arith, symbols-size, mul-le-mul-right (b .w) m) in
-        record {
-          same-known = known-is;
-          same-byte = λ i k t j l.
-              cleared-byte b (stateOf b h .symbols) fill-most room i j l ∙ ap (cond (idleAt b i) 0) (byte-is i j k l)
-              ∙ known-byte i j (sym (known-is i k) ∙ t) ∙ sym (kept-byte i j k l);
-        }
-
-    agreeing-are : agreeingWords b (stateOf b h .symbols) (stateOf b h .marks) ≡ agreeingWith b h
-    unfolding agreeingWith agreeingWords
-    agreeing-are = same-agreeing (checks b) (b .w) (known b (stateOf b h .marks)) (idleCleared b (stateOf b h .symbols)) (knownAt b h) (keptSymbols b h) same-known
-
-    -- the block's symbols after a verdict are those by the kept ones
-    symbols-are : symbolsAfter b (stateOf b h .symbols) (stateOf b h .marks) ≡ filledSymbols (checks b) (b .w) (knownAt b h) (keptSymbols b h)
-    unfolding symbolsAfter
-    symbols-are = same-filled (checks b) (b .w) (known b (stateOf b h .marks)) (idleCleared b (stateOf b h .symbols)) (knownAt b h) (keptSymbols b h) same-known pos
 
   -- a kept symbol has W bytes
   pub kept-size : (h : History) (i : ℕ) → heardAt b h i ≡ true → length (keptAt b h i) ≡ b .w
@@ -219,12 +206,25 @@ module _ (b : Block) (r : Right b) where
           at false g = absurd (false≢true g)
   kept-size (closeWith words bytes ∷ h) i e = kept-size h i e
 
-  -- so the symbol that stands at a heard position is the kept one
-  pub heard-symbol : (h : History) (i : ℕ) → i < checks b .n → heardAt b h i ≡ true → symbolAt (b .w) (stateOf b h .symbols) i ≡ keptAt b h i
+  -- the bytes that stand at a heard position are those of the kept symbol
+  pub heard-byte : (h : History) (i j : ℕ) → i < checks b .n → j < b .w → heardAt b h i ≡ true → byteAt (b .w) (stateOf b h .symbols) j i ≡ getD (keptAt b h i) j 0
   unfolding byteOf
+  heard-byte h i j k l e = byte-is h i j k l ∙ rw (heard-sent h i e, e)
+
+  -- so the symbol there is the kept one
+  pub heard-symbol : (h : History) (i : ℕ) → i < checks b .n → heardAt b h i ≡ true → symbolAt (b .w) (stateOf b h .symbols) i ≡ keptAt b h i
   heard-symbol h i k e =
-      symbol-is (checks b .n) (b .w) (stateOf b h .symbols) (symbols-size h) i k (keptAt b h i) (kept-size h i e) (λ j l.
-      byte-is h i j k l ∙ rw (heard-sent h i e, e))
+      symbol-is (checks b .n) (b .w) (stateOf b h .symbols) (symbols-size h) i k (keptAt b h i) (kept-size h i e) (λ j l. heard-byte h i j k l e)
+
+  -- a close sees in it what the list says
+  pub shows : (h : History) → Shows b h (stateOf b h)
+  shows h = record {
+    bytes-all = symbols-size h;
+    marks-all = marks-size h;
+    marks-small = small h;
+    statuses = status-is h;
+    heard-bytes = heard-byte h;
+  }
 
   -- an idle position has mark 0 and zero bytes
   pub idle-mark : (h : History) (i : ℕ) → idleAt b i ≡ true → getD (stateOf b h .marks) i 0 ≡ 0
@@ -368,57 +368,97 @@ module _ (b : Block) (r : Right b) where
 
   -- ---- one close
 
-  module _ (h : History) (words bytes : List ℕ) where
-    refusal-is : closeRefusal b (stateOf b h .symbols) (stateOf b h .marks) words bytes ≡ cond (wrongWork b (length words) (length bytes)) 4 0
-    refusal-is =
-        work-decides b (stateOf b h .symbols) (stateOf b h .marks) words bytes
-        (not-refused b (length (stateOf b h .symbols)) (length (stateOf b h .marks)) r (symbols-size h) (marks-size h))
-        (marks-right (stateOf b h .marks) (λ i. small h i))
+  -- it is refused: nothing changes
+  refused-state : (h : History) (words bytes : List ℕ) → wrongWork b (length words) (length bytes) ≡ true → stateOf b h ≡ stateOf b (closeWith words bytes ∷ h)
+  unfolding heardAt keptAt latest
+  refused-state h words bytes t =
+      state-is (closeWith words bytes ∷ h) (stateOf b h) (symbols-size h) (marks-size h)
+      (λ i k. mark-is h i k ∙ sym (stays i .0)) (λ i j k l. byte-is h i j k l ∙ sym (stays i .1 j))
+    where
+      stays : (i : ℕ) → (markOf b (closeWith words bytes ∷ h) i ≡ markOf b h i) × ((j : ℕ) → byteOf b (closeWith words bytes ∷ h) j i ≡ byteOf b h j i)
+      stays i = same-at (closeWith words bytes ∷ h) h i refl refl (rw t)
 
-    -- it is refused: nothing changes
-    refused-state : wrongWork b (length words) (length bytes) ≡ true → stateOf b h ≡ stateOf b (closeWith words bytes ∷ h)
-    unfolding heardAt keptAt latest
-    refused-state t =
-        state-is (closeWith words bytes ∷ h) (stateOf b h) (symbols-size h) (marks-size h)
-        (λ i k. mark-is h i k ∙ sym (stays i .0)) (λ i j k l. byte-is h i j k l ∙ sym (stays i .1 j))
+  -- on every state in which it sees what the list says
+  module _ (h : History) (s : State) (S : Shows b h s) where
+    known-is : (i : ℕ) → i < checks b .n → known b (s .marks) i ≡ knownAt b h i
+    unfolding known knownAt
+    known-is i k = ap isKnown (S .statuses i k)
+
+    -- the byte of a known position is that of the kept symbol
+    known-byte : (i j : ℕ) → i < checks b .n → j < b .w → knownAt b h i ≡ true → cond (idleAt b i) 0 (byteAt (b .w) (s .symbols) j i) ≡ getD (keptAt b h i) j 0
+    unfolding knownAt
+    known-byte i j k l = go (idleAt b i) refl (heardAt b h i) refl
       where
-        stays : (i : ℕ) → (markOf b (closeWith words bytes ∷ h) i ≡ markOf b h i) × ((j : ℕ) → byteOf b (closeWith words bytes ∷ h) j i ≡ byteOf b h j i)
-        stays i = same-at (closeWith words bytes ∷ h) h i refl refl (rw t)
+        go : (u : Bool) → idleAt b i ≡ u → (a : Bool) → heardAt b h i ≡ a → isKnown (cond u idle (cond a heard missing)) ≡ true
+            → cond u 0 (byteAt (b .w) (s .symbols) j i) ≡ getD (keptAt b h i) j 0
+        go true q a e t = sym (kept-zero h i j q)
+        go false q true e t = S .heard-bytes i j k l e
+        go false q false e t = absurd (false≢true t)
 
-    -- it gives a verdict
-    closed-state : wrongWork b (length words) (length bytes) ≡ false
-        → _≡_ {A = State}
-        (record {
-          symbols = symbolsAfter b (stateOf b h .symbols) (stateOf b h .marks);
-          marks = marksAfter b (stateOf b h .symbols) (stateOf b h .marks);
-        })
-        (stateOf b (closeWith words bytes ∷ h))
-    unfolding markOf byteOf marksAfter filledByte agreeingWith knownAt heardAt keptAt latest
-    closed-state t =
-        state-is (closeWith words bytes ∷ h) (record { symbols = symbolsAfter b s m; marks = marksAfter b s m })
-        (ap length (symbols-are h) ∙ length-symbols (checks b) (b .w) (knownAt b h) (keptSymbols b h)) (length-tab (checks b .n) _)
-        (λ i k.
-        getD-tab (checks b .n) (λ j. markAfter (statusOf b m j) (determined (b .w) (agreeingWords b s m) j)) 0 i k
-        ∙ ap₂ (λ (x : Status) (L : List (List ℕ)). markAfter x (determined (b .w) L i)) (status-is h i k) (agreeing-are h) ∙ sym (rw t))
-        (λ i j k l.
-        ap (λ (x : List ℕ). byteAt (b .w) x j i) (symbols-are h) ∙ byte-at (checks b) (b .w) (knownAt b h) (keptSymbols b h) i j k l
-        ∙ ap (λ (v : ℕ). cond (knownAt b h i) v (rest i j)) (kept-byte h i j k l) ∙ go i j (idleAt b i) refl (heardAt b h i))
-      where
-        s : List ℕ
-        s = stateOf b h .symbols
+    same-known : SameKnown (checks b) (b .w) (known b (s .marks)) (idleCleared b (s .symbols)) (knownAt b h) (keptSymbols b h)
+    same-known =
+        let m : codeOf (b .code) .k ≤ checks b .n = omega (arith, checks-n b) in
+        let room : codeOf (b .code) .k * b .w ≤ length (s .symbols) = omega (arith, S .bytes-all, mul-le-mul-right (b .w) m) in
+        record {
+          same-known = known-is;
+          same-byte = λ i k t j l.
+              cleared-byte b (s .symbols) fill-most room i j l ∙ known-byte i j k l (sym (known-is i k) ∙ t) ∙ sym (kept-byte h i j k l);
+        }
 
-        m : List ℕ
-        m = stateOf b h .marks
+    agreeing-are : agreeingWords b (s .symbols) (s .marks) ≡ agreeingWith b h
+    unfolding agreeingWith agreeingWords
+    agreeing-are = same-agreeing (checks b) (b .w) (known b (s .marks)) (idleCleared b (s .symbols)) (knownAt b h) (keptSymbols b h) same-known
 
-        rest : ℕ → ℕ → ℕ
-        rest i j = cond (determined (b .w) (agreeingWith b h) i) (byteAt (b .w) (first (agreeingWith b h)) j i) 0
+    -- the block's symbols after a verdict are those by the kept ones
+    symbols-are : symbolsAfter b (s .symbols) (s .marks) ≡ filledSymbols (checks b) (b .w) (knownAt b h) (keptSymbols b h)
+    unfolding symbolsAfter
+    symbols-are = same-filled (checks b) (b .w) (known b (s .marks)) (idleCleared b (s .symbols)) (knownAt b h) (keptSymbols b h) same-known pos
 
-        go : (i j : ℕ) (u : Bool) → idleAt b i ≡ u → (a : Bool)
-            → cond (isKnown (cond u idle (cond a heard missing))) (getD (keptAt b h i) j 0) (rest i j)
-            ≡ byteBy b (closeWith words bytes ∷ h) j i (cond u idle (cond a heard missing))
-        go i j true q a = kept-zero h i j q
-        go i j false q true = refl
-        go i j false q false = sym (rw t)
+    module _ (words bytes : List ℕ) where
+      refusal-is : closeRefusal b (s .symbols) (s .marks) words bytes ≡ cond (wrongWork b (length words) (length bytes)) 4 0
+      refusal-is =
+          work-decides b (s .symbols) (s .marks) words bytes
+          (not-refused b (length (s .symbols)) (length (s .marks)) r (S .bytes-all) (S .marks-all)) (marks-right (s .marks) (S .marks-small))
+
+      -- it gives a verdict
+      closed-state : wrongWork b (length words) (length bytes) ≡ false
+          → _≡_ {A = State}
+          (record { symbols = symbolsAfter b (s .symbols) (s .marks); marks = marksAfter b (s .symbols) (s .marks) })
+          (stateOf b (closeWith words bytes ∷ h))
+      unfolding markOf byteOf marksAfter filledByte agreeingWith knownAt heardAt keptAt latest
+      closed-state t =
+          state-is (closeWith words bytes ∷ h) (record { symbols = symbolsAfter b (s .symbols) (s .marks); marks = marksAfter b (s .symbols) (s .marks) })
+          (ap length symbols-are ∙ length-symbols (checks b) (b .w) (knownAt b h) (keptSymbols b h)) (length-tab (checks b .n) _)
+          (λ i k.
+          getD-tab (checks b .n) (λ j. markAfter (statusOf b (s .marks) j) (determined (b .w) (agreeingWords b (s .symbols) (s .marks)) j)) 0 i k
+          ∙ ap₂ (λ (x : Status) (L : List (List ℕ)). markAfter x (determined (b .w) L i)) (S .statuses i k) agreeing-are ∙ sym (rw t))
+          (λ i j k l.
+          ap (λ (x : List ℕ). byteAt (b .w) x j i) symbols-are ∙ byte-at (checks b) (b .w) (knownAt b h) (keptSymbols b h) i j k l
+          ∙ ap (λ (v : ℕ). cond (knownAt b h i) v (rest i j)) (kept-byte h i j k l) ∙ go i j (idleAt b i) refl (heardAt b h i))
+        where
+          rest : ℕ → ℕ → ℕ
+          rest i j = cond (determined (b .w) (agreeingWith b h) i) (byteAt (b .w) (first (agreeingWith b h)) j i) 0
+
+          go : (i j : ℕ) (u : Bool) → idleAt b i ≡ u → (a : Bool)
+              → cond (isKnown (cond u idle (cond a heard missing))) (getD (keptAt b h i) j 0) (rest i j)
+              ≡ byteBy b (closeWith words bytes ∷ h) j i (cond u idle (cond a heard missing))
+          go i j true q a = kept-zero h i j q
+          go i j false q true = refl
+          go i j false q false = sym (rw t)
+
+      pub close-next : wrongWork b (length words) (length bytes) ≡ false → next b s (closeWith words bytes) ≡ stateOf b (closeWith words bytes ∷ h)
+      unfolding next closeOf
+      close-next t = rw (refusal-is, t) (closed-state t)
+
+      pub close-answer : answer b s (closeWith words bytes) ≡ answerOf b h (closeWith words bytes)
+      unfolding answer answerOf closeOf
+      close-answer = go (wrongWork b (length words) (length bytes)) refl
+        where
+          go : (a : Bool) → wrongWork b (length words) (length bytes) ≡ a → answer b s (closeWith words bytes) ≡ answerOf b h (closeWith words bytes)
+          go true t = rw (refusal-is, t)
+          go false t =
+              rw (refusal-is, t)
+              (ap closed (ap answered (ap₂ (reportOf b) (ap verdictOf agreeing-are) (ap (λ (u : State). u .marks) (closed-state t)))))
 
   -- ---- one call
 
@@ -428,19 +468,13 @@ module _ (b : Block) (r : Right b) where
   next-is h (closeWith words bytes) = go (wrongWork b (length words) (length bytes)) refl
     where
       go : (a : Bool) → wrongWork b (length words) (length bytes) ≡ a → next b (stateOf b h) (closeWith words bytes) ≡ stateOf b (closeWith words bytes ∷ h)
-      go true t = rw (refusal-is h words bytes, t) (refused-state h words bytes t)
-      go false t = rw (refusal-is h words bytes, t) (closed-state h words bytes t)
+      go true t = rw (refusal-is h (stateOf b h) (shows h) words bytes, t) (refused-state h words bytes t)
+      go false t = close-next h (stateOf b h) (shows h) words bytes t
 
   answer-is : (h : History) (c : Call) → answer b (stateOf b h) c ≡ answerOf b h c
-  unfolding answer answerOf closeOf
+  unfolding answer answerOf
   answer-is h (takeUnit unit) = ap taken (does h unit .answer)
-  answer-is h (closeWith words bytes) = go (wrongWork b (length words) (length bytes)) refl
-    where
-      go : (a : Bool) → wrongWork b (length words) (length bytes) ≡ a → answer b (stateOf b h) (closeWith words bytes) ≡ answerOf b h (closeWith words bytes)
-      go true t = rw (refusal-is h words bytes, t)
-      go false t =
-          rw (refusal-is h words bytes, t)
-          (ap closed (ap answered (ap₂ (reportOf b) (ap verdictOf (agreeing-are h)) (ap (λ (s : State). s .marks) (closed-state h words bytes t)))))
+  answer-is h (closeWith words bytes) = close-answer h (stateOf b h) (shows h) words bytes
 
   -- ---- the list
 

@@ -1,2 +1,3 @@
 pub mod FromTheList
 pub mod Demand3
+pub mod LateFill
