@@ -465,12 +465,12 @@ fn broken_links_are_found() {
 #[test]
 fn wrong_names_are_found() {
     for (document, why) in [
-        ("`ccsds/Reader.readNothing`", "no such definition"),
+        ("`unit_reader/Reader.readNothing`", "no such definition"),
         ("`ccsds/reader.readUnit`", "no such definition"),
         ("`history/Demand3.Closes.is-unknown`", "no such definition"),
         ("`history/Demand3.Takes.is-whole`", "no such definition"),
         ("`block/close_does_nothing`", "no such edit"),
-        ("`ccsds::reader::read_nothing`", "no such function, type, constant or test"),
+        ("`unit_reader::read_nothing`", "no such function, type, constant or test"),
         ("`nothing::reader::read_unit`", "no such function, type, constant or test"),
         ("`refusals::nothing`", "no such function, type, constant or test"),
         ("`lipvezor::Block::nothing`", "no such function, type, constant or test"),
@@ -478,12 +478,12 @@ fn wrong_names_are_found() {
         ("`docs/NOTHING.md`", "no such file"),
         ("```c\n`within/a_block`\n```\n`docs/NOTHING.md`", "no such file"),
         ("edit `close_always_ambiguous`", "not an edit"),
-        ("edits `block/close_always_ambiguous`, `algebra/first_verdict`", "an edit of a definition, and not said to be one"),
+        ("edits `closing/close_always_ambiguous`, `algebra/first_verdict`", "an edit of a definition, and not said to be one"),
         ("edits `algebra/first_verdict`", "an edit of a definition, and not said to be one"),
-        ("edit of a definition `block/close_always_ambiguous`", "an edit of code, and said to be one of a definition"),
+        ("edit of a definition `closing/close_always_ambiguous`", "an edit of code, and said to be one of a definition"),
         ("| wrong code |\n|---|\n| `algebra/first_verdict` |", "an edit of a definition, and not said to be one"),
         (
-            "| x | wrong definition |\n|---|---|\n| | `block/close_always_ambiguous` |",
+            "| x | wrong definition |\n|---|---|\n| | `closing/close_always_ambiguous` |",
             "an edit of code, and said to be one of a definition",
         ),
         ("test `written_units`", "not a test"),

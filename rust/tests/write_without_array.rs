@@ -158,7 +158,7 @@ fn printed() -> &'static str {
 
 #[test]
 fn write_reaches_no_array() {
-    let (program, start) = (program(printed()), "ccsds::writer::write");
+    let (program, start) = (program(printed()), "sending::writer::write");
     let found = with_array(&program, start);
     assert!(found.is_empty(), "functions with an array, reached by write:\n{}", found.join("\n"));
     println!("walked {} functions of {}", reached(&program, start).len(), program.len());
@@ -169,7 +169,7 @@ fn write_reaches_no_array() {
 fn write_for_c_is_lent_its_record_alone() {
     let (program, start) = (program(printed()), "lipvezor::lipvezor_write");
     let reached = reached(&program, start);
-    assert!(reached.contains_key("ccsds::writer::write"), "{reached:?}");
+    assert!(reached.contains_key("sending::writer::write"), "{reached:?}");
     let found = with_array(&program, start);
     assert_eq!(found, ["lipvezor::block_of, called by lipvezor::lipvezor_write", "lipvezor::lipvezor_write, called by the user"]);
     for path in reached.keys() {

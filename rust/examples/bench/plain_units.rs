@@ -1,4 +1,4 @@
-//! Write and take in plain Rust: the steps of `ccsds::writer`, `ccsds::reader` and `block::take`.
+//! Write and take in plain Rust: the steps of `sending::writer`, `unit_reader` and `block::take`.
 use crate::plain_tables::{check_block, check_code, check_fill, check_label, check_length, check_lwc, Layout};
 use lipvezor::{Record, Refusal, Taken};
 
