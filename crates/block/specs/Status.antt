@@ -1,7 +1,7 @@
 -- Document 01, "Open, take, close", with document 02, job 2: the marks of a block (0 missing, 1 heard, 2 filled), and the status of a position by
 -- its mark, unless it is idle. Nothing else compares a mark with a number.
 -- Assumes nothing.
-use mathlib.Core.Bool.{Bool, true, false, cond}
+use mathlib.Core.Bool.{Bool, cond}
 use mathlib.Core.List.{List}
 use Prim.Native.Nat.{ℕ}
 use lib.Dec.{eqb, ltb}

@@ -1,10 +1,10 @@
 // What the programs on blocks share: the steps of a pass, and how the answers are printed.
 pub mod pass;
 
+use block::take::Taken;
 use closing::Closed;
 use closing::Report;
 use closing::Verdict;
-use block::take::Taken;
 
 // Prints take's answer.
 pub fn print_taken(answer: Taken) {

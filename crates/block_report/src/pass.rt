@@ -1,10 +1,10 @@
 // The steps of a pass, as the programs take them. The units of a block stand one after the other, in the order of their positions; the place
 // of an idle position stays as it is.
 use block::Block;
-use closing::Closed;
 use block::open::Opened;
 use block::take::Taken;
 use ccsds::code::Code;
+use closing::Closed;
 use sending::writer::Written;
 ghost use Prim.Native.Nat.{_<_, _≤_};
 

@@ -1,15 +1,15 @@
 -- The laws of refusals: what a condition that does not apply says, and what a call answers and leaves by the number of its refusal.
 -- Assumes nothing.
 use mathlib.Core.Path.{_≡_, refl, sym, ap, _∙_}
-use mathlib.Core.Bool.{Bool, true, false, not, cond, _&&_, _||_, false≢true}
+use mathlib.Core.Bool.{Bool, true, false, not, cond, _||_, false≢true}
 use mathlib.Core.List.{List}
-use Prim.Native.Nat.{ℕ, zero, suc, _*_, _-_, _<_, _≤_}
+use Prim.Native.Nat.{ℕ, zero, suc, _*_, _<_, _≤_}
 use native.Mathlib.Decide.{decLt}
 use native.Mathlib.Omega.{arith}
-use lib.Dec.{eqb, leb, ltb}
-use borrow.Author.Tests.{not-false, eq-eqb, ne-eqb, eqb-true, eqb-false, ltb-false, lt-ltb, le-ltb, le-leb, lt-leb}
+use lib.Dec.{eqb, ltb}
+use borrow.Author.Tests.{not-false, eq-eqb, ne-eqb, eqb-true, eqb-false, ltb-false, lt-ltb, le-ltb}
 use Rattle.ccsds.specs.Tables.{codeOf, isCode, Known}
-use Rattle.ccsds.specs.Fill.{isIdle, wrongFill, idleLwc}
+use Rattle.ccsds.specs.Fill.{wrongFill}
 use Rattle.ccsds.specs.RefusalTable.{Refusal}
 use Rattle.ccsds.specs.RefusalTable as refusal
 use Rattle.ccsds.specs.Refusals.{wrongCode, wrongWidth, wrongLabel, wrongLength, wrongPosition, codeConditions, recordConditions, encoderConditions, Outcome, refused, answered, _⟫_, refuseIf, outcome, afterwards, bytesOf, informationBytes}

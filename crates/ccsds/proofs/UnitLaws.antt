@@ -1,23 +1,19 @@
 -- The lengths of a unit and its parts.
 -- Assumes nothing.
-use mathlib.Core.Path.{_≡_, ap, ap₂, refl, sym, _∙_}
+use mathlib.Core.Path.{_≡_, ap, ap₂, refl}
 use mathlib.Core.Bool.{false}
 use mathlib.Core.List.{List}
-use Prim.Native.Nat.{ℕ, _+_, _≤_, _<_}
+use Prim.Native.Nat.{ℕ, _+_, _≤_}
 use native.Mathlib.Omega.{arith}
 use lib.ListN.{length, length-append}
 use Rattle.ccsds.specs.Codes.{Params, nOf}
 use Rattle.ccsds.specs.Tables.{codeOf, Known}
-use Rattle.ccsds.specs.Fill.{idleLwc}
-use Rattle.ccsds.specs.RefusalTable as refusal
-use Rattle.ccsds.specs.Refusals.{recordConditions, wrongCode, wrongWidth, wrongLength, wrongPosition}
+use Rattle.ccsds.specs.Refusals.{wrongCode, wrongWidth}
 use Rattle.wire.specs.Sdnv.{sdnvBytes}
 use Rattle.ccsds.specs.inner.Compact.{Compact}
 use Rattle.ccsds.specs.inner.Layout.{LayoutOf}
 use Rattle.ccsds.specs.declared.tables.Layout.{Layout}
 use Rattle.ccsds.specs.Units.{headerOf, valueBytes, extensionOf, unitOf, symbolStart, unitLength, unitBytes}
-use Rattle.ccsds.proofs.RefusalOrder.{in-order, parts-none, first-none}
-use Rattle.ccsds.proofs.Refusals.{code-known, width-right, label-right, length-right, position-right, record-none}
 use Rattle.wire.proofs.SdnvRound.{most-five, in-one, two-long}
 use Rattle.ccsds.proofs.Valid.{valid-of}
 

@@ -3,7 +3,7 @@
 use mathlib.Core.Path.{_≡_, refl, sym, ap, ap₂, _∙_, subst, subst⁻¹}
 use mathlib.Core.Bool.{Bool, true, false, cond}
 use mathlib.Core.List.{List, []}
-use Prim.Native.Nat.{ℕ, zero, suc, _+_, _-_, _*_, _/_, _%_, _<_, _≤_}
+use Prim.Native.Nat.{ℕ, suc, _+_, _-_, _*_, _/_, _%_, _<_, _≤_}
 use native.Mathlib.Nat.{zero-add, mod-lt, suc-mul, mul-le-mul-left, mul-le-mul-right}
 use native.Mathlib.Decide.{decLt}
 use native.Mathlib.Numerals.{add-one}
@@ -15,14 +15,14 @@ use borrow.Author.Tests.{lt-ltb, le-ltb}
 use Rattle.algebra.specs.Sums.{_⊕_, pick, sum}
 use Rattle.algebra.proofs.Sums as sums
 use Rattle.algebra.proofs.Codeword.{slot}
-use Rattle.symbol_sums.specs.Gather.{gathered, maxPositions}
+use Rattle.symbol_sums.specs.Gather.{gathered}
 use Rattle.ccsds.specs.Codes.{Params, touches}
 use Rattle.ccsds.specs.Tables.{codeOf, Known}
 use Rattle.ccsds.specs.declared.tables.Layout.{Layout}
 use Rattle.ccsds.specs.inner.Layout.{LayoutOf, maxM}
 use Rattle.ccsds.proofs.Valid.{Valid, valid-of, some-a}
 use Rattle.encoder.specs.declared.positions.Shape.{Shape}
-use Rattle.encoder.specs.inner.Positions.{Entry, classFrom, classOf, positions, entriesOf, Shaped, Entries, Kept, Information}
+use Rattle.encoder.specs.inner.Positions.{Entry, classOf, positions, entriesOf, Shaped, Entries, Kept, Information}
 use Rattle.encoder.proofs.Touched.{Below, table-below, entry-good, class-good, positions-count, positions-each, positions-touch, positions-sum, hit-at}
 use Rattle.encoder.proofs.ClassTable.{entries-few, entry-front, entry-behind}
 

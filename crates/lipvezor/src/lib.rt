@@ -3,16 +3,16 @@
 // pass as a pointer to a record of their pointers and lengths; no call writes to that record. Each call answers 0, or the number of its
 // refusal; the values of records are those of specs/Numbers.antt.
 use block::Block;
-use closing::Closed;
-use closing::Verdict;
 use block::open::Opened;
 use block::take::Taken;
 use ccsds::code::Code;
+use ccsds::refusal;
+use closing::Closed;
+use closing::Verdict;
+use encoder::encode::Encoded;
+use sending::writer::Written;
 use unit_reader::Extension;
 use unit_reader::UnitRead;
-use ccsds::refusal;
-use sending::writer::Written;
-use encoder::encode::Encoded;
 ghost use mathlib.Core.Path.{_≡_};
 ghost use Prim.Native.Nat.{_+_, _*_, _/_};
 ghost use Rattle.ccsds.specs.Codes.{nOf};

@@ -11,7 +11,7 @@ ghost use Prim.Native.Nat.{_+_, _<_, _≤_};
 ghost use lib.ListN.{length};
 ghost use Rattle.ccsds.specs.Tables.{codeOf};
 ghost use Rattle.ccsds.specs.Refusals.{firstOf, outcome, afterwards};
-ghost use Rattle.ccsds.specs.Units.{headerOf, valueBytes, extensionOf, unitOf, unitBytes};
+ghost use Rattle.ccsds.specs.Units.{headerOf, valueBytes, extensionOf, unitOf};
 ghost use Rattle.sending.specs.Writer.{unitConditions, writeRefusal, writtenAs};
 ghost use Rattle.wire.specs.inner.Appended.{Appended};
 ghost use Rattle.ccsds.specs.inner.Compact.{Compact};

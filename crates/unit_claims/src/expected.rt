@@ -1,9 +1,9 @@
 // A quick reader for the units that a receiver expects: those whose bytes before the symbol are as write makes them for a code, a W, a protocol ID
 // and an LSC, whatever their LWC. Internal: block's take.
+use ccsds::tables::Layout;
 use unit_reader::Extension;
 use unit_reader::Parameters;
 use unit_reader::UnitParts;
-use ccsds::tables::Layout;
 use wire::big_endian;
 ghost use mathlib.Core.Path.{_≡_};
 ghost use mathlib.Core.Bool.{true};

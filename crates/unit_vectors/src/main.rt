@@ -1,10 +1,10 @@
 // Runs vectors from outside through the unit reader, the unit writer and show, and prints a line for each. tests/vectors/units.py makes
 // the vectors (stdin) and the lines (stdout); it shares no code with this repository.
 use ccsds::code::Code;
+use libc::STDIN_FILENO;
+use sending::writer::Written;
 use unit_reader::Extension;
 use unit_reader::UnitRead;
-use sending::writer::Written;
-use libc::STDIN_FILENO;
 use wire::big_endian;
 
 // A vector is nine numbers, of four bytes each, and the bytes of the last number's count. Kind 0 ends them.

@@ -5,7 +5,6 @@ use Prim.Native.Nat.{ℕ, _≤_, _-_}
 use native.Mathlib.Omega.{arith}
 use lib.ListN.{length, length-replicate}
 use Rattle.ccsds.specs.Tables.{codeOf}
-use Rattle.ccsds.specs.inner.Layout.{FrontIs, joined, maxAddresses}
 use Rattle.encoder.specs.inner.Positions.{tableEntered, tableSize}
 use Rattle.encoder.proofs.ClassTable.{row-more, table-size, few-classes, all-laid}
 use Rattle.encoder.proofs.positions.enter_rows.Statement.{statement}

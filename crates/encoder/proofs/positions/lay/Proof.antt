@@ -1,6 +1,5 @@
 -- `encoder::positions::lay` meets its contract: the entries of r classes are counted.
 -- Assumes nothing.
-use mathlib.Core.Path.{_≡_}
 use Prim.Native.Nat.{_-_, _≤_}
 use native.Mathlib.Omega.{arith}
 use Rattle.encoder.specs.inner.Positions.{Counted}
