@@ -115,7 +115,9 @@ impl<S: AsRef<[u8]> + AsMut<[u8]>, M: AsRef<[u8]> + AsMut<[u8]>> Block<S, M> {
     }
 
     /// Sets the fill. The units of a block do not carry it, so a receiver may have to open the block as a full one, and learn only later, at the
-    /// latest before the close that counts, that it is short. What was taken stays, and the block goes on as one that was opened with this fill.
+    /// latest before the close that counts, that it is short. What was taken stays. From then on calls answer, and a close leaves, what they would if the
+    /// block had been opened with this fill, if that is not larger than the one before: that is proved. A larger one does not bring back units that
+    /// were refused as idle; they have to come again.
     ///
     /// Symbols that were heard at positions that are idle by it no longer count, and are gone after the next close. The answer is how many these
     /// are: if any, then the fill is too small, or a unit was changed on the way.

@@ -35,7 +35,7 @@ use Rattle.block.proofs.BlockRefusal.{checks-n, Right}
 use Rattle.closing.proofs.Idle.{set-is, idle-at}
 use Rattle.closing.proofs.Marks.{idle-count, sent-all}
 use Rattle.block.proofs.Taking.{admitted-inside}
-use Rattle.history.proofs.FromTheList.{verdict-given, pos, fill-most, idle-inside, heard-sent, kept-zero, marks-size, symbols-size, mark-is, byte-is, small, kept-byte, kept-size, heard-symbol, idle-mark, idle-symbol, opens, from-the-list}
+use Rattle.history.proofs.FromTheList.{verdict-given, pos, fill-most, idle-inside, heard-sent, kept-zero, marks-size, symbols-size, mark-is, byte-is, small, kept-byte, kept-size, shows, heard-symbol, idle-mark, idle-symbol, opens, from-the-list}
 
 -- ---- counts of marks
 
@@ -191,7 +191,7 @@ module _ (b : Block) (r : Right b) (h : History) where
 
     heard-now : (i : ℕ) → i < checks b .n → heardAt b h i ≡ true → symbolAt (b .w) (now .symbols) i ≡ keptAt b h i
     unfolding heardAt keptAt
-    heard-now i k e = heard-symbol b r (closeWith words bytes ∷ h) i k e
+    heard-now i k e = heard-symbol b r (closeWith words bytes ∷ h) (stateOf b (closeWith words bytes ∷ h)) (shows b r (closeWith words bytes ∷ h)) i k e
 
     size : length (now .symbols) ≡ checks b .n * b .w
     size = symbols-size b r (closeWith words bytes ∷ h)
@@ -334,7 +334,7 @@ module _ (b : Block) (r : Right b) (h : History) where
   unfolding markOf
   stores unit x e f = (
     mark-is b r (takeUnit unit ∷ h) (x .position) inside ∙ rw (admitted-inside b unit x e .sent, hears),
-    heard-symbol b r (takeUnit unit ∷ h) (x .position) inside hears ∙ holds,
+    heard-symbol b r (takeUnit unit ∷ h) (stateOf b (takeUnit unit ∷ h)) (shows b r (takeUnit unit ∷ h)) (x .position) inside hears ∙ holds,
   )
     where
       inside : x .position < checks b .n

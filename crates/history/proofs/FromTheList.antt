@@ -1,11 +1,12 @@
 -- The theorem about lists of calls: what the calls leave and answer, one after the other, is what the list alone says.
 -- Assumes nothing.
 use mathlib.Core.Path.{_≡_, refl, sym, ap, ap₂, _∙_, subst}
+use mathlib.Core.Logic.{_↔_}
 use mathlib.Core.Bool.{Bool, true, false, _||_, cond, false≢true}
 use mathlib.Core.List.{List, [], _∷_}
 use Prim.Native.Nat.{ℕ, zero, suc, _+_, _*_, _/_, _%_, _≤_, _<_}
 use native.Mathlib.Nat.{mul-le-mul-right}
-use native.Mathlib.Decide.{decLt, ℕ-discrete}
+use native.Mathlib.Decide.{decLt}
 use native.Mathlib.Omega.{arith}
 use lib.Arith.{digits-div, digits-mod, digits-lt}
 use lib.Dec.{eqb}
@@ -25,7 +26,7 @@ use Rattle.block.specs.Block.{checks, idleAt, blockRefusal}
 use Rattle.block.specs.Status.{wrongMark, Status, idle, heard, missing, statusBy, statusOf}
 use Rattle.closing.specs.Close.{isKnown, known, markAfter}
 use Rattle.block.specs.Open.{openOf}
-use Rattle.block.specs.Take.{AdmittedUnit, Take, kept, repeated, admission, sameBytes, stored, unchanged, takeSymbol, takeOf}
+use Rattle.block.specs.Take.{AdmittedUnit, TakeResult, Take, kept, repeated, admission, sameBytes, stored, unchanged, takeSymbol, takeOf}
 use Rattle.closing.specs.Close.{Report, reportOf, wrongWork, idleCleared, agreeingWords, symbolsAfter, marksAfter, closeRefusal, closeOf}
 use Rattle.history.specs.Calls.{Call, takeUnit, closeWith, History, State, taken, closed, opened, next, answer, run, isAt, symbolOf, heardAt, keptAt, keptSymbols, statusAt, knownAt, agreeingWith, latest, markOf, byteBy, byteOf, stateOf, takeAnswer, answerOf, FollowsList, FromTheList}
 use Rattle.block.specs.declared.Block.{Block}
@@ -54,7 +55,7 @@ verdict-given b h words bytes q = go (wrongWork b (length words) (length bytes))
     go true e = let z : _≡_ {A = ℕ} 0 1 = cc in absurd (omega arith)
     go false e = (refl, cc)
 
--- what a close by the record b sees of state s is what the list says: the sizes, what the positions are, and the bytes of the heard ones; and no
+-- what a call with the record b sees of state s is what the list says: the sizes, what the positions are, and the bytes of the heard ones; and no
 -- mark is one that 11 refuses
 pub record Shows (b : Block) (h : History) (s : State) : Type 0 where
   pub bytes-all : length (s .symbols) ≡ checks b .n * b .w
@@ -166,11 +167,6 @@ module _ (b : Block) (r : Right b) where
         go (yes k) = omega (arith, mark-is i k, mark-small (statusAt b h i) (determined (b .w) (latest b h) i))
         go (no k) = omega (arith, List·getD-eq-default (stateOf b h .marks) 0 {n = i} (omega (arith, marks-size)))
 
-    -- no mark is one that 11 refuses
-    pub right : (i : ℕ) → wrongMark (getD (stateOf b h .marks) i 0) ≡ false
-    unfolding wrongMark
-    right i = le-ltb 2 (getD (stateOf b h .marks) i 0) (small i)
-
     -- what its positions are is what the list says
     pub status-is : (i : ℕ) → i < checks b .n → statusOf b (stateOf b h .marks) i ≡ statusAt b h i
     unfolding markOf
@@ -206,17 +202,15 @@ module _ (b : Block) (r : Right b) where
           at false g = absurd (false≢true g)
   kept-size (closeWith words bytes ∷ h) i e = kept-size h i e
 
-  -- the bytes that stand at a heard position are those of the kept symbol
+  -- a heard position has mark 1 and the bytes of the kept symbol
+  heard-of : (h : History) (i : ℕ) → heardAt b h i ≡ true → (markOf b h i ≡ 1) × ((j : ℕ) → byteOf b h j i ≡ getD (keptAt b h i) j 0)
+  unfolding markOf byteOf
+  heard-of h i e = (rw (heard-sent h i e, e), λ j. rw (heard-sent h i e, e))
+
   pub heard-byte : (h : History) (i j : ℕ) → i < checks b .n → j < b .w → heardAt b h i ≡ true → byteAt (b .w) (stateOf b h .symbols) j i ≡ getD (keptAt b h i) j 0
-  unfolding byteOf
-  heard-byte h i j k l e = byte-is h i j k l ∙ rw (heard-sent h i e, e)
+  heard-byte h i j k l e = byte-is h i j k l ∙ heard-of h i e .1 j
 
-  -- so the symbol there is the kept one
-  pub heard-symbol : (h : History) (i : ℕ) → i < checks b .n → heardAt b h i ≡ true → symbolAt (b .w) (stateOf b h .symbols) i ≡ keptAt b h i
-  heard-symbol h i k e =
-      symbol-is (checks b .n) (b .w) (stateOf b h .symbols) (symbols-size h) i k (keptAt b h i) (kept-size h i e) (λ j l. heard-byte h i j k l e)
-
-  -- a close sees in it what the list says
+  -- a call sees in it what the list says
   pub shows : (h : History) → Shows b h (stateOf b h)
   shows h = record {
     bytes-all = symbols-size h;
@@ -239,14 +233,13 @@ module _ (b : Block) (r : Right b) where
 
   -- ---- one take
 
+  -- by the list
   module _ (h : History) (unit : List ℕ) where
-    -- it is not for position i, or that was heard: position i stays
+    -- it is not for position i, or that was heard: what was heard and is kept there stays
     stays : (i : ℕ) → (isAt (admission b unit) i ≡ true → heardAt b h i ≡ true)
-        → (markOf b (takeUnit unit ∷ h) i ≡ markOf b h i) × ((j : ℕ) → byteOf b (takeUnit unit ∷ h) j i ≡ byteOf b h j i)
-    unfolding heardAt keptAt latest
-    stays i g =
-        same-at (takeUnit unit ∷ h) h i (heard-same (isAt (admission b unit) i) (heardAt b h i) g)
-        (kept-same (isAt (admission b unit) i) (heardAt b h i) refl g) refl
+        → (heardAt b (takeUnit unit ∷ h) i ≡ heardAt b h i) × (keptAt b (takeUnit unit ∷ h) i ≡ keptAt b h i)
+    unfolding heardAt keptAt
+    stays i g = (heard-same (isAt (admission b unit) i) (heardAt b h i) g, kept-same (isAt (admission b unit) i) (heardAt b h i) refl g)
       where
         heard-same : (a d : Bool) → (a ≡ true → d ≡ true) → a || d ≡ d
         heard-same true d g = sym (g refl)
@@ -258,113 +251,181 @@ module _ (b : Block) (r : Right b) where
         kept-same true false f g = absurd (false≢true (g refl))
         kept-same false false f g = sym (kept-none h i f)
 
-    -- it is for position i, which was not heard and is not idle
-    arrives : (i : ℕ) → isAt (admission b unit) i ≡ true → heardAt b h i ≡ false → idleAt b i ≡ false
-        → (markOf b (takeUnit unit ∷ h) i ≡ 1) × ((j : ℕ) → byteOf b (takeUnit unit ∷ h) j i ≡ getD (symbolOf (admission b unit)) j 0)
-    unfolding markOf byteOf heardAt keptAt
-    arrives i e f s = (rw (s, e), λ j. rw (s, e, f, e))
+    -- it is for position i, which was not heard: now it is, and its symbol is kept
+    arrives : (i : ℕ) → isAt (admission b unit) i ≡ true → heardAt b h i ≡ false
+        → (heardAt b (takeUnit unit ∷ h) i ≡ true) × (keptAt b (takeUnit unit ∷ h) i ≡ symbolOf (admission b unit))
+    unfolding heardAt keptAt
+    arrives i e f = (rw e, rw (f, e))
 
-    -- what take leaves and answers is what the list says
-    record Does (t : Take) : Type 0 where
-      state : _≡_ {A = State} (record { symbols = t .symbols; marks = t .marks }) (stateOf b (takeUnit unit ∷ h))
-      answer : t .answer ≡ takeAnswer b h (admission b unit)
-
-    -- it changes nothing
-    quiet : ((i : ℕ) → i < checks b .n → isAt (admission b unit) i ≡ true → heardAt b h i ≡ true) → stateOf b h ≡ stateOf b (takeUnit unit ∷ h)
-    quiet f =
-        state-is (takeUnit unit ∷ h) (stateOf b h) (symbols-size h) (marks-size h)
-        (λ i k. mark-is h i k ∙ sym (stays i (f i k) .0)) (λ i j k l. byte-is h i j k l ∙ sym (stays i (f i k) .1 j))
-
-    does-refused : (number : ℕ) → admission b unit ≡ refused number → Does (unchanged b (stateOf b h .symbols) (stateOf b h .marks) (refused number))
-    unfolding isAt
-    does-refused number e = record {
-      state = quiet (λ i k t. absurd (false≢true (sym (ap (λ (a : Outcome AdmittedUnit). isAt a i) e) ∙ t)));
-      answer = sym (ap (takeAnswer b h) e);
-    }
-
-    module _ (x : AdmittedUnit) (e : admission b unit ≡ answered x) where
-      at-own : (i : ℕ) → isAt (admission b unit) i ≡ eqb (x .position) i
-      unfolding isAt
-      at-own i = ap (λ (a : Outcome AdmittedUnit). isAt a i) e
-
-      -- its position was heard
-      does-heard : heardAt b h (x .position) ≡ true
-          → Does (unchanged b (stateOf b h .symbols) (stateOf b h .marks) (cond (sameBytes (symbolAt (b .w) (stateOf b h .symbols) (x .position)) (x .symbol)) (answered repeated) (refused 12)))
-      does-heard t = record {
-        state = quiet (λ i k a. subst (λ (p : ℕ). heardAt b h p ≡ true) (eqb-iff (x .position) i .0 (sym (at-own i) ∙ a)) t);
-        answer =
-            ap (λ (y : List ℕ). cond (sameBytes y (x .symbol)) (answered repeated) (refused 12)) (heard-symbol h (x .position) (admitted-inside b unit x e .position) t)
-            ∙ sym (ap (takeAnswer b h) e ∙ ap (λ (a : Bool). cond a (cond (sameBytes (keptAt b h (x .position)) (x .symbol)) (answered repeated) (refused 12)) (answered kept)) t);
-      }
-
-      -- it was not
-      does-new : heardAt b h (x .position) ≡ false
-          → Does (record { answer = answered kept; symbols = stored (stateOf b h .symbols) (x .position * b .w) (x .symbol); marks = set (stateOf b h .marks) (x .position) 1 })
-      unfolding symbolOf
-      does-new t = record {
-        state =
-            state-is (takeUnit unit ∷ h) (record { symbols = stored s (p * b .w) (x .symbol); marks = set m p 1 })
-            (length-stored (checks b .n) (b .w) s (symbols-size h) p (I .position) (x .symbol) (I .size)) (length-set m p 1 ∙ marks-size h)
-            (λ i k. mark i k (ℕ-discrete i p)) (λ i j k l. byte i j k l (ℕ-discrete i p));
-        answer = sym (ap (takeAnswer b h) e ∙ ap (λ (a : Bool). cond a (cond (sameBytes (keptAt b h (x .position)) (x .symbol)) (answered repeated) (refused 12)) (answered kept)) t);
-      }
-        where
-          s : List ℕ
-          s = stateOf b h .symbols
-
-          m : List ℕ
-          m = stateOf b h .marks
-
-          p : ℕ
-          p = x .position
-
-          I : Inside b x
-          I = admitted-inside b unit x e
-
-          new : {i : ℕ} → i ≡ p → (markOf b (takeUnit unit ∷ h) i ≡ 1) × ((j : ℕ) → byteOf b (takeUnit unit ∷ h) j i ≡ getD (symbolOf (admission b unit)) j 0)
-          new {i} q = arrives i (at-own i ∙ eqb-iff p i .1 (sym q)) (ap (heardAt b h) q ∙ t) (ap (idleAt b) q ∙ I .sent)
-
-          old : {i : ℕ} → (i ≡ p → ⊥) → (markOf b (takeUnit unit ∷ h) i ≡ markOf b h i) × ((j : ℕ) → byteOf b (takeUnit unit ∷ h) j i ≡ byteOf b h j i)
-          old {i} d = stays i (λ f. absurd (d (sym (eqb-iff p i .0 (sym (at-own i) ∙ f)))))
-
-          mark : (i : ℕ) → i < checks b .n → Dec (i ≡ p) → getD (set m p 1) i 0 ≡ markOf b (takeUnit unit ∷ h) i
-          mark i k (yes q) =
-              ap (λ (u : ℕ). getD (set m p 1) u 0) q ∙ getD-set-same m p 1 0 (subst (λ (n : ℕ). p < n) (sym (marks-size h)) (I .position)) ∙ sym (new q .0)
-          mark i k (no d) = getD-set-other m p i 1 0 d ∙ mark-is h i k ∙ sym (old d .0)
-
-          byte : (i j : ℕ) → i < checks b .n → j < b .w → Dec (i ≡ p) → byteAt (b .w) (stored s (p * b .w) (x .symbol)) j i ≡ byteOf b (takeUnit unit ∷ h) j i
-          byte i j k l (yes q) =
-              ap (λ (u : ℕ). byteAt (b .w) (stored s (p * b .w) (x .symbol)) j u) q
-              ∙ stored-same (checks b .n) (b .w) s (symbols-size h) p (I .position) (x .symbol) (I .size) j l
-              ∙ sym (new q .1 j ∙ ap (λ (a : Outcome AdmittedUnit). getD (symbolOf a) j 0) e)
-          byte i j k l (no d) =
-              stored-other (checks b .n) (b .w) s (symbols-size h) p (I .position) (x .symbol) (I .size) i j l d ∙ byte-is h i j k l ∙ sym (old d .1 j)
-
-      does-admitted : Does (takeSymbol b (stateOf b h .symbols) (stateOf b h .marks) x)
-      does-admitted = go (heardAt b h p) refl
-        where
-          p : ℕ
-          p = x .position
-
-          I : Inside b x
-          I = admitted-inside b unit x e
-
-          by : (a : Bool) → heardAt b h p ≡ a → statusOf b (stateOf b h .marks) p ≡ cond a heard missing
-          by a t = status-is h p (I .position) ∙ ap₂ (λ (u v : Bool). cond u idle (cond v heard missing)) (I .sent) t
-
-          go : (a : Bool) → heardAt b h p ≡ a → Does (takeSymbol b (stateOf b h .symbols) (stateOf b h .marks) x)
-          go true t = subst Does (sym (at-right b (stateOf b h .symbols) (stateOf b h .marks) x (right h p) heard (by true t))) (does-heard t)
-          go false t = subst Does (sym (at-right b (stateOf b h .symbols) (stateOf b h .marks) x (right h p) missing (by false t))) (does-new t)
-
-    does : Does (takeOf b (stateOf b h .symbols) (stateOf b h .marks) unit)
-    does = go (admission b unit) refl
+    -- one or the other
+    either : {P : Type 0} (i : ℕ) → ((isAt (admission b unit) i ≡ true → heardAt b h i ≡ true) → P)
+        → (isAt (admission b unit) i ≡ true → heardAt b h i ≡ false → P) → P
+    either {P} i f g = go (isAt (admission b unit) i) refl (heardAt b h i) refl
       where
-        z : blockRefusal b (length (stateOf b h .symbols)) (length (stateOf b h .marks)) ≡ 0
-        z = not-refused b (length (stateOf b h .symbols)) (length (stateOf b h .marks)) r (symbols-size h) (marks-size h)
+        go : (a : Bool) → isAt (admission b unit) i ≡ a → (d : Bool) → heardAt b h i ≡ d → P
+        go a e true q = f (λ t. q)
+        go true e false q = g e q
+        go false e false q = f (λ t. absurd (false≢true (sym e ∙ t)))
 
-        go : (a : Outcome AdmittedUnit) → admission b unit ≡ a → Does (takeOf b (stateOf b h .symbols) (stateOf b h .marks) unit)
-        go (refused number) e = subst Does (sym (take-by b (stateOf b h .symbols) (stateOf b h .marks) unit (refused number) z e)) (does-refused number e)
-        go (answered x) e = subst Does (sym (take-by b (stateOf b h .symbols) (stateOf b h .marks) unit (answered x) z e)) (does-admitted x e)
+  -- on every state in which it sees what the list says
+  module _ (h : History) (s : State) (S : Shows b h s) where
+    -- no mark is one that 11 refuses
+    right : (i : ℕ) → wrongMark (getD (s .marks) i 0) ≡ false
+    unfolding wrongMark
+    right i = le-ltb 2 (getD (s .marks) i 0) (S .marks-small i)
+
+    -- the symbol at a heard position is the kept one
+    pub heard-symbol : (i : ℕ) → i < checks b .n → heardAt b h i ≡ true → symbolAt (b .w) (s .symbols) i ≡ keptAt b h i
+    heard-symbol i k e =
+        symbol-is (checks b .n) (b .w) (s .symbols) (S .bytes-all) i k (keptAt b h i) (kept-size h i e) (λ j l. S .heard-bytes i j k l e)
+
+    module _ (unit : List ℕ) where
+      -- what take leaves at each position, and answers
+      record Does (t : Take) : Type 0 where
+        bytes-all : length (t .symbols) ≡ checks b .n * b .w
+        marks-all : length (t .marks) ≡ checks b .n
+        old : (i : ℕ) → (isAt (admission b unit) i ≡ true → heardAt b h i ≡ true)
+            → (getD (t .marks) i 0 ≡ getD (s .marks) i 0) × ((j : ℕ) → j < b .w → byteAt (b .w) (t .symbols) j i ≡ byteAt (b .w) (s .symbols) j i)
+        new : (i : ℕ) → isAt (admission b unit) i ≡ true → heardAt b h i ≡ false
+            → (getD (t .marks) i 0 ≡ 1) × ((j : ℕ) → j < b .w → byteAt (b .w) (t .symbols) j i ≡ getD (symbolOf (admission b unit)) j 0)
+        answer : t .answer ≡ takeAnswer b h (admission b unit)
+
+      -- it changes nothing
+      quiet : ((i : ℕ) → isAt (admission b unit) i ≡ true → heardAt b h i ≡ true) → (a : Outcome TakeResult) → a ≡ takeAnswer b h (admission b unit)
+          → Does (unchanged b (s .symbols) (s .marks) a)
+      quiet f a e = record {
+        bytes-all = S .bytes-all;
+        marks-all = S .marks-all;
+        old = λ i g. (refl, λ j l. refl);
+        new = λ i t q. absurd (false≢true (sym q ∙ f i t));
+        answer = e;
+      }
+
+      does-refused : (number : ℕ) → admission b unit ≡ refused number → Does (unchanged b (s .symbols) (s .marks) (refused number))
+      unfolding isAt
+      does-refused number e =
+          quiet (λ i t. absurd (false≢true (sym (ap (λ (a : Outcome AdmittedUnit). isAt a i) e) ∙ t))) (refused number) (sym (ap (takeAnswer b h) e))
+
+      module _ (x : AdmittedUnit) (e : admission b unit ≡ answered x) where
+        I : Inside b x
+        I = admitted-inside b unit x e
+
+        -- it is at its own position only
+        at-own : (i : ℕ) → (isAt (admission b unit) i ≡ true) ↔ (x .position ≡ i)
+        unfolding isAt
+        at-own i =
+            let q : isAt (admission b unit) i ≡ eqb (x .position) i = ap (λ (a : Outcome AdmittedUnit). isAt a i) e in
+            (λ t. eqb-iff (x .position) i .0 (sym q ∙ t), λ t. q ∙ eqb-iff (x .position) i .1 t)
+
+        answer-by : (a : Bool) → heardAt b h (x .position) ≡ a
+            → takeAnswer b h (admission b unit) ≡ cond a (cond (sameBytes (keptAt b h (x .position)) (x .symbol)) (answered repeated) (refused 12)) (answered kept)
+        answer-by a t =
+            ap (takeAnswer b h) e
+            ∙ ap (λ (d : Bool). cond d (cond (sameBytes (keptAt b h (x .position)) (x .symbol)) (answered repeated) (refused 12)) (answered kept)) t
+
+        -- its position was heard
+        does-heard : heardAt b h (x .position) ≡ true
+            → Does (unchanged b (s .symbols) (s .marks) (cond (sameBytes (symbolAt (b .w) (s .symbols) (x .position)) (x .symbol)) (answered repeated) (refused 12)))
+        does-heard t =
+            quiet (λ i a. subst (λ (p : ℕ). heardAt b h p ≡ true) (at-own i .0 a) t) _
+            (ap (λ (y : List ℕ). cond (sameBytes y (x .symbol)) (answered repeated) (refused 12)) (heard-symbol (x .position) (I .position) t)
+            ∙ sym (answer-by true t))
+
+        -- it was not
+        does-new : heardAt b h (x .position) ≡ false
+            → Does (record { answer = answered kept; symbols = stored (s .symbols) (x .position * b .w) (x .symbol); marks = set (s .marks) (x .position) 1 })
+        unfolding symbolOf
+        does-new t = record {
+          bytes-all = length-stored (checks b .n) (b .w) (s .symbols) (S .bytes-all) p (I .position) (x .symbol) (I .size);
+          marks-all = length-set (s .marks) p 1 ∙ S .marks-all;
+          old = λ i g.
+              let d : i ≡ p → ⊥ = λ q. false≢true (sym t ∙ ap (heardAt b h) (sym q) ∙ g (at-own i .1 (sym q))) in (
+                getD-set-other (s .marks) p i 1 0 d,
+                λ j l. stored-other (checks b .n) (b .w) (s .symbols) (S .bytes-all) p (I .position) (x .symbol) (I .size) i j l d,
+              );
+          new = λ i a f. subst At (at-own i .0 a) (
+            getD-set-same (s .marks) p 1 0 (subst (λ (n : ℕ). p < n) (sym (S .marks-all)) (I .position)),
+            λ j l.
+                stored-same (checks b .n) (b .w) (s .symbols) (S .bytes-all) p (I .position) (x .symbol) (I .size) j l
+                ∙ sym (ap (λ (a : Outcome AdmittedUnit). getD (symbolOf a) j 0) e),
+          );
+          answer = sym (answer-by false t);
+        }
+          where
+            p : ℕ
+            p = x .position
+
+            At : ℕ → Type 0
+            At i =
+                (getD (set (s .marks) p 1) i 0 ≡ 1)
+                × ((j : ℕ) → j < b .w → byteAt (b .w) (stored (s .symbols) (p * b .w) (x .symbol)) j i ≡ getD (symbolOf (admission b unit)) j 0)
+
+        does-admitted : Does (takeSymbol b (s .symbols) (s .marks) x)
+        does-admitted = go (heardAt b h (x .position)) refl
+          where
+            by : (a : Bool) → heardAt b h (x .position) ≡ a → statusOf b (s .marks) (x .position) ≡ cond a heard missing
+            by a t = S .statuses (x .position) (I .position) ∙ ap₂ (λ (u v : Bool). cond u idle (cond v heard missing)) (I .sent) t
+
+            go : (a : Bool) → heardAt b h (x .position) ≡ a → Does (takeSymbol b (s .symbols) (s .marks) x)
+            go true t = subst Does (sym (at-right b (s .symbols) (s .marks) x (right (x .position)) heard (by true t))) (does-heard t)
+            go false t = subst Does (sym (at-right b (s .symbols) (s .marks) x (right (x .position)) missing (by false t))) (does-new t)
+
+      does : Does (takeOf b (s .symbols) (s .marks) unit)
+      does = go (admission b unit) refl
+        where
+          z : blockRefusal b (length (s .symbols)) (length (s .marks)) ≡ 0
+          z = not-refused b (length (s .symbols)) (length (s .marks)) r (S .bytes-all) (S .marks-all)
+
+          go : (a : Outcome AdmittedUnit) → admission b unit ≡ a → Does (takeOf b (s .symbols) (s .marks) unit)
+          go (refused number) e = subst Does (sym (take-by b (s .symbols) (s .marks) unit (refused number) z e)) (does-refused number e)
+          go (answered x) e = subst Does (sym (take-by b (s .symbols) (s .marks) unit (answered x) z e)) (does-admitted x e)
+
+      -- a call after it sees what the list says
+      take-shows : Shows b (takeUnit unit ∷ h) (next b s (takeUnit unit))
+      unfolding next
+      take-shows = record {
+        bytes-all = does .bytes-all;
+        marks-all = does .marks-all;
+        marks-small = λ i.
+            either h unit i (λ g. omega (arith, does .old i g .0, S .marks-small i)) (λ a f. omega (arith, does .new i a f .0));
+        statuses = λ i k.
+            either h unit i
+            (λ g. ap (by-mark i) (does .old i g .0) ∙ S .statuses i k ∙ sym (ap (by-heard i) (stays h unit i g .0)))
+            (λ a f. ap (by-mark i) (does .new i a f .0) ∙ sym (ap (by-heard i) (arrives h unit i a f .0)));
+        heard-bytes = λ i j k l e.
+            either h unit i
+            (λ g.
+            let q = stays h unit i g in
+            does .old i g .1 j l ∙ S .heard-bytes i j k l (sym (q .0) ∙ e) ∙ sym (ap (λ (y : List ℕ). getD y j 0) (q .1)))
+            (λ a f. does .new i a f .1 j l ∙ sym (ap (λ (y : List ℕ). getD y j 0) (arrives h unit i a f .1)));
+      }
+        where
+          by-mark : ℕ → ℕ → Status
+          by-mark i m = cond (idleAt b i) idle (statusBy m)
+
+          by-heard : ℕ → Bool → Status
+          by-heard i a = cond (idleAt b i) idle (cond a heard missing)
+
+  -- on the list's state it leaves the list's state
+  take-next : (h : History) (unit : List ℕ) → next b (stateOf b h) (takeUnit unit) ≡ stateOf b (takeUnit unit ∷ h)
+  unfolding next latest
+  take-next h unit =
+      let D = does h (stateOf b h) (shows h) unit in
+      state-is (takeUnit unit ∷ h) (next b (stateOf b h) (takeUnit unit)) (D .bytes-all) (D .marks-all)
+      (λ i k.
+      either h unit i
+      (λ g. D .old i g .0 ∙ mark-is h i k ∙ sym (same i g .0))
+      (λ a f. D .new i a f .0 ∙ sym (heard-of (takeUnit unit ∷ h) i (arrives h unit i a f .0) .0)))
+      (λ i j k l.
+      either h unit i
+      (λ g. D .old i g .1 j l ∙ byte-is h i j k l ∙ sym (same i g .1 j))
+      (λ a f.
+      let q = arrives h unit i a f in
+      D .new i a f .1 j l ∙ sym (heard-of (takeUnit unit ∷ h) i (q .0) .1 j ∙ ap (λ (y : List ℕ). getD y j 0) (q .1))))
+    where
+      same : (i : ℕ) → (isAt (admission b unit) i ≡ true → heardAt b h i ≡ true)
+          → (markOf b (takeUnit unit ∷ h) i ≡ markOf b h i) × ((j : ℕ) → byteOf b (takeUnit unit ∷ h) j i ≡ byteOf b h j i)
+      same i g = same-at (takeUnit unit ∷ h) h i (stays h unit i g .0) (stays h unit i g .1) refl
 
   -- ---- one close
 
@@ -460,21 +521,44 @@ module _ (b : Block) (r : Right b) where
               rw (refusal-is, t)
               (ap closed (ap answered (ap₂ (reportOf b) (ap verdictOf agreeing-are) (ap (λ (u : State). u .marks) (closed-state t)))))
 
+      -- a call after it sees what the list says
+      close-shows : Shows b (closeWith words bytes ∷ h) (next b s (closeWith words bytes))
+      unfolding next closeOf heardAt keptAt
+      close-shows = go (wrongWork b (length words) (length bytes)) refl
+        where
+          stays-shown : Shows b (closeWith words bytes ∷ h) s
+          stays-shown = record {
+            bytes-all = S .bytes-all;
+            marks-all = S .marks-all;
+            marks-small = S .marks-small;
+            statuses = S .statuses;
+            heard-bytes = S .heard-bytes;
+          }
+
+          go : (a : Bool) → wrongWork b (length words) (length bytes) ≡ a → Shows b (closeWith words bytes ∷ h) (next b s (closeWith words bytes))
+          go true t = rw (refusal-is, t) stays-shown
+          go false t = subst (Shows b (closeWith words bytes ∷ h)) (sym (close-next t)) (shows (closeWith words bytes ∷ h))
+
   -- ---- one call
 
   next-is : (h : History) (c : Call) → next b (stateOf b h) c ≡ stateOf b (c ∷ h)
   unfolding next closeOf
-  next-is h (takeUnit unit) = does h unit .state
+  next-is h (takeUnit unit) = take-next h unit
   next-is h (closeWith words bytes) = go (wrongWork b (length words) (length bytes)) refl
     where
       go : (a : Bool) → wrongWork b (length words) (length bytes) ≡ a → next b (stateOf b h) (closeWith words bytes) ≡ stateOf b (closeWith words bytes ∷ h)
       go true t = rw (refusal-is h (stateOf b h) (shows h) words bytes, t) (refused-state h words bytes t)
       go false t = close-next h (stateOf b h) (shows h) words bytes t
 
-  answer-is : (h : History) (c : Call) → answer b (stateOf b h) c ≡ answerOf b h c
-  unfolding answer answerOf
-  answer-is h (takeUnit unit) = ap taken (does h unit .answer)
-  answer-is h (closeWith words bytes) = close-answer h (stateOf b h) (shows h) words bytes
+  module _ (h : History) (s : State) (S : Shows b h s) where
+    pub next-shows : (c : Call) → Shows b (c ∷ h) (next b s c)
+    next-shows (takeUnit unit) = take-shows h s S unit
+    next-shows (closeWith words bytes) = close-shows h s S words bytes
+
+    pub answer-is : (c : Call) → answer b s c ≡ answerOf b h c
+    unfolding answer answerOf
+    answer-is (takeUnit unit) = ap taken (does h s S unit .answer)
+    answer-is (closeWith words bytes) = close-answer h s S words bytes
 
   -- ---- the list
 
@@ -502,8 +586,8 @@ module _ (b : Block) (r : Right b) where
   follows : (s : State) → s ≡ stateOf b [] → (h : History) → FollowsList b h (run b s h)
   follows s e h = record {
     state = run-is s e h;
-    answers = λ c. ap (λ (u : State). answer b u c) (run-is s e h) ∙ answer-is h c;
-    marks = λ i. subst (λ (u : State). wrongMark (getD (u .marks) i 0) ≡ false) (sym (run-is s e h)) (right h i);
+    answers = λ c. ap (λ (u : State). answer b u c) (run-is s e h) ∙ answer-is h (stateOf b h) (shows h) c;
+    marks = λ i. subst (λ (u : State). wrongMark (getD (u .marks) i 0) ≡ false) (sym (run-is s e h)) (right h (stateOf b h) (shows h) i);
     idle-marks = λ i q. ap (λ (u : State). getD (u .marks) i 0) (run-is s e h) ∙ idle-mark h i q;
     idle-symbols = λ i q. ap (λ (u : State). symbolAt (b .w) (u .symbols) i) (run-is s e h) ∙ idle-symbol h i q;
   }

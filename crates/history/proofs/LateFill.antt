@@ -1,9 +1,9 @@
--- A fill that is learned late, from the theorem about lists of calls: a close with the smaller fill sees in the state that the calls with the
--- larger one left what the list says for the smaller one.
+-- A fill that is learned late, from the theorem about lists of calls: a call with the smaller fill sees in the state that the calls with the
+-- larger one left what the list says for the smaller one, and so do all further ones.
 -- Assumes nothing.
 use mathlib.Core.Path.{_≡_, refl, sym, ap, ap₂, _∙_, subst}
 use mathlib.Core.Bool.{Bool, true, false, _||_, cond, false≢true}
-use mathlib.Core.List.{List, [], _∷_}
+use mathlib.Core.List.{List, [], _∷_, _++_}
 use mathlib.Core.Option.{Option, none, some}
 use Prim.Native.Nat.{ℕ, zero, suc, _-_, _≤_, _<_}
 use native.Mathlib.Omega.{arith}
@@ -19,19 +19,26 @@ use Rattle.block.specs.Status.{idle, heard, missing, statusBy}
 use Rattle.block.specs.Open.{openOf}
 use Rattle.block.specs.Take.{wrongParameters, foreign, unitRefusal, AdmittedUnit, admission}
 use Rattle.history.specs.Calls.{takeUnit, closeWith, History, State, opened, run, isAt, symbolOf, heardAt, keptAt, stateOf}
-use Rattle.history.specs.LateFill.{ClosesAlike, LateFill}
+use Rattle.history.specs.LateFill.{Alike, LateFill}
 use Rattle.block.specs.declared.Block.{Block}
 use Rattle.block.proofs.BlockRefusal.{Right}
-use Rattle.history.proofs.FromTheList.{verdict-given, Shows, heard-sent, marks-size, symbols-size, small, status-is, heard-byte, shows, close-next, close-answer, opens, from-the-list}
+use Rattle.history.proofs.FromTheList.{verdict-given, Shows, heard-sent, marks-size, symbols-size, small, status-is, heard-byte, shows, close-next, close-answer, next-shows, answer-is, opens, from-the-list}
 
--- a close gives the same on two states in which it sees the same list
-closes-alike : (b : Block) → Right b → (h : History) (s t : State) → Shows b h s → Shows b h t → ClosesAlike b s t
-closes-alike b r h s t S T = record {
-  answers = λ words bytes. close-answer b r h s S words bytes ∙ sym (close-answer b r h t T words bytes);
-  leaves = λ words bytes q e.
-      let g = verdict-given b h words bytes q (sym (close-answer b r h s S words bytes) ∙ e) .0 in
-      close-next b r h s S words bytes g ∙ sym (close-next b r h t T words bytes g);
-}
+module _ (b : Block) (r : Right b) (h : History) (s : State) (S : Shows b h s) where
+  -- two states in which a call sees the same list are alike
+  states-alike : (t : State) → Shows b h t → Alike b s t
+  states-alike t T = record {
+    answers = λ c. answer-is b r h s S c ∙ sym (answer-is b r h t T c);
+    leaves = λ words bytes q e.
+        let g = verdict-given b h words bytes q (sym (close-answer b r h s S words bytes) ∙ e) .0 in
+        close-next b r h s S words bytes g ∙ sym (close-next b r h t T words bytes g);
+  }
+
+  -- after further calls the next one sees the longer list
+  run-shows : (g : History) → Shows b (g ++ h) (run b s g)
+  unfolding run
+  run-shows [] = S
+  run-shows (c ∷ g) = next-shows b r (g ++ h) (run b s g) (run-shows g) c
 
 -- the record with fill f
 abbrev withFill : Block → ℕ → Block
@@ -100,7 +107,7 @@ module _ (b : Block) (f : ℕ) (more : b .fill ≤ f) where
         (ap₂ _||_ (a .there) (q .0), rw (q .0, q .1, a .holds))
     alike (closeWith words bytes ∷ h) = alike h
 
-  -- a close with the smaller fill, after calls with the larger one
+  -- what a call with the smaller fill sees, after calls with the larger one
   shows-too : Right b → Right (withFill b f) → (h : History) → Shows b h (stateOf (withFill b f) h)
   unfolding checks
   shows-too r r′ h = record {
@@ -119,10 +126,14 @@ module _ (b : Block) (f : ℕ) (more : b .fill ≤ f) where
       go i k false q = rw (sent-too i q, alike i q h .0) at (status-is (withFill b f) r′ h i k)
 
 pub late-fill : LateFill
-late-fill o b symbols marks q o′ b′ symbols′ marks′ q′ S h =
+late-fill o b symbols marks q o′ b′ symbols′ marks′ q′ S h g =
     let r′ = opens o′ b′ symbols′ marks′ q′ .1 in
     let e : b ≡ withFill b′ (b .fill) = rw (S .code, S .w, S .protocol, S .lsc) in
-    closes-alike b′ r′ h (run b (opened (openOf o symbols marks)) h) (run b′ (opened (openOf o′ symbols′ marks′)) h)
+    let s = run b (opened (openOf o symbols marks)) h in
+    states-alike b′ r′ (g ++ h) (run b′ s g)
+    (run-shows b′ r′ h s
     (subst (Shows b′ h) (sym (from-the-list o b symbols marks q h .state ∙ ap (λ (c : Block). stateOf c h) e))
     (shows-too b′ (b .fill) (S .fill) r′ (subst Right e (opens o b symbols marks q .1)) h))
-    (subst (Shows b′ h) (sym (from-the-list o′ b′ symbols′ marks′ q′ h .state)) (shows b′ r′ h))
+    g)
+    (run b′ (opened (openOf o′ symbols′ marks′)) (g ++ h))
+    (subst (Shows b′ (g ++ h)) (sym (from-the-list o′ b′ symbols′ marks′ q′ (g ++ h) .state)) (shows b′ r′ (g ++ h)))
