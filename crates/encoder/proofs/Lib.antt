@@ -6,4 +6,3 @@ pub mod WholeRow
 pub mod Parity
 pub mod EncodeRefusal
 pub mod Claims
-pub mod Samples

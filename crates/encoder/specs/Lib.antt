@@ -1,4 +1,3 @@
 pub mod Encode
 pub mod Claims
-pub mod Samples
 pub mod inner

@@ -14,7 +14,7 @@ use Rattle.algebra.proofs.Sums.{odd, sum-tests, sum-terms, sum-pick, sum-alone}
 use Rattle.algebra.proofs.Staircase.{codeword-parity, parity-odd}
 use Rattle.ccsds.specs.Codes.{Params, rowOf, checkRowOf, touches}
 use Rattle.ccsds.specs.Tables.{codeOf, codeIn, codes, isCode, numberIn, c1, c2, c4, c5, c7, c8, rows1, rows2, rows4, rows5, rows7, rows8}
-use Rattle.encoder.specs.Samples.{CodeSample, CodeHolds, inRuns, SdnvHolds, Sample, ofCode, ofSdnv, Each, samples, SingleSymbol}
+use Rattle.samples.specs.Samples.{CodeSample, CodeHolds, inRuns, SdnvHolds, Sample, ofCode, ofSdnv, Each, samples, SingleSymbol}
 use Rattle.wire.specs.Sdnv.{sdnvFrom, group, sdnvBytes}
 use Rattle.ccsds.proofs.Table.{both-left, both-right, upTo as each, between}
 use Rattle.ccsds.proofs.Valid.{Valid, valid-of, upTo, touches-odd}

@@ -1,0 +1,1 @@
+// The requirements' starred samples. No function: definitions in specs/, proofs in proofs/.
