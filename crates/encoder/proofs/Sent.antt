@@ -89,6 +89,9 @@ module _ (c : Params) (v : Valid c) (j rows : ℕ) (within : rows ≤ length (c 
 
 -- the entries in an array
 module _ (c : Params) (v : Valid c) {rows j n : ℕ} {xs : List ℕ} (e : Entries c rows j n xs) (within : rows ≤ length (c .rows)) where
+  pub entries-lt : (i : ℕ) → i < n → getD xs i 0 < rows * c .q
+  entries-lt i h = subst⁻¹ (λ (t : ℕ). t < rows * c .q) (e .each i h) (front-lt c v j rows within i (omega (arith, e .count)))
+
   -- those up to one whose table row ends by fill are below fill
   pub entries-to : (fill d : ℕ) → d < n → entry-at c j d .0 * c .q + c .q ≤ fill → (i : ℕ) → i ≤ d → getD xs i 0 < fill
   entries-to fill d h l i g =

@@ -266,7 +266,7 @@ fn keep_sent(fill: usize, from: usize, n: usize, xs: &mut [u16; MAX_POSITIONS]) 
 
 // The information positions of check row i * a + r that are sent, at the front of xs; answers how many. Only of the last table row may some be
 // idle, and its entries are the last of a class.
-pub fn information(
+fn sent(
     s: Shape,
     table: &[u16; TABLE_SIZE],
     i: usize,
@@ -282,6 +282,27 @@ pub fn information(
     keep_sent(s.fill, tables::wide(table[WHOLE + r]), n, xs)
 }
 
+// The same for the encoder. Where the fill ends with a table row nothing is idle: a test that is the same for all check rows, so that the
+// encoder's loop over them is compiled for each of its answers.
+pub fn information(
+    s: Shape,
+    table: &[u16; TABLE_SIZE],
+    i: usize,
+    r: usize,
+    xs: &mut [u16; MAX_POSITIONS],
+) -> usize
+    requires { ⌜ Table s (now table) ⌝ }
+    requires { ⌜ (r < codeOf (s .number) .a) × (i < codeOf (s .number) .q) ⌝ }
+    requires { ⌜ length (now xs) ≡ maxPositions ⌝ }
+    ensures { λ n. ⌜ Information (codeOf (s .number)) (s .fill) (i * codeOf (s .number) .a + r) n (now (xs .exit)) ⌝ }
+{
+    let l = s.layout;
+    if s.rows * l.q == s.fill {
+        return entries(s, table, i, r, xs);
+    }
+    sent(s, table, i, r, xs)
+}
+
 // All positions of check row j that are sent, at the front of xs; answers how many. The last two, or the last where j is 0, are those of the parity
 // symbols.
 pub fn of_row(s: Shape, table: &[u16; TABLE_SIZE], j: usize, xs: &mut [u16; MAX_POSITIONS]) -> usize
@@ -291,7 +312,7 @@ pub fn of_row(s: Shape, table: &[u16; TABLE_SIZE], j: usize, xs: &mut [u16; MAX_
     ensures { λ n. ⌜ RowOf (checks s) j n (now (xs .exit)) ⌝ }
 {
     let l = s.layout;
-    let n = information(s, table, quotient(j, l.a), remainder(j, l.a), xs);
+    let n = sent(s, table, quotient(j, l.a), remainder(j, l.a), xs);
     xs[n] = (l.k + j) as u16;
     if j == 0 {
         return n + 1;

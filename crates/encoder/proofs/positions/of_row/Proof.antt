@@ -50,8 +50,8 @@ quotient-requires c κs = some (c .before)
 remainder-requires : tie.Need-remainder-requires
 remainder-requires c κs = some (c .before .before)
 
-information-requires : tie.Need-information-requires
-information-requires c κs =
+sent-requires : tie.Need-sent-requires
+sent-requires c κs =
     let s = c .before .before .before .before in
     (s .pre .0, ((class-lt (c .before), step-lt (c .before)), s .pre .1 .1))
 
@@ -73,7 +73,7 @@ add-result c = search needs
 returns : tie.Need-returns
 returns c =
     let s = c .before .before .before .before .before .before .before in
-    first-row _ _ (s .pre .0 .shaped .most) (information-at (c .before .before .information .ensures) (row-is (c .before .before .before .before))) (s .pre .1 .0) _ (s .pre .0 .shaped .given .k) (c .if1 .taken)
+    first-row _ _ (s .pre .0 .shaped .most) (information-at (c .before .before .sent .ensures) (row-is (c .before .before .before .before))) (s .pre .1 .0) _ (s .pre .0 .shaped .given .k) (c .if1 .taken)
 
 add-xs-2 : tie.Need-add-xs-2
 add-xs-2 c = search needs
@@ -99,7 +99,7 @@ add-result-2 c = search needs
 returns-2 : tie.Need-returns-2
 returns-2 c =
     let s = c .before .before .before .before .before .before .before .before in
-    later-row _ _ (s .pre .0 .shaped .most) (information-at (c .before .before .before .information .ensures) (row-is (c .before .before .before .before .before))) (s .pre .1 .0) _ (s .pre .0 .shaped .given .k) (omega arith)
+    later-row _ _ (s .pre .0 .shaped .most) (information-at (c .before .before .before .sent .ensures) (row-is (c .before .before .before .before .before))) (s .pre .1 .0) _ (s .pre .0 .shaped .given .k) (omega arith)
 
 pub of-row-spec : {M : Type 1} → statement M
 of-row-spec =
@@ -107,7 +107,7 @@ of-row-spec =
     (tie.spec
     quotient-requires
     remainder-requires
-    information-requires
+    sent-requires
     add-xs
     cast-xs
     mul-xs
