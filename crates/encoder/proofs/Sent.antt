@@ -22,8 +22,8 @@ use Rattle.ccsds.specs.declared.tables.Layout.{Layout}
 use Rattle.ccsds.specs.inner.Layout.{LayoutOf, maxM}
 use Rattle.ccsds.proofs.Valid.{Valid, valid-of, some-a}
 use Rattle.encoder.specs.declared.positions.Shape.{Shape}
-use Rattle.encoder.specs.inner.Positions.{Entry, classOf, positions, entriesOf, Shaped, Entries, Kept, Information}
-use Rattle.encoder.proofs.Touched.{Below, table-below, entry-good, class-good, positions-count, positions-each, positions-touch, positions-sum, hit-at}
+use Rattle.encoder.specs.inner.Positions.{Entry, classOf, positions, entriesOf, Shaped, Table, Entries, Kept, Information}
+use Rattle.encoder.proofs.Touched.{row-lt′, Below, table-below, entry-good, class-good, positions-count, positions-each, positions-touch, positions-sum, hit-at}
 use Rattle.encoder.proofs.ClassTable.{entries-few, entry-front, entry-behind}
 
 -- ---- sums of which only the front counts
@@ -206,7 +206,7 @@ module _ (c : Params) (v : Valid c) (fill rows j : ℕ) (within : rows ≤ lengt
       ∙ sym (sum-front (λ i. true) (λ i. cut fill f (getD (positions c j) i 0)) n (length (positions c j)) (omega (arith, e .count, entries-few c (j % c .a) rows, positions-count c v j))
       (λ i h l. cut-above fill f (getD (positions c j) i 0) (behind-n i h l)))
 
-  pub sent-information : Information c fill j r ys
+  sent-information : Information c fill j r ys
   sent-information = record {
     size = k .size ∙ e .size;
     few = omega (arith, e .few, k .few);
@@ -230,3 +230,12 @@ module _ (c : Params) (v : Valid c) (fill rows j : ℕ) (within : rows ≤ lengt
               let s = k .found _ l (omega (arith, z)) in
               (s .0, (s .1 .0, s .1 .1 ∙ z))
           go (no l) b = absurd (omega (arith, behind-n _ (omega arith) (b .0), b .1))
+
+-- so for a block's shape and its table
+module _ (s : Shape) {t : List ℕ} (T : Table s t) (i r : ℕ) (hr : r < codeOf (s .number) .a) (hi : i < codeOf (s .number) .q) where
+  pub table-sent : {n m : ℕ} {xs ys : List ℕ} → Entries (codeOf (s .number)) (s .rows) (i * codeOf (s .number) .a + r) n xs → Kept (s .fill) n xs m ys
+      → Information (codeOf (s .number)) (s .fill) (i * codeOf (s .number) .a + r) m ys
+  table-sent e k =
+      let v = valid-of (s .number) (T .shaped .known) in
+      sent-information (codeOf (s .number)) v (s .fill) (s .rows) (i * codeOf (s .number) .a + r) (T .shaped .within) (T .shaped .most) (T .shaped .enough)
+      (row-lt′ (codeOf (s .number)) v r i hr hi) e k

@@ -1,14 +1,13 @@
 -- `encoder::positions::information` meets its contract: where the fill ends with a table row, every entry is sent.
 -- Assumes nothing.
 use mathlib.Core.Path.{_≡_, ap}
-use Prim.Native.Nat.{ℕ, _+_, _*_, _<_}
+use Prim.Native.Nat.{ℕ, _*_}
 use native.Mathlib.Omega.{arith}
 use borrow.Author.Needs.{needs}
 use Rattle.ccsds.specs.Codes.{Params}
 use Rattle.ccsds.specs.Tables.{codeOf}
 use Rattle.ccsds.proofs.Valid.{Valid, valid-of}
-use Rattle.encoder.proofs.Touched.{row-lt′}
-use Rattle.encoder.proofs.Sent.{entries-lt, kept-all, row-width, sent-information}
+use Rattle.encoder.proofs.Sent.{entries-lt, kept-all, row-width, table-sent}
 use Rattle.encoder.proofs.positions.information.Statement.{statement}
 use Rattle.encoder.proofs.positions.information.Tie as tie
 
@@ -18,9 +17,6 @@ module _ (s : tie.Start) where
 
   v : Valid code
   v = valid-of _ (s .pre .0 .shaped .known)
-
-  below : s .args .i * code .a + s .args .r < code .m
-  below = row-lt′ _ v (s .args .r) (s .args .i) (s .pre .1 .0 .0) (s .pre .1 .0 .1)
 
   -- the rows, as the code has them
   all : s .args .s .rows * s .args .s .layout .q ≡ s .args .s .rows * code .q
@@ -36,8 +32,7 @@ returns : tie.Need-returns
 returns c =
     let s = c .before .before .before .before .before .before .before in
     let e = c .entries .ensures in
-    sent-information (code s) (v s) (s .args .s .fill) (s .args .s .rows) (s .args .i * code s .a + s .args .r) (s .pre .0 .shaped .within) (s .pre .0 .shaped .most)
-    (s .pre .0 .shaped .enough) (below s) e
+    table-sent (s .args .s) (s .pre .0) (s .args .i) (s .args .r) (s .pre .1 .0 .0) (s .pre .1 .0 .1) e
     (kept-all (s .args .s .fill) _ _ (λ i h. omega (arith, entries-lt _ (v s) e (s .pre .0 .shaped .within) i h, all s, c .before .before .if1 .taken)))
 
 sent-requires : tie.Need-sent-requires

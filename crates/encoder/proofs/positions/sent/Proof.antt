@@ -7,12 +7,11 @@ use borrow.Author.Needs.{needs}
 use mathlib.Core.List.{List}
 use lib.Arith.{digits-mod}
 use lib.ListN.{getD}
-use Rattle.encoder.specs.inner.Positions.{classOf, entriesOf, endAt, countAt, wholeAt, Whole, maxClasses, Entries, Kept, Information}
+use Rattle.encoder.specs.inner.Positions.{classOf, entriesOf, endAt, countAt, wholeAt, Whole, maxClasses, Entries}
 use Rattle.ccsds.specs.Codes.{Params}
 use Rattle.ccsds.specs.Tables.{codeOf}
 use Rattle.ccsds.proofs.Valid.{Valid, valid-of}
-use Rattle.encoder.proofs.Touched.{row-lt′}
-use Rattle.encoder.proofs.Sent.{entries-to, sent-information}
+use Rattle.encoder.proofs.Sent.{entries-to, table-sent}
 use Rattle.encoder.proofs.positions.sent.Statement.{statement}
 use Rattle.encoder.proofs.positions.sent.Tie as tie
 
@@ -25,15 +24,6 @@ module _ (s : tie.Start) where
 
   class-lt : s .args .r < maxClasses
   class-lt = omega (arith, s .pre .1 .0 .0, s .pre .0 .laid .few .classes)
-
-  below : s .args .i * code .a + s .args .r < code .m
-  below = row-lt′ _ v (s .args .r) (s .args .i) (s .pre .1 .0 .0) (s .pre .1 .0 .1)
-
-  all-sent : {n r : ℕ} {xs ys : List ℕ} → Entries code (s .args .s .rows) (s .args .i * code .a + s .args .r) n xs → Kept (s .args .s .fill) n xs r ys
-      → Information code (s .args .s .fill) (s .args .i * code .a + s .args .r) r ys
-  all-sent e k =
-      sent-information code v (s .args .s .fill) (s .args .s .rows) (s .args .i * code .a + s .args .r) (s .pre .0 .shaped .within) (s .pre .0 .shaped .most)
-      (s .pre .0 .shaped .enough) below e k
 
   -- of the entries those of table rows that end by fill are below it
   first : {n : ℕ} {xs : List ℕ} → Entries code (s .args .s .rows) (s .args .i * code .a + s .args .r) n xs
@@ -76,7 +66,9 @@ keep-sent-requires c κs =
     ((f .0, omega (arith, e .few), e .size), f .1)
 
 returns : tie.Need-returns
-returns c = all-sent (c .before .before .before .before .before .before) (c .before .before .before .before .entries .ensures) (c .keep-sent .ensures)
+returns c =
+    let s = c .before .before .before .before .before .before in
+    table-sent (s .args .s) (s .pre .0) (s .args .i) (s .args .r) (s .pre .1 .0 .0) (s .pre .1 .0 .1) (c .before .before .before .before .entries .ensures) (c .keep-sent .ensures)
 
 pub sent-spec : {M : Type 1} → statement M
 sent-spec =
