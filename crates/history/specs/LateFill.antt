@@ -25,8 +25,8 @@ pub record Alike (b : Block) (s t : State) : Type 0 where
       → next b s (closeWith words bytes) ≡ next b t (closeWith words bytes)
 
 -- For any two records that open returned, of which the second is the first with a smaller or equal fill, whatever the buffers held, and any two
--- lists of takes and closes: after the calls of h with the first record and then those of g with the second, every call with the second answers
--- what it would if all calls had been with the second, and so does a close leave what it would.
+-- lists of takes and closes: after the calls of h with the first record and then those of g with the second, every call with the second answers,
+-- and a close leaves, what it would if all calls had been with the second.
 abbrev pub LateFill : Type 0
 LateFill = (o b : Block) (symbols marks : List ℕ) → openOf o symbols marks .answer ≡ answered b
     → (o′ b′ : Block) (symbols′ marks′ : List ℕ) → openOf o′ symbols′ marks′ .answer ≡ answered b′
