@@ -6,7 +6,7 @@ use crate::{Block, checks};
 use ccsds::tables;
 
 // What open answers: the record, or the number of the refusal.
-#[derive(Drop)]
+#[derive(Clone, Copy)]
 pub enum Opened {
     Record(Block),
     Refused(u8),

@@ -9,7 +9,7 @@ pub const HEARD: u8 = 1;
 pub const FILLED: u8 = 2;
 
 // What a position that is not idle is: heard, or missing, whether an earlier close filled it or not.
-#[derive(Drop)]
+#[derive(Clone, Copy)]
 pub enum Status {
     Heard,
     Missing,

@@ -17,7 +17,7 @@ use unit_claims::expected::Expected;
 use unit_reader::{Extension, UnitParts, UnitRead};
 
 // What take answers: that the symbol is kept, that it was heard before, or the number of the refusal.
-#[derive(Drop)]
+#[derive(Clone, Copy)]
 pub enum Taken {
     Kept,
     Repeated,
@@ -80,7 +80,7 @@ fn check_unit(b: Block, l: Layout, p: UnitParts, len: usize) -> u8
 }
 
 // An admitted unit's position, and where its symbol starts.
-#[derive(Drop)]
+#[derive(Clone, Copy)]
 enum Admitted {
     At(usize, usize),
     Refused(u8),

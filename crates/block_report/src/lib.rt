@@ -1,4 +1,6 @@
 // What the programs on blocks share: the steps of a pass, and how the answers are printed.
+#![tactic(auto)]
+
 pub mod pass;
 
 use block::take::Taken;

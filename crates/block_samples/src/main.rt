@@ -1,5 +1,7 @@
 // The sample blocks of document 01 that are tests, and short blocks. Each prints a line: close's answer, and whether one position is filled.
 // C1 has W = 4 and C2 has W = 1, so that the buffers of C2 serve both. tests/vectors/samples.py makes the expected output.
+#![tactic(auto)]
+
 use block::Block;
 use block_report::pass;
 use ccsds::code::Code;

@@ -1,4 +1,6 @@
 // Sums and copies on parts of lent byte buffers, and clearing. The loops go by index, so that they are compiled to vector instructions.
+#![tactic(auto)]
+
 ghost use Rattle.std.specs.Prelude.{◌≡◌, List, ℕ, ◌≤◌, ◌+◌, length, replicate};
 ghost use Rattle.buffers.specs.Parts.{added, put, Sum, Part, Apart};
 ghost use Rattle.buffers.specs.AllZero.{AllZeroIs};

@@ -8,7 +8,7 @@ ghost use Rattle.ccsds.specs.inner.Layout.{max_n};
 
 use crate::{checks, tables};
 
-#[derive(Drop)]
+#[derive(Clone, Copy)]
 pub struct Code {
     pub number: usize,
 }

@@ -101,7 +101,7 @@ pub const MAX_ADDRESSES: usize = MAX_ROWS * MAX_DEGREE;
 
 // A code's numbers in table 4-1, and how its table stands in its flat array: `rows` rows, of which the first `long` have `degree`
 // addresses each and the others `rest`.
-#[derive(Drop)]
+#[derive(Clone, Copy)]
 pub struct Layout {
     pub k: usize,
     pub m: usize,

@@ -1,4 +1,6 @@
 // Close.
+#![tactic(auto)]
+
 pub mod states;
 
 ghost use Rattle.std.specs.Prelude.{◌≡◌, ℕ, ◌<◌, ◌≤◌, length, get_or};
@@ -15,7 +17,7 @@ use block::{Block, checks, status};
 use ccsds::code::Code;
 use ccsds::{refusal, tables};
 
-#[derive(Drop)]
+#[derive(Clone, Copy)]
 pub enum Verdict {
     Whole,
     Ambiguous,
@@ -23,7 +25,7 @@ pub enum Verdict {
 }
 
 // A verdict, and how many positions are heard, filled and left.
-#[derive(Drop)]
+#[derive(Clone, Copy)]
 pub struct Report {
     pub verdict: Verdict,
     pub heard: usize,
@@ -32,7 +34,7 @@ pub struct Report {
 }
 
 // What close answers: the report, or the number of the refusal.
-#[derive(Drop)]
+#[derive(Clone, Copy)]
 pub enum Closed {
     Reported(Report),
     Refused(u8),
@@ -77,7 +79,7 @@ fn check_close(b: Block, symbols: &[u8], marks: &[u8], work_words: &[u64], work_
 }
 
 // How many positions are heard, and how many are filled.
-#[derive(Drop)]
+#[derive(Clone, Copy)]
 struct Counts {
     heard: usize,
     filled: usize,

@@ -1,6 +1,8 @@
 // A pass end to end. Standard input is a scene. It is cut into blocks of C1, with symbols of 16 bytes; where it ends within a block, that
 // block is short. Each block is encoded and sent as units; some are lost, the others arrive in another order and are taken; the block
 // is closed and compared with what was sent.
+#![tactic(auto)]
+
 ghost use Rattle.std.specs.Prelude.{◌<◌, ◌≤◌};
 
 use block::Block;

@@ -60,7 +60,7 @@ fn clear_active(
 }
 
 // What one step leaves: how many rows are active, and the step's row and pivot, as pivot * 1024 + row. A row without unknowns has 0 in place of a pivot.
-#[derive(Drop)]
+#[derive(Clone, Copy)]
 struct Step {
     active: usize,
     entry: u32,

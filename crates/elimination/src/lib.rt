@@ -1,6 +1,8 @@
 // Linear equations over packed rows, and Gauss-Jordan elimination on them, in place. Equation j is a row of words + 1 words and `width` bytes of a
 // right-hand side: the row's first words hold 64 unknowns each, and its last word, the pivot word, holds the number of the unknown that is the
 // row's pivot + 1, or 0. The words and the bytes are lent by the caller. What an unknown stands for is the caller's matter.
+#![tactic(auto)]
+
 ghost use Rattle.std.specs.Prelude.{length};
 ghost use Rattle.elimination.specs.Fits.{Fits};
 ghost use Rattle.elimination.specs.System.{SameSolutions};
@@ -26,7 +28,7 @@ pub const MAX_ROWS: usize = 1024;
 pub const MAX_WORDS: usize = 48;
 
 // How many rows, of how many words without the pivot word, and how many bytes of right-hand side for each.
-#[derive(Drop)]
+#[derive(Clone, Copy)]
 pub struct Shape {
     pub rows: usize,
     pub words: usize,

@@ -45,7 +45,7 @@ pub fn row_weights(rows: &[u64], weights: &mut [u16; MAX_ROWS], s: Shape)
 }
 
 // A row and its weight.
-#[derive(Drop)]
+#[derive(Clone, Copy)]
 struct Candidate {
     row: usize,
     weight: u16,

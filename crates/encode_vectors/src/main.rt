@@ -1,5 +1,7 @@
 // Encodes a fixed pattern with each code at several widths and fills, and prints the parity's first bytes and checksum. The expected
 // output is made by tests/vectors/encode.py, which shares no code with this repository's encoder.
+#![tactic(auto)]
+
 use ccsds::code::Code;
 use encoder::encode::Encoded;
 

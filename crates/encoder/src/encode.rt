@@ -13,7 +13,7 @@ use ccsds::{checks, tables};
 use symbol_sums::MAX_POSITIONS;
 
 // What encode answers: that it is done, or the number of the refusal.
-#[derive(Drop)]
+#[derive(Clone, Copy)]
 pub enum Encoded {
     Done,
     Refused(u8),

@@ -33,7 +33,7 @@ const WHOLE: usize = ADDRESSES + MAX_ADDRESSES;
 pub const TABLE_SIZE: usize = WHOLE + MAX_CLASSES;
 
 // The shape of a block: its code's number and layout, the bytes of a symbol, its fill, and how many table rows have a position that is sent.
-#[derive(Drop)]
+#[derive(Clone, Copy)]
 pub struct Shape {
     pub number: usize,
     pub layout: Layout,

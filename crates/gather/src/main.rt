@@ -1,4 +1,6 @@
 // The program gather of document 01: gathers the units of standard input into a full block of C1, W up to 16, and closes it.
+#![tactic(auto)]
+
 use block::Block;
 use block_report::pass;
 use ccsds::code::Code;

@@ -2,6 +2,8 @@
 // (a block's numbers; what a call has to say beside done or refused) as a pointer to an array of its values. Slices that belong together
 // pass as a pointer to a record of their pointers and lengths; no call writes to that record. Each call answers 0, or the number of its
 // refusal; the values of records are those of specs/Numbers.antt.
+#![tactic(auto)]
+
 ghost use Rattle.std.specs.Prelude.{◌≡◌, ◌+◌, ◌*◌, ◌/◌};
 ghost use Rattle.ccsds.specs.Codes.{n_of};
 ghost use Rattle.ccsds.specs.Tables.{code_of};

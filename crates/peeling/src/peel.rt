@@ -23,7 +23,7 @@ use symbol_sums::MAX_POSITIONS;
 
 // How far peeling has come: steps made, pivots put off, steps made before the first pivot, the position up to which none is open, how many rows may
 // still be tried, so that it ends, and the position that the last turn settled or put off, or NONE.
-#[derive(Drop)]
+#[derive(Clone, Copy)]
 pub struct Progress {
     pub steps: usize,
     pub pivots: usize,

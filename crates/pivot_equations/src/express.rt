@@ -18,7 +18,7 @@ use symbol_sums::MAX_POSITIONS;
 
 // The rows of the equations: `steps` rows of the steps, the first `early` of which are not made, and `rest` rows of the check rows that no step used;
 // each has `packed` words for the `pivots` pivots, and one more.
-#[derive(Drop)]
+#[derive(Clone, Copy)]
 pub struct Rows {
     pub early: usize,
     pub steps: usize,
@@ -93,7 +93,7 @@ fn add_other(
 }
 
 // Row `row` of the equations, which is to be made from check row `check` without position `but`.
-#[derive(Drop)]
+#[derive(Clone, Copy)]
 struct Target {
     row: usize,
     check: usize,

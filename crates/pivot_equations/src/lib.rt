@@ -1,5 +1,7 @@
 // The equations for the pivots that peeling put off. Each symbol is a known one plus a sum of pivots, and the check rows that no step used are
 // linear equations for these.
+#![tactic(auto)]
+
 pub mod restore; // the steps once more, with the pivots put in
 pub mod express; // which pivots each step's symbol and each unused check row depends on
 pub mod remaining; // the check rows that no step used: their sums

@@ -1,4 +1,6 @@
 // What the programs share: a pattern for buffers, and how numbers and buffers are printed.
+#![tactic(auto)]
+
 ghost use Rattle.std.specs.Prelude.{◌<◌};
 
 use libc::STDOUT_FILENO;

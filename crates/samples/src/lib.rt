@@ -1,1 +1,2 @@
 // The requirements' starred samples. No function: definitions in specs/, proofs in proofs/.
+#![tactic(auto)]

@@ -13,7 +13,7 @@ use ccsds::{checks, refusal, tables, unit_size};
 use wire::{copy, put};
 
 // What write answers: that it is done, or the number of the refusal.
-#[derive(Drop)]
+#[derive(Clone, Copy)]
 pub enum Written {
     Done,
     Refused(u8),

@@ -1,4 +1,6 @@
 // Sums of symbols that stand anywhere in a buffer, in chunks that are held in arrays of their own.
+#![tactic(auto)]
+
 ghost use Rattle.std.specs.Prelude.{◌≡◌, ◌≢◌, ℕ, ◌+◌, ◌-◌, ◌*◌, ◌%◌, ◌<◌, ◌≤◌, length, get_or};
 ghost use Rattle.algebra.specs.Sums.{◌⊕◌};
 ghost use Rattle.algebra.specs.Codeword.{byte_at};
@@ -11,7 +13,7 @@ use buffers::{all_zero, part_16, put_16, sum_16};
 pub const MAX_POSITIONS: usize = 64;
 
 // 64 bytes, in four arrays.
-#[derive(Drop)]
+#[derive(Clone, Copy)]
 struct Chunk64 {
     a: [u8; 16],
     b: [u8; 16],

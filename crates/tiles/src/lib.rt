@@ -1,4 +1,6 @@
 // Tiles in the rows of a block's information symbols.
+#![tactic(auto)]
+
 pub mod checks;
 mod copy;
 pub mod lengths;

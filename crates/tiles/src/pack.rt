@@ -11,7 +11,7 @@ use crate::{checks, lengths, rows};
 use ccsds::refusal;
 
 // What pack answers: that it is done, or the number of the refusal.
-#[derive(Drop)]
+#[derive(Clone, Copy)]
 pub enum Packed {
     Done,
     Refused(u8),

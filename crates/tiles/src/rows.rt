@@ -10,14 +10,14 @@ use crate::copy;
 use wire::put;
 
 // A row's LWC, and the position of its first byte.
-#[derive(Drop)]
+#[derive(Clone, Copy)]
 pub struct Place {
     pub lwc: usize,
     pub at: usize,
 }
 
 // A row's next and count.
-#[derive(Drop)]
+#[derive(Clone, Copy)]
 pub struct Numbers {
     pub next: usize,
     pub count: usize,

@@ -12,7 +12,7 @@ use unit_reader::{Extension, Parameters, UnitParts};
 use wire::big_endian;
 
 // The parts of a unit that is as expected.
-#[derive(Drop)]
+#[derive(Clone, Copy)]
 pub enum Expected {
     Parts(UnitParts),
     Other,

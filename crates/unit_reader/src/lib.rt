@@ -1,4 +1,6 @@
 // The unit reader: what a unit's bytes say, by themselves.
+#![tactic(auto)]
+
 ghost use Rattle.std.specs.Prelude.{◌≡◌};
 ghost use Rattle.unit_reader.specs.Reader.{number_as, length_at, parameter_at, coding_of, wrong_type, extension_at, extensions_of, wrong_header, read_unit, coding_as, walk_as, read_as};
 
@@ -7,7 +9,7 @@ use wire::sdnv::{Number, Sdnv};
 use wire::{big_endian, sdnv};
 
 // A number that was read, or the refusal in its place.
-#[derive(Drop)]
+#[derive(Clone, Copy)]
 pub enum NumberRead {
     Read(Number),
     Refused(u8),
@@ -42,7 +44,7 @@ fn read_parameter(v: &[u8], at: usize) -> NumberRead
 }
 
 // The coding parameters.
-#[derive(Drop)]
+#[derive(Clone, Copy)]
 pub struct Parameters {
     pub w: usize,
     pub k: usize,
@@ -50,7 +52,7 @@ pub struct Parameters {
     pub seed: usize,
 }
 
-#[derive(Drop)]
+#[derive(Clone, Copy)]
 pub enum ParametersRead {
     Four(Parameters),
     Refused(u8),
@@ -96,14 +98,14 @@ fn read_parameters(v: &[u8]) -> ParametersRead
 }
 
 // One extension: the coding parameters, or a type that is passed over.
-#[derive(Drop)]
+#[derive(Clone, Copy)]
 pub enum Extension {
     Coding(Parameters),
     PassedOver,
 }
 
 // The walk over extensions: the coding parameters, if they came, and the position that it came to.
-#[derive(Drop)]
+#[derive(Clone, Copy)]
 pub enum Walk {
     To(Extension, usize),
     Refused(u8),
@@ -192,7 +194,7 @@ fn walk_extensions(s: &[u8], count: usize) -> Walk
 }
 
 // What a unit says: the header's numbers, the coding parameters, if they came, and where the symbol starts.
-#[derive(Drop)]
+#[derive(Clone, Copy)]
 pub struct UnitParts {
     pub protocol: usize,
     pub count: usize,
@@ -202,7 +204,7 @@ pub struct UnitParts {
     pub symbol: usize,
 }
 
-#[derive(Drop)]
+#[derive(Clone, Copy)]
 pub enum UnitRead {
     Read(UnitParts),
     Refused(u8),

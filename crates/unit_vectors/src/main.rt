@@ -1,5 +1,7 @@
 // Runs vectors from outside through the unit reader, the unit writer and show, and prints a line for each. tests/vectors/units.py makes
 // the vectors (stdin) and the lines (stdout); it shares no code with this repository.
+#![tactic(auto)]
+
 use ccsds::code::Code;
 use libc::STDIN_FILENO;
 use sending::writer::Written;
@@ -7,7 +9,7 @@ use unit_reader::{Extension, UnitRead};
 use wire::big_endian;
 
 // A vector is nine numbers, of four bytes each, and the bytes of the last number's count. Kind 0 ends them.
-#[derive(Drop)]
+#[derive(Clone, Copy)]
 struct Vector {
     kind: usize,
     code: usize,

@@ -5,14 +5,14 @@ ghost use Rattle.wire.specs.Sdnv.{number_at, sdnv_as};
 use crate::big_endian;
 
 // A number, and the position after it.
-#[derive(Drop)]
+#[derive(Clone, Copy)]
 pub struct Number {
     pub value: usize,
     pub end: usize,
 }
 
 // How the reading of a number ends: with the number, with the bytes, or at a byte that can't be accepted.
-#[derive(Drop)]
+#[derive(Clone, Copy)]
 pub enum Sdnv {
     Whole(Number),
     Unfinished,
