@@ -1,5 +1,7 @@
 -- `symbol_sums::cancels_chunks` meets its contract: the sums of c bytes are zero.
 -- Assumes nothing.
+use mathlib.Core.Path.{ap}
+use mathlib.Core.Bool.{not}
 use Prim.Native.Nat.{◌+◌, ◌-◌, ◌%◌}
 use native.Mathlib.Omega.{arith}
 use Rattle.symbol_sums.specs.Gather.{summed}
@@ -13,13 +15,13 @@ pub returns-then-not-cancels_wide : goal.returns-then-not-cancels_wide
 returns-then-not-cancels_wide c =
     let a = c.args in
     let f = summed (λ b. 0) a.w a.src.now a.xs.now a.n in
-    zero-not f 0 0 (a.w - a.w % 64) a.w c.cancels_wide.result c.cancels_wide.ensures c.if-not-cancels_wide.true (omega arith)
+    zero-not f 0 0 (a.w - a.w % 64) a.w c.cancels_wide.result c.cancels_wide.ensures (ap not c.if-not-cancels_wide.true) (omega arith)
 
 pub loop-c-init : goal.loop-c-init
 loop-c-init c =
     let a = c.args in
     let f = summed (λ b. 0) a.w a.src.now a.xs.now a.n in
-    (omega arith, λ b l. zero_more f 0 0 (a.w - a.w % 64) c.cancels_wide.result (λ k g. absurd (omega arith)) (omega arith) c.cancels_wide.ensures c.if-not-cancels_wide.false b (omega arith))
+    (omega arith, λ b l. zero_more f 0 0 (a.w - a.w % 64) c.cancels_wide.result (λ k g. absurd (omega arith)) (omega arith) c.cancels_wide.ensures (ap not c.if-not-cancels_wide.false) b (omega arith))
 
 pub cancels_16-requires : goal.cancels_16-requires
 cancels_16-requires c = record { c_bound = omega arith; inside = c.requires.inside }
@@ -29,14 +31,14 @@ returns-then-not-cancels_16 c =
     let l = c.loop-c in
     let a = c.args in
     let f = summed (λ b. 0) a.w a.src.now a.xs.now a.n in
-    zero-not f 0 l.c (l.c + 16) a.w c.cancels_16.result c.cancels_16.ensures c.if-not-cancels_16.true (omega arith)
+    zero-not f 0 l.c (l.c + 16) a.w c.cancels_16.result c.cancels_16.ensures (ap not c.if-not-cancels_16.true) (omega arith)
 
 pub loop-c-preserved : goal.loop-c-preserved
 loop-c-preserved c =
     let l = c.loop-c in
     let a = c.args in
     let f = summed (λ b. 0) a.w a.src.now a.xs.now a.n in
-    (omega arith, zero_more f l.c l.c (l.c + 16) c.cancels_16.result l.invariant.1 (omega arith) c.cancels_16.ensures c.if-not-cancels_16.false)
+    (omega arith, zero_more f l.c l.c (l.c + 16) c.cancels_16.result l.invariant.1 (omega arith) c.cancels_16.ensures (ap not c.if-not-cancels_16.false))
 
 pub returns-then-c-w : goal.returns-then-c-w
 returns-then-c-w c = λ b l₁ l₂. c.loop-c.invariant.1 b (omega arith)

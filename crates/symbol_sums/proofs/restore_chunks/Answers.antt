@@ -8,7 +8,7 @@ use Rattle.symbol_sums.proofs.restore_chunks.Goals as goal
 
 pub restore_wide-c-requires : goal.restore_wide-c-requires
 restore_wide-c-requires c =
-    (c.requires.le_w.1, c.requires.1)
+    record { w_in_bounds = c.requires.le_w.1; inside = c.requires.inside; by_index = c.requires.by_index }
 
 pub loop-c-init : goal.loop-c-init
 loop-c-init c = (c.restore_wide-c.ensures.0, refl, λ p h. h)
