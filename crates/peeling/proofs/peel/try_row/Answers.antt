@@ -13,7 +13,7 @@ row_lt s = omega (arith, s.requires.r_bound.0, row_count s.args.s)
 -- the row has one open position, and no step used it
 module _ (e : Else-plan-r-ne0) where
   few-steps : e.args.g.steps < 1024
-  few-steps = (settle_ready e.requires.reached.state e.of_row-n.ensures (row_lt e.before.before.before.before.before.before.before.before.before.before.before) e.if-i-n.false e.single-i.ensures e.if-plan-r-ne0.false _ refl).0.0
+  few-steps = (settle_ready e.requires.reached.state e.of_row-n.ensures (omega (arith, e.requires.r_bound.0, row_count e.args.s)) e.if-i-n.false e.single-i.ensures e.if-plan-r-ne0.false _ refl).0.0
 
 pub of_row-n-requires : goal.of_row-n-requires
 of_row-n-requires c = record { table = c.requires.table; j_bound = c.requires.r_bound.0; xs_len = c.requires.xs_len }
@@ -69,7 +69,8 @@ overflow_sub-n c = omega (arith, c.of_row-n.ensures.few, c.of_row-n.ensures.size
 
 pub settle-requires : goal.settle-requires
 settle-requires c =
-        settle_ready c.requires.reached.state c.of_row-n.ensures (row_lt (goal.at.settle-requires c).Start) c.if-i-n.false c.single-i.ensures c.if-plan-r-ne0.false _ c.wide.ensures.0
+    let q = settle_ready c.requires.reached.state c.of_row-n.ensures (row_lt (goal.at.settle-requires c).Start) c.if-i-n.false c.single-i.ensures c.if-plan-r-ne0.false _ c.wide.ensures.0 in
+    record { t_lt_max_m = q.0; w_in_bounds = q.1.0; by_index = q.1.1 }
 
 pub early_steps-early-requires : goal.early_steps-early-requires
 early_steps-early-requires c = few-steps (goal.at.early_steps-early-requires c).Else-plan-r-ne0
