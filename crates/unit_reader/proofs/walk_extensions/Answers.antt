@@ -1,7 +1,6 @@
 -- `unit_reader::walk_extensions` meets its contract: after i turns the state is that of the first i extensions.
 -- Assumes nothing.
 use mathlib.Core.Path.{◌≡◌, ◌∙◌, sym, refl, ap, ap₂}
-use mathlib.Core.Logic.{⊎_elim}
 use mathlib.Core.Bool.{Bool, true, false}
 use mathlib.Core.List.{List}
 use mathlib.Core.Option.{Option, some, none}
@@ -16,19 +15,9 @@ use Rattle.unit_reader.specs.declared.Parameters.{Parameters}
 use Rattle.unit_reader.specs.declared.Extension.{Extension}
 use Rattle.unit_reader.specs.declared.Walk.{Walk}
 use Rattle.unit_reader.specs.declared.Walk.TheVariants as walk
-use Rattle.unit_reader.proofs.walk_extensions.Statement.{statement}
-use Rattle.unit_reader.proofs.walk_extensions.Tie as tie
-
--- what was found, by its parts
-abbrev carried : Bool → Parameters → Option Coding
-carried true p = some (four_as p)
-carried false p = none
-
-abbrev invariant-loop : tie.invariant-loop
-invariant-loop s count found₀ p₀ at₀ i₀ found p at i = (i ≤ count) × (extensions_of s i ≡ answered (record { coding = carried found p; end = at }))
-
-abbrev decreases-loop : tie.decreases-loop
-decreases-loop s count found₀ p₀ at₀ i₀ found p at i = count - i
+use Rattle.unit_reader.proofs.walk_extensions.Goals as goal
+use Rattle.unit_reader.proofs.walk_extensions.Goals.{in-PassedOver, in-Coding}
+use Rattle.unit_reader.proofs.walk_extensions.Invariants.{carried}
 
 -- a refusal stays one, over all the extensions that follow
 stays : (s : List ℕ) (i n : ℕ) {number : ℕ} → extensions_of s i ≡ refused number → extensions_of s (i + n) ≡ refused number
@@ -65,85 +54,43 @@ module _ (s : List ℕ) (i : ℕ) (p : Parameters) (at : ℕ) where
 told : {r : Walk} {o : Outcome ExtensionsRead} {x y : Extension} {end : ℕ} → walk_as r ≡ o → r ≡ walk.To x end → x ≡ y → o ≡ answered (record { coding = extension_as y; end = end })
 told {r} {o} {x} {y} {end} e t z = sym e ∙ ap walk_as t ∙ ap (λ (v : Extension). answered (record { coding = extension_as v; end = end })) z
 
-loop-holds : tie.Need-loop-init invariant-loop decreases-loop
-unfolding extensions_of
-loop-holds c = (search rules, refl)
-
-read-extension-requires : tie.Need-read-extension-requires invariant-loop decreases-loop
-read-extension-requires c κs = search rules
-
-enum-known-x : tie.Need-enum-known-x invariant-loop decreases-loop
-enum-known-x c = search rules
-
-enum_told : tie.Need-enum-told invariant-loop decreases-loop
-enum_told c = search rules
-
-enum-known-x-2 : tie.Need-enum-known-x-2 invariant-loop decreases-loop
-enum-known-x-2 c = search rules
-
-enum-known-r : tie.Need-enum-known-r invariant-loop decreases-loop
-enum-known-r c = search rules
-
-returns : tie.Need-returns invariant-loop decreases-loop
-returns c =
-    let l = c.before.before.before.before.before.loop in
-    let s = c.before.before.before.before.before.before.before in
-    stays-to s.args.s.now l.i s.args.count (omega arith)
-    (none_read s.args.s.now l.i l.p l.at l.found l.invariant.1 (sym c.before.before.before.read-extension.ensures ∙ ap walk_as c.before.r.given.1))
-
-add-i : tie.Need-overflow-add-i invariant-loop decreases-loop
-add-i c = omega arith
-
-loop-less : tie.Need-loop-smaller invariant-loop decreases-loop
-loop-less c = omega arith
-
-loop-again : tie.Need-loop-preserved invariant-loop decreases-loop
-loop-again c =
-    let l = c.before.before.before.before.before.before.loop in
-    let s = c.before.before.before.before.before.before.before.before.args.s.now in
-    let x = c.before.before.x in
-    let r = c.before.before.before.before.read-extension in (
-      omega arith,
-      ⊎_elim
-          (λ a. passed s l.i l.p l.at l.found _ l.invariant.1 (told r.ensures x.given.1 a.1.given.1)
-          ∙ sym (ap₂ (λ (f : Bool) (p : Parameters). answered (record { coding = carried f p; end = x.given.0.1.0 })) a.2 a.3))
-          (λ a. coding s l.i l.p l.at l.found _ _ l.invariant.1 (told r.ensures x.given.1 a.1.given.1)
-          ∙ sym (ap₂ (λ (f : Bool) (p : Parameters). answered (record { coding = carried f p; end = x.given.0.1.0 })) a.3 a.4))
-          c.match2.branch,
-    )
-
 -- the whole walk, by whether a type 1 was found
 ended : (s : List ℕ) (i count at : ℕ) (found : Bool) (p : Parameters) (o : Option Coding) → i ≡ count → carried found p ≡ o
     → extensions_of s i ≡ answered (record { coding = carried found p; end = at }) → answered (record { coding = o; end = at }) ≡ extensions_of s count
 ended s i count at found p o e z h = sym (ap (extensions_of s) (sym e) ∙ h ∙ ap (λ (v : Option Coding). answered (record { coding = v; end = at })) z)
 
-returns-2 : tie.Need-returns-2 invariant-loop decreases-loop
-returns-2 c =
-    let l = c.before.before.loop in
-    let s = c.before.before.before.before in
-    ended s.args.s.now l.i s.args.count l.at l.found l.p _ (omega arith) (ap (λ (f : Bool). carried f l.p) c.if1.true) l.invariant.1
+pub loop-i-init : goal.loop-i-init
+unfolding extensions_of
+loop-i-init c = (search rules, refl)
 
-returns-3 : tie.Need-returns-3 invariant-loop decreases-loop
-returns-3 c =
-    let l = c.before.before.loop in
-    let s = c.before.before.before.before in
-    ended s.args.s.now l.i s.args.count l.at l.found l.p _ (omega arith) (ap (λ (f : Bool). carried f l.p) c.if1.false) l.invariant.1
+pub returns-in-Refused : goal.returns-in-Refused
+returns-in-Refused c =
+    let l = c.loop-i in
+    stays-to c.args.s.now l.i c.args.count (omega arith)
+    (none_read c.args.s.now l.i l.p l.at l.found l.invariant.1 (sym c.read_extension.ensures ∙ ap walk_as c.in-Refused.is))
 
-pub walk-extensions-spec : {M : Type 1} → statement M
-walk-extensions-spec =
-    tie.close
-    (tie.spec
-    invariant-loop
-    decreases-loop
-    loop-holds
-    read-extension-requires
-    enum-known-x
-    enum_told
-    enum-known-x-2
-    enum-known-r
-    returns
-    add-i
-    loop-less
-    loop-again
-    returns-2
-    returns-3)
+pub loop-i-preserved : goal.loop-i-preserved
+loop-i-preserved c =
+    let l = c.loop-i in
+    let s = c.args.s.now in
+    let r = c.read_extension in (
+      omega arith,
+      elim c.match-x.branch [
+        | in-PassedOver w ↦
+            passed s l.i l.p l.at l.found _ l.invariant.1 (told r.ensures c.in-To.is w.in-PassedOver.is)
+            ∙ sym (ap₂ (λ (f : Bool) (p : Parameters). answered (record { coding = carried f p; end = c.in-To.end })) w.found-is w.p-is)
+        | in-Coding w ↦
+            coding s l.i l.p l.at l.found _ _ l.invariant.1 (told r.ensures c.in-To.is w.in-Coding.is)
+            ∙ sym (ap₂ (λ (f : Bool) (p : Parameters). answered (record { coding = carried f p; end = c.in-To.end })) w.found-is w.p-is)
+      ],
+    )
+
+pub returns-then-found : goal.returns-then-found
+returns-then-found c =
+    let l = c.loop-i in
+    ended c.args.s.now l.i c.args.count l.at l.found l.p _ (omega arith) (ap (λ (f : Bool). carried f l.p) c.if-found.true) l.invariant.1
+
+pub returns : goal.returns
+returns c =
+    let l = c.loop-i in
+    ended c.args.s.now l.i c.args.count l.at l.found l.p _ (omega arith) (ap (λ (f : Bool). carried f l.p) c.if-found.false) l.invariant.1

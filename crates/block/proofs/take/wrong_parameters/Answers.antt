@@ -16,9 +16,7 @@ use Rattle.block.specs.Block.{checks}
 use Rattle.block.specs.Take.{wrong_parameters}
 use Rattle.block.specs.declared.Block.{Block}
 use Rattle.block.proofs.BlockRefusal.{checks_of_lem}
-use borrow.Author.Rules.{rules}
-use Rattle.block.proofs.take.wrong_parameters.Statement.{statement}
-use Rattle.block.proofs.take.wrong_parameters.Tie as tie
+use Rattle.block.proofs.take.wrong_parameters.Goals as goal
 
 none : (b : Block) {x : Extension} → x ≡ PassedOver → true ≡ wrong_parameters b (extension_as x)
 unfolding wrong_parameters
@@ -43,31 +41,17 @@ module _ (b : Block) {l : Layout} (g : LayoutOf (code_of b.code) l) {x : Extensi
       unfolding wrong_parameters
       last q = rw (e, eq-eqb p.w b.w w, eq-eqb p.k (code_of b.code).k (k ∙ g.k), eq-eqb p.n (checks b).n (q ∙ checks_of_lem b g))
 
-enum-known-x : tie.Need-enum-known-x
-enum-known-x c = search rules
+pub returns-in_default : goal.returns-in_default
+returns-in_default c = none _ c.in_default.is
 
-enum_told : tie.Need-enum-told
-enum_told c = search rules
+pub returns-then-p-b : goal.returns-then-p-b
+returns-then-p-b c = other-w _ c.requires c.in-Coding.is c.if-p-b.true
 
-returns : tie.Need-returns
-returns c = none _ c.enum_told.given.1
+pub returns-then-p-l : goal.returns-then-p-l
+returns-then-p-l c = other-k _ c.requires c.in-Coding.is c.if-p-b.false c.if-p-l.true
 
-returns-2 : tie.Need-returns-2
-returns-2 c = other-w _ c.before.before.before.before.before.before.requires c.before.before.before.before.x.given.1 c.if1.true
+pub returns-then-p-l-2 : goal.returns-then-p-l-2
+returns-then-p-l-2 c = other-n _ c.requires c.in-Coding.is c.if-p-b.false c.if-p-l.false c.if-p-l-2.true
 
-returns-3 : tie.Need-returns-3
-returns-3 c = other-k _ c.before.before.before.before.before.before.before.before.before.requires c.before.before.before.before.before.before.before.x.given.1 c.before.before.before.if1.false c.if2.true
-
-add-if3 : tie.Need-overflow-add-if3
-add-if3 c = search rules
-
-returns-4 : tie.Need-returns-4
-returns-4 c = other-n _ c.before.before.before.before.before.before.before.before.before.before.before.before.requires c.before.before.before.before.before.before.before.before.before.before.x.given.1 c.before.before.before.before.before.before.if1.false c.before.before.before.if2.false c.if3.true
-
-returns-5 : tie.Need-returns-5
-returns-5 c = last _ c.before.before.before.before.before.before.before.before.before.before.before.before.before.requires c.before.before.before.before.before.before.before.before.before.before.before.x.given.1 c.before.before.before.before.before.before.before.if1.false c.before.before.before.before.if2.false c.before.if3.false
-
-pub wrong-parameters-spec : {M : Type 1} → statement M
-wrong-parameters-spec =
-    tie.close
-    (tie.spec enum-known-x enum_told returns returns-2 returns-3 add-if3 returns-4 returns-5)
+pub returns : goal.returns
+returns c = last _ c.requires c.in-Coding.is c.if-p-b.false c.if-p-l.false c.if-p-l-2.false
