@@ -1,13 +1,14 @@
 -- `closing::verdict_by` meets its contract.
 -- Assumes nothing.
+use mathlib.Core.Path.{ap}
+use mathlib.Core.Bool.{not}
 use mathlib.Core.Path.{◌≡◌, refl, sym}
-use mathlib.Core.Bool.{Bool, true, false, not, false≢true}
+use mathlib.Core.Bool.{Bool, true, false, false≢true}
 use Prim.Native.Nat.{ℕ, zero, suc}
 use native.Mathlib.Nat.{suc-ne-zero}
 use Rattle.algebra.specs.Agreeing.{whole, ambiguous, inconsistent}
 use Rattle.decoder.specs.Outcome.{verdict_by}
-use Rattle.closing.proofs.verdict_by.Statement.{statement}
-use Rattle.closing.proofs.verdict_by.Tie as tie
+use Rattle.closing.proofs.verdict_by.Goals as goal
 
 none : (ok : Bool) (left : ℕ) → not ok ≡ true → inconsistent ≡ verdict_by ok left
 none true left e = absurd (false≢true e)
@@ -23,14 +24,11 @@ more true zero e h = absurd (h refl)
 more true (suc left) e h = refl
 more false left e h = absurd (false≢true (sym e))
 
-returns : tie.Need-returns
-returns c = none c.before.args.ok c.before.args.left c.if1.true
+pub returns-then-not-ok : goal.returns-then-not-ok
+returns-then-not-ok c = none c.args.ok c.args.left (ap not c.if-not-ok.true)
 
-returns-2 : tie.Need-returns-2
-returns-2 c = one c.before.before.args.ok c.before.before.args.left c.before.if1.false c.if2.true
+pub returns-then-left-eq0 : goal.returns-then-left-eq0
+returns-then-left-eq0 c = one c.args.ok c.args.left (ap not c.if-not-ok.false) c.if-left-eq0.true
 
-returns-3 : tie.Need-returns-3
-returns-3 c = more c.before.before.args.ok c.before.before.args.left c.before.if1.false c.if2.false
-
-pub verdict-by-spec : {M : Type 1} → statement M
-verdict-by-spec = tie.close (tie.spec returns returns-2 returns-3)
+pub returns : goal.returns
+returns c = more c.args.ok c.args.left (ap not c.if-not-ok.false) c.if-left-eq0.false
