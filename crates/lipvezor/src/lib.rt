@@ -66,7 +66,7 @@ pub struct Work<'a> {
 pub extern "C" fn lipvezor_version() -> usize
     ensures { result ≡ version }
 {
-    600
+    501
 }
 
 // Symbols of a block, and bytes of its marks.
