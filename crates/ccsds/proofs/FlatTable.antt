@@ -3,7 +3,7 @@
 use mathlib.Core.Path.{◌≡◌, refl, sym, ap, ◌∙◌, subst, subst⁻¹}
 use mathlib.Core.Bool.{Bool, true, false, ◌&&◌, ◌||◌, cond, false≢true}
 use mathlib.Core.List.{List, [], ◌∷◌}
-use Prim.Native.Nat.{ℕ, zero, suc, ◌+◌, ◌*◌, ◌<◌, ◌≤◌}
+use Prim.Native.Nat.{ℕ, zero, suc, ◌+◌, ◌<◌, ◌≤◌}
 use native.Mathlib.Nat.{le_of_suc-le-suc, not-suc-le-zero, zero-lt-suc}
 use native.Mathlib.Omega.{arith}
 use lib.Dec.{T, lit<, lit≤, eqb, eqb→eq, ltb, leb, leb→le}
@@ -12,7 +12,7 @@ use lib.Seq.{get_or-drop}
 use borrow.Author.Tests.{ne_eqb}
 use Rattle.ccsds.specs.Codes.{Params}
 use Rattle.ccsds.specs.Tables.{code_of, code_in, codes, is_code, number_in, c0}
-use Rattle.ccsds.specs.inner.Layout.{LayoutOf, FrontIs, Small, degree_of, start_of, joined, max_n, max_rows, max_degree, max_addresses}
+use Rattle.ccsds.specs.inner.Layout.{LayoutOf, FrontIs, degree_of, start_of, joined, max_n, max_rows, max_degree, max_addresses}
 use Rattle.ccsds.specs.declared.tables.Layout.{Layout}
 use Rattle.ccsds.proofs.Table.{every, at, both_left, both_right}
 

@@ -1,6 +1,6 @@
 -- What specs/Claims.antt claims of every code.
 -- Assumes nothing.
-use Rattle.std.proofs.Common.{◌≡◌, ℕ, zero, suc, ◌+◌, ◌-◌, ◌*◌, ◌/◌, ◌%◌, ◌<◌, ◌≤◌, Bool, true, false, ◌||◌, eqb, List, [], ◌∷◌, length, get_or, take, drop, replicate, sym, refl, ap, ◌∙◌, le_of_suc-le-suc, not-suc-le-zero, mul-le-mul_right, mod-lt, div-lt_iff_lt-mul, add-mul, div-add-mod', le-div_iff_mul-le, arith, length-drop, length-take-le, get_or-drop, get_or-take, ext_get_or, eq-eqb}
+use Rattle.std.proofs.Common.{◌≡◌, ℕ, zero, suc, ◌+◌, ◌*◌, ◌/◌, ◌%◌, ◌<◌, ◌≤◌, Bool, true, false, ◌||◌, eqb, List, [], ◌∷◌, length, get_or, take, drop, replicate, sym, refl, ap, ◌∙◌, le_of_suc-le-suc, not-suc-le-zero, mul-le-mul_right, mod-lt, div-lt_iff_lt-mul, add-mul, div-add-mod', le-div_iff_mul-le, arith, length-drop, length-take-le, get_or-drop, get_or-take, ext_get_or, eq-eqb}
 use mathlib.Core.Bool.{false≢true}
 use native.Mathlib.Decide.{dec_lt}
 use lib.Dec.{eqb-suc-zero}

@@ -1,7 +1,7 @@
 -- `buffers::add_bytes` meets its contract: after i turns, i bytes are added.
 -- Assumes nothing.
 use mathlib.Core.Path.{◌≡◌, refl}
-use Prim.Native.Nat.{◌-◌, ◌<◌}
+use Prim.Native.Nat.{◌<◌}
 use native.Mathlib.Omega.{arith}
 use lib.ListN.{length-set}
 use Rattle.buffers.proofs.Added.{added_all}

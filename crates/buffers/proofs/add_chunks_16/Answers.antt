@@ -1,7 +1,7 @@
 -- `buffers::add_chunks_16` meets its contract: after each turn, i bytes are added.
 -- Assumes nothing.
 use mathlib.Core.Path.{refl, ◌∙◌}
-use Prim.Native.Nat.{◌+◌, ◌-◌, ◌≤◌}
+use Prim.Native.Nat.{◌+◌, ◌≤◌}
 use native.Mathlib.Omega.{arith}
 use Rattle.buffers.proofs.Sums.{within_chunk}
 use Rattle.buffers.proofs.add_chunks_16.Goals as goal

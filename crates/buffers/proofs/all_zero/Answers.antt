@@ -1,7 +1,6 @@
 -- `buffers::all_zero` meets its contract. The invariant: `all` is 0 where each byte passed is.
 -- Assumes nothing.
 use mathlib.Core.Path.{◌≡◌}
-use Prim.Native.Nat.{◌-◌}
 use native.Mathlib.Omega.{arith}
 use lib.Dec.{eqb}
 use Rattle.buffers.proofs.AllZeroLaws.{all_more, all_done}

@@ -1,7 +1,6 @@
 -- `buffers::part_16` meets its contract: after i turns, i bytes stand in the array.
 -- Assumes nothing.
 use mathlib.Core.Path.{refl}
-use Prim.Native.Nat.{◌-◌}
 use native.Mathlib.Omega.{arith}
 use Rattle.algebra.proofs.Fronts.{filled_none, filled_more, filled_all}
 use Rattle.buffers.proofs.part_16.Goals as goal

@@ -1,7 +1,6 @@
 -- `buffers::put_16` meets its contract: after i turns, i bytes are put.
 -- Assumes nothing.
 use mathlib.Core.Path.{◌≡◌, refl, sym, ap, ◌∙◌}
-use Prim.Native.Nat.{◌-◌}
 use native.Mathlib.Omega.{arith}
 use lib.ListN.{length-set}
 use Rattle.buffers.specs.Parts.{put}

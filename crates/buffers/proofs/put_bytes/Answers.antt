@@ -1,7 +1,6 @@
 -- `buffers::put_bytes` meets its contract: i bytes are put.
 -- Assumes nothing.
 use mathlib.Core.Path.{◌≡◌, refl, ap, ◌∙◌}
-use Prim.Native.Nat.{◌-◌}
 use native.Mathlib.Omega.{arith}
 use lib.ListN.{length-set}
 use Rattle.buffers.specs.Parts.{put}

@@ -1,7 +1,6 @@
 -- `buffers::put_chunks` meets its contract: after each turn, i bytes are put.
 -- Assumes nothing.
 use mathlib.Core.Path.{refl, ◌∙◌}
-use Prim.Native.Nat.{◌-◌}
 use native.Mathlib.Omega.{arith}
 use Rattle.buffers.specs.Parts.{put}
 use Rattle.buffers.proofs.Put.{put_chunk}

@@ -1,7 +1,6 @@
 -- `buffers::sum_16` meets its contract: after i turns, i sums stand in the array.
 -- Assumes nothing.
 use mathlib.Core.Path.{refl}
-use Prim.Native.Nat.{◌-◌}
 use native.Mathlib.Omega.{arith}
 use Rattle.algebra.specs.Sums.{◌⊕◌}
 use Rattle.algebra.proofs.Fronts.{filled_none, filled_more, filled_all}

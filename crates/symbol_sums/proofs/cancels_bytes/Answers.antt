@@ -1,7 +1,6 @@
 -- `symbol_sums::cancels_bytes` meets its contract: after c turns, the sums of c bytes are zero.
 -- Assumes nothing.
 use mathlib.Core.Path.{refl, sym, ◌∙◌}
-use Prim.Native.Nat.{◌-◌}
 use native.Mathlib.Omega.{arith}
 use borrow.Author.Count.{below_more}
 use Rattle.symbol_sums.proofs.Symbols.{byte_plus}

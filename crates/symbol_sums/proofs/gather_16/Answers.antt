@@ -1,7 +1,6 @@
 -- `symbol_sums::gather_16` meets its contract: after i turns, i positions are added.
 -- Assumes nothing.
 use mathlib.Core.Path.{◌≡◌}
-use Prim.Native.Nat.{◌-◌}
 use native.Mathlib.Omega.{arith}
 use Rattle.symbol_sums.proofs.Symbols.{plus_none, plus_more, plus_all}
 use Rattle.symbol_sums.proofs.gather_16.Goals as goal

@@ -1,7 +1,6 @@
 -- `symbol_sums::gather_64` meets its contract: after i turns, i positions are added.
 -- Assumes nothing.
 use mathlib.Core.Path.{◌≡◌}
-use Prim.Native.Nat.{◌-◌}
 use native.Mathlib.Omega.{arith}
 use Rattle.symbol_sums.proofs.Symbols.{chunk64_zero, chunk64_none, chunk64_more, chunk64_all, chunk64_sized}
 use Rattle.symbol_sums.proofs.gather_64.Goals as goal

@@ -1,6 +1,5 @@
 -- `symbol_sums::put_sum_bytes` meets its contract: after c turns, c bytes are written.
 -- Assumes nothing.
-use Prim.Native.Nat.{◌-◌}
 use native.Mathlib.Omega.{arith}
 use Rattle.symbol_sums.proofs.Symbols.{written_none, sum-join, sum_replaced}
 use Rattle.symbol_sums.proofs.put_sum_bytes.Goals as goal

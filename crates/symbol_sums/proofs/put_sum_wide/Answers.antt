@@ -1,6 +1,5 @@
 -- `symbol_sums::put_sum_wide` meets its contract: c bytes are written.
 -- Assumes nothing.
-use Prim.Native.Nat.{◌-◌}
 use native.Mathlib.Omega.{arith}
 use Rattle.symbol_sums.proofs.Symbols.{written_none, sum-join}
 use Rattle.symbol_sums.proofs.put_sum_wide.Goals as goal

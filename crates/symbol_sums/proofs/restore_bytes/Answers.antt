@@ -1,6 +1,5 @@
 -- `symbol_sums::restore_bytes` meets its contract: after c turns, c bytes are written.
 -- Assumes nothing.
-use Prim.Native.Nat.{◌-◌}
 use native.Mathlib.Omega.{arith}
 use Rattle.symbol_sums.proofs.Symbols.{written_none, restore_join, inside_kept, restore_replaced}
 use Rattle.symbol_sums.proofs.restore_bytes.Goals as goal

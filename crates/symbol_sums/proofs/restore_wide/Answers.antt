@@ -1,6 +1,5 @@
 -- `symbol_sums::restore_wide` meets its contract: c bytes are written.
 -- Assumes nothing.
-use Prim.Native.Nat.{◌-◌}
 use native.Mathlib.Omega.{arith}
 use Rattle.symbol_sums.proofs.Symbols.{written_none, restore_join, inside_kept}
 use Rattle.symbol_sums.proofs.restore_wide.Goals as goal

@@ -1,6 +1,5 @@
 -- `ccsds::tables::put_front` meets its contract: after i turns, the first i elements stand in the array.
 -- Assumes nothing.
-use Prim.Native.Nat.{◌-◌}
 use mathlib.Core.Path.{refl}
 use native.Mathlib.Omega.{arith}
 use Rattle.algebra.proofs.Fronts.{filled_none, filled_more}

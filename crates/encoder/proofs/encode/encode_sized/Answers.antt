@@ -1,6 +1,6 @@
 -- `encoder::encode::encode_sized` meets its contract: after i turns, i * a parity symbols are there.
 -- Assumes nothing.
-use Rattle.std.proofs.Common.{◌≡◌, ℕ, ◌-◌, ◌*◌, ◌≤◌, sym, refl, ap, ◌∙◌, suc-mul, zero-mul, add-one, arith}
+use Rattle.std.proofs.Common.{◌≡◌, ℕ, ◌*◌, ◌≤◌, sym, refl, ap, ◌∙◌, suc-mul, zero-mul, add-one, arith}
 use Rattle.ccsds.specs.Tables.{code_of, Known}
 use Rattle.ccsds.specs.inner.Layout.{LayoutOf}
 use Rattle.ccsds.proofs.Valid.{valid_of}

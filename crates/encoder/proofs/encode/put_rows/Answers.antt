@@ -1,6 +1,6 @@
 -- `encoder::encode::put_rows` meets its contract: after r turns, r of the symbols are there.
 -- Assumes nothing.
-use Rattle.std.proofs.Common.{◌≡◌, ℕ, ◌+◌, ◌-◌, ◌*◌, sym, ap, ◌∙◌, add-zero, add_assoc, arith}
+use Rattle.std.proofs.Common.{◌≡◌, ℕ, ◌+◌, ◌*◌, sym, ap, ◌∙◌, add-zero, add_assoc, arith}
 use Rattle.ccsds.specs.Tables.{code_of}
 use Rattle.encoder.proofs.Parity.{done_at}
 use Rattle.encoder.proofs.encode.put_rows.Goals as goal

@@ -1,6 +1,6 @@
 -- `encoder::positions::before_last_row` meets its contract.
 -- Assumes nothing.
-use Rattle.std.proofs.Common.{◌-◌, ◌≤◌}
+use Rattle.std.proofs.Common.{◌≤◌}
 use Rattle.encoder.proofs.positions.before_last_row.Given as goal
 
 abbrev pub invariant-loop-e : goal.invariant-loop-e

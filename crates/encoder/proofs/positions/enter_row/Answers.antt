@@ -1,6 +1,6 @@
 -- `encoder::positions::enter_row` meets its contract: i addresses are entered.
 -- Assumes nothing.
-use Rattle.std.proofs.Common.{◌≡◌, ℕ, ◌-◌, ◌<◌, ◌≤◌, [], length, get_or, refl, ap, ◌∙◌, arith}
+use Rattle.std.proofs.Common.{◌≡◌, ℕ, ◌<◌, ◌≤◌, [], length, get_or, refl, ap, ◌∙◌, arith}
 use Rattle.ccsds.specs.Tables.{code_of}
 use Rattle.ccsds.specs.inner.Layout.{max_degree}
 use Rattle.ccsds.proofs.Valid.{valid_of}

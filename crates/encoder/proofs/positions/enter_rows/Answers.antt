@@ -1,6 +1,6 @@
 -- `encoder::positions::enter_rows` meets its contract: the addresses of `row` table rows are entered.
 -- Assumes nothing.
-use Rattle.std.proofs.Common.{◌≡◌, ℕ, ◌-◌, length, refl, ap, ◌∙◌, arith}
+use Rattle.std.proofs.Common.{◌≡◌, ℕ, length, refl, ap, ◌∙◌, arith}
 use lib.ListN.{length-replicate}
 use Rattle.ccsds.specs.Tables.{code_of}
 use Rattle.encoder.specs.inner.Positions.{table_entered, table_size}

@@ -1,6 +1,6 @@
 -- `encoder::positions::keep_sent` meets its contract: of the first e positions those below fill are kept, and the rest is as it was.
 -- Assumes nothing.
-use Rattle.std.proofs.Common.{◌≡◌, ℕ, ◌-◌, ◌<◌, refl, ◌∙◌, subst, arith, get_or-set_other}
+use Rattle.std.proofs.Common.{◌≡◌, ℕ, ◌<◌, refl, ◌∙◌, subst, arith, get_or-set_other}
 use Rattle.symbol_sums.specs.Gather.{max_positions}
 use Rattle.encoder.specs.inner.Positions.{Kept}
 use Rattle.encoder.proofs.Sent.{kept_all, kept_more}

@@ -1,6 +1,6 @@
 -- `encoder::positions::lay` meets its contract: the entries of r classes are counted.
 -- Assumes nothing.
-use Rattle.std.proofs.Common.{◌-◌, arith}
+use Rattle.std.proofs.Common.{arith}
 use Rattle.encoder.proofs.positions.lay.Goals as goal
 
 pub enter_rows-requires : goal.enter_rows-requires

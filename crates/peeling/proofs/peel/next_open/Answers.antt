@@ -1,6 +1,6 @@
 -- `peeling::peel::next_open` meets its contract.
 -- Assumes nothing.
-use Rattle.std.proofs.Common.{◌-◌, arith}
+use Rattle.std.proofs.Common.{arith}
 use Rattle.peeling.proofs.PeelLaws.{closed-more}
 use Rattle.peeling.proofs.peel.next_open.Goals as goal
 

@@ -1,6 +1,6 @@
 -- `peeling::peel::open_missing` meets its contract.
 -- Assumes nothing.
-use Rattle.std.proofs.Common.{ℕ, ◌-◌, length, sym, refl, ap, ◌∙◌, arith}
+use Rattle.std.proofs.Common.{ℕ, length, sym, refl, ap, ◌∙◌, arith}
 use lib.ListN.{length-replicate}
 use Rattle.peeling.proofs.OpenLaws.{opening-none, opening-more, opening_all}
 use Rattle.peeling.proofs.peel.open_missing.Goals as goal

@@ -30,14 +30,13 @@ pub first_ready-requires : goal.first_ready-requires
 first_ready-requires c = ((fits (goal.at.first_ready-requires c).Start).few.1, c.count.ensures, c.no_rows-ready.ensures)
 
 pub loop-g-init : goal.loop-g-init
-loop-g-init c =
-    (
-      c.no_positions-xs.ensures,
-      (
-        record { counts-size = c.count.ensures; ready_size = c.first_ready.ensures },
-        subst⁻¹ (State (checks c.args.s) c.args.s.w c.args.symbols.now c.args.states.now c.args.plan.now c.args.symbols.now) c.beginning-g.ensures (start (goal.at.loop-g-init c).Start),
-      ),
-    )
+loop-g-init c = (
+  c.no_positions-xs.ensures,
+  (
+    record { counts-size = c.count.ensures; ready_size = c.first_ready.ensures },
+    subst⁻¹ (State (checks c.args.s) c.args.s.w c.args.symbols.now c.args.states.now c.args.plan.now c.args.symbols.now) c.beginning-g.ensures (start (goal.at.loop-g-init c).Start),
+  ),
+)
 
 pub turn-g-requires : goal.turn-g-requires
 turn-g-requires c =

@@ -1,6 +1,6 @@
 -- `peeling::peel::single` meets its contract.
 -- Assumes nothing.
-use Rattle.std.proofs.Common.{◌≡◌, ℕ, ◌+◌, ◌-◌, cond, eqb, get_or, ap, ◌∙◌, arith}
+use Rattle.std.proofs.Common.{◌≡◌, ℕ, ◌+◌, cond, eqb, get_or, ap, ◌∙◌, arith}
 use Rattle.peeling.proofs.OpenLaws.{seen_none, seen_more, seen_all}
 use Rattle.peeling.proofs.peel.single.Goals as goal
 use Rattle.peeling.proofs.peel.single.Goals.{After-wide-x}

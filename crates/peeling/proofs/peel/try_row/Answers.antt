@@ -83,8 +83,11 @@ overflow_sub-result c = omega (arith, c.requires.r_bound.1)
 
 pub returns : goal.returns
 returns c =
-    record { xs_len_2 = simp length-set c.of_row-n.ensures.size; continued = record {
+    record {
+      xs_len_2 = simp length-set c.of_row-n.ensures.size;
+      continued = record {
         state = λ block states S. state_settled S c.of_row-n.ensures (row_lt (goal.at.returns c).Start) c.if-i-n.false c.single-i.ensures c.if-plan-r-ne0.false _ c.wide.ensures.0 _ _ _ c.settle.ensures.plan_after c.settle.ensures.replaced
             c.early_steps-early.ensures;
         less = omega (arith, c.requires.r_bound.1);
-      } }
+      };
+    }

@@ -1,7 +1,6 @@
 -- `pivot_equations::express::remaining` meets its contract: the unused check rows before j are expressed.
 -- Assumes nothing.
 use mathlib.Core.Path.{◌≡◌}
-use Prim.Native.Nat.{◌-◌}
 use native.Mathlib.Omega.{arith}
 use Rattle.algebra.specs.Codeword.{Checks}
 use Rattle.encoder.specs.inner.Positions.{checks}

@@ -1,7 +1,6 @@
 -- `pivot_equations::remaining::sums` meets its contract: the sums of the unused of the first j rows are there.
 -- Assumes nothing.
 use mathlib.Core.Path.{◌≡◌, sym, ◌∙◌}
-use Prim.Native.Nat.{◌-◌}
 use native.Mathlib.Omega.{arith}
 use Rattle.encoder.specs.inner.Positions.{checks}
 use Rattle.peeling.proofs.CodeSizes.{layout-rows}

@@ -1,7 +1,6 @@
 -- `pivot_equations::restore::others` meets its contract: of the first i numbers, those other than p stand at the front.
 -- Assumes nothing.
 use mathlib.Core.Path.{refl, sym, ◌∙◌}
-use Prim.Native.Nat.{◌-◌}
 use native.Mathlib.Omega.{arith}
 use Rattle.pivot_equations.proofs.Restored.{others-none, others_skip, others-take, others-at}
 use Rattle.pivot_equations.proofs.restore.others.Goals as goal

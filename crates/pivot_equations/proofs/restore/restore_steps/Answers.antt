@@ -1,7 +1,7 @@
 -- `pivot_equations::restore::restore_steps` meets its contract: the first t steps hold.
 -- Assumes nothing.
 use mathlib.Core.Path.{◌∙◌}
-use Prim.Native.Nat.{◌<◌, ◌+◌, ◌-◌}
+use Prim.Native.Nat.{◌<◌, ◌+◌}
 use native.Mathlib.Omega.{arith}
 use Rattle.peeling.proofs.StepLaws.{few-steps}
 use Rattle.pivot_equations.proofs.Restored.{restored-none, restored-more, restored_all}

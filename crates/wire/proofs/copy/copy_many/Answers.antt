@@ -1,7 +1,6 @@
 -- `wire::copy::copy_many` meets its contract: at the loop the first i bytes stand, and after it all but 16 at most.
 -- Assumes nothing.
 use mathlib.Core.Path.{◌∙◌}
-use Prim.Native.Nat.{◌-◌}
 use native.Mathlib.Omega.{arith}
 use Rattle.wire.proofs.AppendedLaws.{appended_since, appended_over, copied_first, copied_less, copied_on, copied_all}
 use Rattle.wire.proofs.copy.copy_many.Goals as goal
