@@ -17,7 +17,6 @@ use Rattle.algebra.proofs.Lists.{eqb_iff, get_d_tab, length-tab}
 use Rattle.algebra.proofs.Codeword.{ext_byte_at}
 use Rattle.algebra.proofs.Agreeing.{whole_iff, ambiguous_iff, inconsistent_iff, mem-agreeing, once_agreeing, determined-true, determined-same}
 use Rattle.algebra.proofs.Words.{Once}
-use Rattle.algebra.proofs.Counts.{count_all}
 use Rattle.ccsds.specs.Tables.{code_of}
 use Rattle.ccsds.specs.Refusals.{Outcome, refused, answered}
 use Rattle.block.specs.Block.{checks, idle_at}

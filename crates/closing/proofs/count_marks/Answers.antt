@@ -1,7 +1,7 @@
 -- `closing::count_marks` meets its contract: what is counted, and what is still to count, are all.
 -- Assumes nothing.
 use mathlib.Core.Path.{◌≡◌}
-use Prim.Native.Nat.{◌-◌, ◌<◌}
+use Prim.Native.Nat.{◌<◌}
 use native.Mathlib.Omega.{arith}
 use lib.ListN.{length}
 use Rattle.closing.proofs.Marks.{count-end, count-one, count_other}
@@ -20,12 +20,12 @@ loop-i-preserved c =
     let filled = c.if-marks-i-eq-FILLED in (
       omega arith,
       elim heard.branch [
-        then-marks-i-eq-HEARD w ↦ record { few = omega (arith, l.invariant.1.few, w.heard-is); all = count-one a.marks.now l.i h 1 l.heard heard.heard w.if-marks-i-eq-HEARD.true w.heard-is l.invariant.1.all } |
-        else-marks-i-eq-HEARD w ↦ record { few = omega (arith, l.invariant.1.few, w.heard-is); all = count_other a.marks.now l.i h 1 l.heard heard.heard w.if-marks-i-eq-HEARD.false w.heard-is l.invariant.1.all }
+        | then-marks-i-eq-HEARD w ↦ record { few = omega (arith, l.invariant.1.few, w.heard-is); all = count-one a.marks.now l.i h 1 l.heard heard.heard w.if-marks-i-eq-HEARD.true w.heard-is l.invariant.1.all }
+        | else-marks-i-eq-HEARD w ↦ record { few = omega (arith, l.invariant.1.few, w.heard-is); all = count_other a.marks.now l.i h 1 l.heard heard.heard w.if-marks-i-eq-HEARD.false w.heard-is l.invariant.1.all }
       ],
       elim filled.branch [
-        then-marks-i-eq-FILLED w ↦ record { few = omega (arith, l.invariant.2.few, w.filled-is); all = count-one a.marks.now l.i h 2 l.filled filled.filled w.if-marks-i-eq-FILLED.true w.filled-is l.invariant.2.all } |
-        else-marks-i-eq-FILLED w ↦ record { few = omega (arith, l.invariant.2.few, w.filled-is); all = count_other a.marks.now l.i h 2 l.filled filled.filled w.if-marks-i-eq-FILLED.false w.filled-is l.invariant.2.all }
+        | then-marks-i-eq-FILLED w ↦ record { few = omega (arith, l.invariant.2.few, w.filled-is); all = count-one a.marks.now l.i h 2 l.filled filled.filled w.if-marks-i-eq-FILLED.true w.filled-is l.invariant.2.all }
+        | else-marks-i-eq-FILLED w ↦ record { few = omega (arith, l.invariant.2.few, w.filled-is); all = count_other a.marks.now l.i h 2 l.filled filled.filled w.if-marks-i-eq-FILLED.false w.filled-is l.invariant.2.all }
       ],
     )
 

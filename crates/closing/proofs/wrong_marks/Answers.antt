@@ -1,7 +1,7 @@
 -- `closing::wrong_marks` meets its contract: the highest mark so far, or what is still to test, decides.
 -- Assumes nothing.
 use mathlib.Core.Path.{◌≡◌, ◌∙◌}
-use Prim.Native.Nat.{◌-◌, ◌<◌}
+use Prim.Native.Nat.{◌<◌}
 use native.Mathlib.Omega.{arith}
 use lib.ListN.{length}
 use Rattle.block.specs.Status.{wrong_mark}

@@ -1,6 +1,6 @@
 -- `decoder::dependence::no_bits` meets its contract. The invariant: `all` is 0 where each word passed is.
 -- Assumes nothing.
-use Prim.Native.Nat.{◌+◌, ◌-◌}
+use Prim.Native.Nat.{◌+◌}
 use mathlib.Core.Path.{◌≡◌}
 use native.Mathlib.Omega.{arith}
 use lib.Dec.{eqb}

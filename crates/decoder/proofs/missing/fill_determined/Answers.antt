@@ -1,7 +1,7 @@
 -- `decoder::missing::fill_determined` meets its contract. The invariant: the first i positions are filled.
 -- Assumes nothing.
 use mathlib.Core.Path.{sym, ap, ◌∙◌}
-use Prim.Native.Nat.{ℕ, ◌-◌, ◌*◌, ◌<◌}
+use Prim.Native.Nat.{ℕ, ◌*◌, ◌<◌}
 use native.Mathlib.Omega.{arith}
 use lib.ListN.{length}
 use Rattle.decoder.proofs.Clearing.{upto_none, upto_more}

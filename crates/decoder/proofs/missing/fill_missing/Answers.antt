@@ -1,7 +1,6 @@
 -- `decoder::missing::fill_missing` meets its contract. The invariant: the first i states are filled.
 -- Assumes nothing.
 use mathlib.Core.Path.{refl}
-use Prim.Native.Nat.{◌-◌}
 use native.Mathlib.Omega.{arith}
 use lib.ListN.{length-set}
 use Rattle.decoder.proofs.Filling.{states-more}

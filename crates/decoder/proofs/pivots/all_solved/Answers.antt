@@ -1,6 +1,6 @@
 -- `decoder::pivots::all_solved` meets its contract. The invariant: the pivots passed are solved.
 -- Assumes nothing.
-use Prim.Native.Nat.{◌+◌, ◌-◌}
+use Prim.Native.Nat.{◌+◌}
 use native.Mathlib.Omega.{arith}
 use borrow.Author.Count.{below_more}
 use Rattle.peeling.specs.Plan.{pivot_of}

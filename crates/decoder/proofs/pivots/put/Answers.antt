@@ -1,6 +1,5 @@
 -- `decoder::pivots::put` meets its contract. The invariant: the first i rows were asked.
 -- Assumes nothing.
-use Prim.Native.Nat.{◌-◌}
 use native.Mathlib.Omega.{arith}
 use Rattle.decoder.proofs.PivotSymbols.{put-none, put_all, put-room, put-more}
 use Rattle.decoder.proofs.pivots.put.Goals as goal

@@ -19,5 +19,8 @@ returns c =
     let l = c.eliminate.new.rows in
     let d = c.eliminate.new.rhs in
     let b = part_back (r.steps * (r.packed + 1)) a.words.now l h in
-    let e = c.eliminate.ensures in record { same_solutions = subst (λ (z : List ℕ). SameSolutions (behind r.packed r.steps a.words.now) a.bytes.now z d r.rest r.packed a.w) (sym b)
-          (subst (λ (z : List ℕ). SameSolutions z a.bytes.now l d r.rest r.packed a.w) (part_all (r.steps * (r.packed + 1)) a.words.now) e.same_solutions); reduced = subst (λ (z : List ℕ). Reduced z r.rest r.packed r.rest) (sym b) e.reduced }
+    let e = c.eliminate.ensures in record {
+      same_solutions = subst (λ (z : List ℕ). SameSolutions (behind r.packed r.steps a.words.now) a.bytes.now z d r.rest r.packed a.w) (sym b)
+          (subst (λ (z : List ℕ). SameSolutions z a.bytes.now l d r.rest r.packed a.w) (part_all (r.steps * (r.packed + 1)) a.words.now) e.same_solutions);
+      reduced = subst (λ (z : List ℕ). Reduced z r.rest r.packed r.rest) (sym b) e.reduced;
+    }
