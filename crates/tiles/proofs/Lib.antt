@@ -2,6 +2,7 @@ pub mod LengthLaws
 pub mod AppendingLaws
 pub mod CopyLaws
 pub mod RowLaws
+pub mod RefusalList
 pub mod Packable
 pub mod PackedRows
 pub mod PackClaims

@@ -12,8 +12,9 @@ use Rattle.buffers.proofs.Zeros.{zeros}
 use Rattle.ccsds.specs.Tables.{code_of, code_in, codes, number_in, is_code, c1}
 use Rattle.ccsds.specs.Fill.{wrong_fill}
 use Rattle.ccsds.specs.Refusals.{first_of, encoder_conditions, wrong_code, wrong_width, wrong_length}
-use Rattle.ccsds.proofs.RefusalOrder.{chain, in_order, first_on, first-end}
+use Rattle.ccsds.proofs.RefusalOrder.{in_order, first_on, first-end}
 use Rattle.ccsds.proofs.Refusals.{length-same}
+use Rattle.tiles.specs.PackRefusals.{first_listed}
 use Rattle.tiles.specs.Rows.{room_of, zero_row, narrow, count_of, part_of}
 use Rattle.tiles.specs.Pack.{rows_of, rows_needed, total, some_zero, wrong_tiles, tiles_rows, pack_rows, pack_of, pack_refusal}
 use Rattle.tiles.specs.PackClaims.{RowReads, tile_at, first_row, part_in, TileRow, parts_from, PacksAll, NoTiles, NoWrapping}
@@ -187,5 +188,5 @@ unfolding pack_of pack_rows tiles_rows rows_needed
 no_tiles w fill = let e : fill - 0 ≡ fill = omega arith in zero-rows (fill - 0) w ∙ ap (λ (k : ℕ). replicate (k * w) 0) e
 
 pub no_wrapping : NoWrapping
-unfolding pack_refusal wrong_tiles some_zero total chain wrong_code is_code number_in codes wrong_width narrow wrong_fill code_of code_in c1 wrong_length
-no_wrapping = in_order _ refl
+unfolding pack_refusal first_listed wrong_tiles some_zero total wrong_code is_code number_in codes wrong_width narrow wrong_fill code_of code_in c1 wrong_length
+no_wrapping = refl

@@ -11,16 +11,18 @@ use lib.ListN.{length, replicate, length-append, length-replicate}
 use borrow.Author.Tests.{not-false, eqb-true, ltb-false}
 use Rattle.ccsds.specs.Tables.{code_of}
 use Rattle.ccsds.specs.Fill.{wrong_fill}
+use Rattle.ccsds.specs.RefusalTable.{number_of}
 use Rattle.ccsds.specs.RefusalTable as refusal
-use Rattle.ccsds.specs.Refusals.{code_conditions, wrong_code, wrong_width, wrong_length}
+use Rattle.ccsds.specs.Refusals.{wrong_code, wrong_width, wrong_length}
 use Rattle.ccsds.proofs.Valid.{few_of}
-use Rattle.ccsds.proofs.RefusalOrder.{chain, in_order, parts_none, first-none}
-use Rattle.ccsds.proofs.Refusals.{or_false, code-none, width_right, fill_right, length_right}
+use Rattle.ccsds.proofs.Refusals.{or_false, width_right, fill_right, length_right}
 use Rattle.wire.specs.inner.Appended.{Appended}
 use Rattle.wire.proofs.AppendedLaws.{then_appended, appended-whole}
+use Rattle.tiles.specs.PackRefusals.{first_listed}
 use Rattle.tiles.specs.Rows.{room_of, zero_row, joined, narrow, row_conditions}
 use Rattle.tiles.specs.Pack.{rows_needed, total, some_zero, wrong_tiles, overfull, tiles_rows, pack_rows, pack_of, pack_refusal}
 use Rattle.tiles.specs.inner.Steps.{Wide, Fitting}
+use Rattle.tiles.proofs.RefusalList.{parts_none, first-none}
 use Rattle.tiles.proofs.RowLaws.{tiles-length, joined_append, zero-rows}
 
 -- none of 1, 2, 15 and 13 applies
@@ -33,19 +35,19 @@ pub record Usable (number w fill : ℕ) : Type 0 where
   pub most : fill ≤ (code_of number).k
   pub few : (code_of number).k + (code_of number).m ≤ 3072
 
-pub usable : (number w fill : ℕ) → chain (row_conditions number w fill) ≡ 0 → Usable number w fill
+pub usable : (number w fill : ℕ) → first_listed (row_conditions number w fill) ≡ 0 → Usable number w fill
 unfolding narrow
 usable number w fill e =
-    let a = parts_none (code_conditions number w) _ e in
-    let c = code-none number w a.0 in
-    let n = first-none refusal.narrow (narrow w) _ a.1 in
-    let f = first-none refusal.fill (wrong_fill (code_of number).k fill) _ n.1 in
+    let c = first-none (number_of refusal.code) (wrong_code number) _ refl e in
+    let v = first-none (number_of refusal.width) (wrong_width w) _ refl c.1 in
+    let n = first-none 15 (narrow w) _ refl v.1 in
+    let f = first-none (number_of refusal.fill) (wrong_fill (code_of number).k fill) _ refl n.1 in
     let p = fill_right (code_of number).k fill f.0 in
     record {
       code = c.0;
-      width = c.1;
+      width = v.0;
       filled = f.0;
-      wide = record { least = ltb-false w 5 n.0; most = (width_right w c.1).1 };
+      wide = record { least = ltb-false w 5 n.0; most = (width_right w v.0).1 };
       some = p.0;
       most = p.1;
       few = few_of number;
@@ -66,10 +68,10 @@ pub packable : (number w fill bytes : ℕ) (lengths : List ℕ) (outLength : ℕ
     → Packable number w fill bytes lengths outLength
 unfolding pack_refusal wrong_tiles overfull
 packable number w fill bytes lengths outLength e =
-    let a = parts_none (row_conditions number w fill) _ (sym (in_order _ refl) ∙ e) in
-    let b = first-none refusal.length (wrong_length outLength (fill * w)) _ a.1 in
-    let c = first-none refusal.tiles (wrong_tiles lengths bytes) _ b.1 in
-    let d = first-none refusal.overfull (overfull (room_of w) lengths fill) _ c.1 in
+    let a = parts_none (row_conditions number w fill) _ refl e in
+    let b = first-none (number_of refusal.length) (wrong_length outLength (fill * w)) _ refl a.1 in
+    let c = first-none 16 (wrong_tiles lengths bytes) _ refl b.1 in
+    let d = first-none 17 (overfull (room_of w) lengths fill) _ refl c.1 in
     let f = or_false (some_zero lengths) (not (eqb (total lengths) bytes)) c.0 in
     record {
       usable = usable number w fill a.0;

@@ -1,3 +1,4 @@
+pub mod PackRefusals
 pub mod Rows
 pub mod Pack
 pub mod PackClaims

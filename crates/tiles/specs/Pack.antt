@@ -1,8 +1,10 @@
 -- Document 02, job 3: packing tiles, given by their joined bytes and their lengths, into the rows of a block's information symbols.
 -- Assumes nothing.
 use Rattle.std.specs.Prelude.{Bool, false, cond, not, ◌||◌, List, [], ◌∷◌, ◌++◌, ℕ, zero, suc, ◌+◌, ◌-◌, ◌*◌, ◌/◌, eqb, ltb, take, drop, replicate}
+use Rattle.ccsds.specs.RefusalTable.{number_of}
 use Rattle.ccsds.specs.RefusalTable as refusal
-use Rattle.ccsds.specs.Refusals.{first_of, wrong_width, wrong_length, Outcome, refused, answered}
+use Rattle.ccsds.specs.Refusals.{wrong_width, wrong_length, Outcome, refused, answered}
+use Rattle.tiles.specs.PackRefusals.{first_listed}
 use Rattle.tiles.specs.Rows.{room_of, row_bytes, zero_row, joined, narrow, row_conditions}
 use Rattle.tiles.specs.declared.pack.Packed.{Packed}
 use Rattle.tiles.specs.declared.pack.Packed.TheVariants.{Done, Refused}
@@ -66,11 +68,11 @@ overfull room lengths fill = ltb fill (rows_needed room lengths)
 -- the number of the refusal, or 0: of a code's number, a width, a fill, so many bytes, the lengths, and the length of the output
 unfoldable pub pack_refusal : ℕ → ℕ → ℕ → ℕ → List ℕ → ℕ → ℕ
 pack_refusal number w fill bytes lengths outLength =
-    first_of (
+    first_listed (
     row_conditions number w fill
-    ++ (refusal.length, wrong_length outLength (fill * w))
-    ∷ (refusal.tiles, wrong_tiles lengths bytes)
-    ∷ (refusal.overfull, overfull (room_of w) lengths fill)
+    ++ (number_of refusal.length, wrong_length outLength (fill * w))
+    ∷ (16, wrong_tiles lengths bytes)
+    ∷ (17, overfull (room_of w) lengths fill)
     ∷ []
     )
 

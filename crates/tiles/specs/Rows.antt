@@ -5,8 +5,10 @@ use Rattle.std.specs.Prelude.{Bool, List, [], ◌∷◌, ◌++◌, ℕ, ◌-◌,
 use Rattle.wire.specs.Bytes.{pair_at, two_bytes}
 use Rattle.ccsds.specs.Tables.{code_of}
 use Rattle.ccsds.specs.Fill.{wrong_fill}
+use Rattle.ccsds.specs.RefusalTable.{number_of}
 use Rattle.ccsds.specs.RefusalTable as refusal
-use Rattle.ccsds.specs.Refusals.{Conditions, code_conditions}
+use Rattle.ccsds.specs.Refusals.{wrong_code, wrong_width}
+use Rattle.tiles.specs.PackRefusals.{Numbered}
 
 -- the payload bytes of a row
 abbrev pub room_of : ℕ → ℕ
@@ -50,9 +52,10 @@ unfoldable pub narrow : ℕ → Bool
 narrow w = ltb w 5
 
 -- 1, 2, 15 and 13: of a code's number, a width and a fill
-abbrev pub row_conditions : ℕ → ℕ → ℕ → Conditions
+abbrev pub row_conditions : ℕ → ℕ → ℕ → Numbered
 row_conditions number w fill =
-    code_conditions number w
-    ++ (refusal.narrow, narrow w)
-    ∷ (refusal.fill, wrong_fill (code_of number).k fill)
+    (number_of refusal.code, wrong_code number)
+    ∷ (number_of refusal.width, wrong_width w)
+    ∷ (15, narrow w)
+    ∷ (number_of refusal.fill, wrong_fill (code_of number).k fill)
     ∷ []

@@ -1,6 +1,6 @@
 // The refusals of calls on rows.
 ghost use Rattle.std.specs.Prelude.{◌≡◌};
-ghost use Rattle.ccsds.specs.Refusals.{first_of};
+ghost use Rattle.tiles.specs.PackRefusals.{first_listed};
 ghost use Rattle.tiles.specs.Rows.{narrow, row_conditions};
 
 use ccsds::code::Code;
@@ -15,7 +15,7 @@ pub fn is_narrow(w: usize) -> bool
 
 // 1, 2, 15 or 13, or 0.
 pub fn check_rows(number: usize, w: usize, fill: usize) -> u8
-    ensures { result ≡ first_of (row_conditions number w fill) }
+    ensures { result ≡ first_listed (row_conditions number w fill) }
 {
     let earlier = checks::check_code(number, w);
     if earlier != 0 {

@@ -4,46 +4,48 @@ use mathlib.Core.Path.{◌≡◌, refl, sym, ◌∙◌}
 use mathlib.Core.List.{[], ◌∷◌}
 use Prim.Native.Nat.{◌*◌, ◌<◌}
 use native.Mathlib.Omega.{arith}
+use Rattle.ccsds.specs.RefusalTable.{number_of}
 use Rattle.ccsds.specs.RefusalTable as refusal
 use Rattle.ccsds.specs.Refusals.{wrong_length}
-use Rattle.ccsds.proofs.RefusalOrder.{chain, in_order, part_refuses, part-passed, first_is, first_on, first-end}
 use Rattle.ccsds.proofs.Refusals.{length-same, length-wrong}
+use Rattle.tiles.specs.PackRefusals.{first_listed}
 use Rattle.tiles.specs.Rows.{room_of, row_conditions}
 use Rattle.tiles.specs.Pack.{wrong_tiles, overfull, largest, pack_refusal}
 use Rattle.tiles.proofs.LengthLaws.{over_full, not_over_full}
+use Rattle.tiles.proofs.RefusalList.{part_refuses, part-passed, first_is, first_on, first-end}
 use Rattle.tiles.proofs.Packable.{Usable, usable, output-size}
 use Rattle.tiles.proofs.pack.check_pack.Goals as goal
 use Rattle.tiles.proofs.pack.check_pack.Goals.{Else-earlier-ne0, Else-wrong_tiles}
 
 ready : (c : Else-earlier-ne0) → let a = c.args in Usable a.number a.w a.fill
-ready c = usable _ _ _ (sym (in_order _ refl) ∙ sym c.check_rows-earlier.ensures ∙ c.if-earlier-ne0.false)
+ready c = usable _ _ _ (sym c.check_rows-earlier.ensures ∙ c.if-earlier-ne0.false)
 
 -- 1, 2, 15 and 13 don't apply; nor does 4; nor 16
 passed : (c : Else-earlier-ne0) → let a = c.args in
     pack_refusal a.number a.w a.fill a.bytes a.lens.now a.outLength
-    ≡ chain (
-    (refusal.length, wrong_length a.outLength (a.fill * a.w))
-    ∷ (refusal.tiles, wrong_tiles a.lens.now a.bytes)
-    ∷ (refusal.overfull, overfull (room_of a.w) a.lens.now a.fill)
+    ≡ first_listed (
+    (number_of refusal.length, wrong_length a.outLength (a.fill * a.w))
+    ∷ (16, wrong_tiles a.lens.now a.bytes)
+    ∷ (17, overfull (room_of a.w) a.lens.now a.fill)
     ∷ []
     )
 unfolding pack_refusal
-passed c = let a = c.args in part-passed (row_conditions a.number a.w a.fill) _ refl refl _ c.check_rows-earlier.ensures c.if-earlier-ne0.false
+passed c = let a = c.args in part-passed (row_conditions a.number a.w a.fill) _ _ c.check_rows-earlier.ensures refl c.if-earlier-ne0.false
 
 after-tiles : (c : Else-wrong_tiles) → let a = c.args in
     pack_refusal a.number a.w a.fill a.bytes a.lens.now a.outLength
-    ≡ chain ((refusal.overfull, overfull (room_of a.w) a.lens.now a.fill) ∷ [])
+    ≡ first_listed ((17, overfull (room_of a.w) a.lens.now a.fill) ∷ [])
 unfolding pack_refusal
-after-tiles c = (let a = c.args in part-passed (row_conditions a.number a.w a.fill) _ refl refl _ c.check_rows-earlier.ensures c.if-earlier-ne0.false) ∙ first_on _ _ _ (length-same _ _ c.if-outLength-fill.false) ∙ first_on _ _ _ (sym c.wrong_tiles.ensures ∙ c.if-wrong_tiles.false)
+after-tiles c = (let a = c.args in part-passed (row_conditions a.number a.w a.fill) _ _ c.check_rows-earlier.ensures refl c.if-earlier-ne0.false) ∙ first_on _ _ _ (length-same _ _ c.if-outLength-fill.false) ∙ first_on _ _ _ (sym c.wrong_tiles.ensures ∙ c.if-wrong_tiles.false)
 
 few : (c : Else-wrong_tiles) → c.args.fill < largest
-few c = let r = (usable _ _ _ (sym (in_order _ refl) ∙ sym c.check_rows-earlier.ensures ∙ c.if-earlier-ne0.false)) in omega (arith, r.most, r.few)
+few c = let r = (usable _ _ _ (sym c.check_rows-earlier.ensures ∙ c.if-earlier-ne0.false)) in omega (arith, r.most, r.few)
 
 pub returns-then-earlier-ne0 : goal.returns-then-earlier-ne0
 unfolding pack_refusal
 returns-then-earlier-ne0 c =
     let a = c.args in
-    part_refuses (row_conditions a.number a.w a.fill) _ refl refl _ c.check_rows-earlier.ensures c.if-earlier-ne0.true
+    part_refuses (row_conditions a.number a.w a.fill) _ _ c.check_rows-earlier.ensures c.if-earlier-ne0.true
 
 pub overflow_mul-fill : goal.overflow_mul-fill
 overflow_mul-fill c = let a = c.args in omega (arith, output-size a.number a.w a.fill (ready c))
