@@ -1,0 +1,13 @@
+-- `elimination::bits::lowest` meets its contract. The invariant: the words passed have no unknown.
+-- Assumes nothing.
+use mathlib.Core.Path.{◌≡◌}
+use mathlib.Core.Bool.{false}
+use Prim.Native.Nat.{ℕ, ◌-◌, ◌*◌, ◌≤◌, ◌<◌}
+use Rattle.elimination.specs.Bits.{row_bit}
+use Rattle.elimination.proofs.bits.lowest.Given as goal
+
+abbrev pub invariant-loop-i : goal.invariant-loop-i
+invariant-loop-i l = (l.i ≤ l.words) × ((q : ℕ) → q < 64 * l.i → row_bit l.rows l.base q ≡ false)
+
+abbrev pub decreases-loop-i : goal.decreases-loop-i
+decreases-loop-i l = l.words - l.i

@@ -1,0 +1,24 @@
+-- `symbol_sums::restore_bytes` meets its contract: after c turns, c bytes are written.
+-- Assumes nothing.
+use Prim.Native.Nat.{◌-◌}
+use native.Mathlib.Omega.{arith}
+use Rattle.symbol_sums.proofs.Symbols.{written_none, restore_join, inside_kept, restore_replaced}
+use Rattle.symbol_sums.proofs.restore_bytes.Goals as goal
+
+pub loop-c-init : goal.loop-c-init
+loop-c-init c = (omega arith, written_none)
+
+pub restore_byte-requires : goal.restore_byte-requires
+restore_byte-requires c =
+    record { c_lt_w = (omega arith, omega (arith, c.loop-c.invariant.1.size)); inside = inside_kept c.requires.inside c.loop-c.invariant.1.size }
+
+pub loop-c-preserved : goal.loop-c-preserved
+loop-c-preserved c = (omega arith, restore_join _ _ _ _ c.requires.by_index c.loop-c.invariant.1 c.restore_byte.ensures (omega arith) (omega arith) (omega arith))
+
+pub shape_of-buf : goal.shape_of-buf
+shape_of-buf c = c.loop-c.invariant.1.size
+
+pub returns : goal.returns
+returns c =
+    let a = c.args in
+    restore_replaced a.w a.p a.xs.now a.n c.loop-c.invariant.1 (omega arith)
