@@ -1,7 +1,6 @@
 -- `elimination::active::list_active` meets its contract, which says nothing of the list. The invariant: no more rows are listed than were passed.
 -- Assumes nothing.
 use native.Mathlib.Omega.{arith}
-use Prim.Native.Nat.{◌-◌}
 use Rattle.elimination.proofs.active.list_active.Goals as goal
 use Rattle.elimination.proofs.active.list_active.Goals.{else-weights-j, then-weights-j}
 

@@ -1,7 +1,6 @@
 -- `elimination::active::next_active` meets its contract. The invariant: k is between i and count.
 -- Assumes nothing.
 use native.Mathlib.Omega.{arith}
-use Prim.Native.Nat.{◌-◌}
 use Rattle.elimination.proofs.active.next_active.Goals as goal
 
 pub has_unknown-requires : goal.has_unknown-requires

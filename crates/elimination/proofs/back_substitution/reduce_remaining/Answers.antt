@@ -1,7 +1,6 @@
 -- `elimination::back_substitution::reduce_remaining` meets its contract.
 -- Assumes nothing.
 use native.Mathlib.Omega.{arith}
-use Prim.Native.Nat.{◌-◌}
 use mathlib.Core.Logic.{⊎_elim}
 use Rattle.elimination.proofs.PivotStepLaws.{marked_more}
 use Rattle.elimination.proofs.Kept.{kept_refl, kept_more, kept-fits}

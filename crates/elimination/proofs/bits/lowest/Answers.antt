@@ -1,7 +1,6 @@
 -- `elimination::bits::lowest` meets its contract. The invariant: the words passed have no unknown.
 -- Assumes nothing.
-use mathlib.Core.Bool.{false}
-use Prim.Native.Nat.{ℕ, ◌+◌, ◌-◌}
+use Prim.Native.Nat.{ℕ, ◌+◌}
 use native.Mathlib.Omega.{arith}
 use lib.ListN.{get_or}
 use lib.Count.{trailing_le}
@@ -20,7 +19,7 @@ overflow_add-result c = omega (arith, trailing_le 64 (get_or c.args.rows.now (c.
 pub returns-then-w-ne0 : goal.returns-then-w-ne0
 returns-then-w-ne0 c =
     let k : ℕ = c.args.base + c.loop-i.i in
-    row-found _ _ _ c.loop-i.invariant.1 _ c.loop-i-test.true (omega arith) (omega (arith, c.shared_slice_known-1.given k))
+    row-found _ _ _ c.loop-i.invariant.1 _ c.loop-i-test.true (omega arith) (omega (arith, c.type_inv.rows k))
 
 pub loop-i-preserved : goal.loop-i-preserved
 loop-i-preserved c = (omega arith, row_more _ _ _ c.loop-i.invariant.1 c.if-w-ne0.false)

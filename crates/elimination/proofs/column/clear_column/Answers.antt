@@ -1,8 +1,7 @@
 -- `elimination::column::clear_column` meets its contract.
 -- Assumes nothing.
 use mathlib.Core.Path.{◌≡◌, refl, ap, ◌∙◌}
-use mathlib.Core.Bool.{true}
-use Prim.Native.Nat.{◌+◌, ◌-◌, ◌≤◌}
+use Prim.Native.Nat.{◌+◌, ◌≤◌}
 use native.Mathlib.Omega.{arith}
 use Rattle.elimination.specs.Column.{add_row_where}
 use Rattle.elimination.proofs.FitsLaws.{rows_again, fits_again}

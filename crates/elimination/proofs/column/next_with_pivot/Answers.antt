@@ -1,12 +1,11 @@
 -- `elimination::column::next_with_pivot` meets its contract. The invariant: no row passed has the pivot.
 -- Assumes nothing.
 use mathlib.Core.Path.{◌≡◌, sym, ◌∙◌}
-use Prim.Native.Nat.{◌-◌}
 use native.Mathlib.Omega.{arith}
 use Rattle.elimination.proofs.FitsLaws.{row-end}
 use Rattle.elimination.proofs.ColumnLaws.{has_pivot_own, has_pivot_other, between_more}
 use Rattle.elimination.proofs.column.next_with_pivot.Goals as goal
-use Rattle.elimination.proofs.column.next_with_pivot.Goals.{else-k-r, then-k-r}
+use Rattle.elimination.proofs.column.next_with_pivot.Goals.{then-k-r+else-bit_at, else-k-r}
 
 pub overflow_add-stride : goal.overflow_add-stride
 overflow_add-stride c = omega (arith, c.requires.fits_rows.short)
@@ -35,7 +34,7 @@ loop-k-preserved c = (
   (
     omega arith,
     between_more _ _ _ c.loop-k.invariant.1.1
-        (elim c.if-k-r.branch [ then-k-r w ↦ has_pivot_other _ _ _ _ _ w.0.taken ∙ sym w.1.ensures ∙ w.2.left | else-k-r w ↦ has_pivot_own _ _ _ _ _ w.left ]),
+        (elim c.if-k-r.branch [ then-k-r+else-bit_at w ↦ has_pivot_other _ _ _ _ _ w.if-k-r.true ∙ sym w.bit_at.ensures ∙ w.if-bit_at.false | else-k-r w ↦ has_pivot_own _ _ _ _ _ w.if-k-r.false ]),
   ),
 )
 

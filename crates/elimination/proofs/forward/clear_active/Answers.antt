@@ -1,7 +1,6 @@
 -- `elimination::forward::clear_active` meets its contract. The invariant: the solutions are those of the start, and place i of the list has one of the rows.
 -- Assumes nothing.
 use native.Mathlib.Omega.{arith}
-use Prim.Native.Nat.{◌-◌}
 use Rattle.elimination.proofs.FitsLaws.{rows_again}
 use Rattle.elimination.proofs.Kept.{kept_refl, kept_more, kept-fits}
 use Rattle.elimination.proofs.forward.clear_active.Goals as goal

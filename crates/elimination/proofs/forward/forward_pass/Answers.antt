@@ -1,7 +1,6 @@
 -- `elimination::forward::forward_pass` meets its contract.
 -- Assumes nothing.
 use native.Mathlib.Omega.{arith}
-use Prim.Native.Nat.{◌-◌}
 use Rattle.elimination.proofs.Kept.{kept_refl, kept_more, kept-fits}
 use Rattle.elimination.proofs.forward.forward_pass.Goals as goal
 

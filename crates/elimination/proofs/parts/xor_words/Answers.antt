@@ -1,7 +1,6 @@
 -- `elimination::parts::xor_words` meets its contract. The invariant: the first i elements are done, which `added` says of i.
 -- Assumes nothing.
 use mathlib.Core.Path.{◌≡◌, refl, ap, ◌∙◌}
-use Prim.Native.Nat.{◌-◌}
 use native.Mathlib.Omega.{arith}
 use lib.ListN.{length-set}
 use Rattle.buffers.specs.Parts.{added}

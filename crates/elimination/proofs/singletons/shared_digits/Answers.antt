@@ -1,7 +1,6 @@
 -- `elimination::singletons::shared_digits` meets its contract. The invariant: the same of the first j rows.
 -- Assumes nothing.
 use native.Mathlib.Omega.{arith}
-use Prim.Native.Nat.{◌-◌}
 use Rattle.elimination.proofs.FitsLaws.{row-end}
 use Rattle.elimination.proofs.SharedUnknownsLaws.{seen_more, shared_more}
 use Rattle.elimination.proofs.singletons.shared_digits.Goals as goal

@@ -1,7 +1,6 @@
 -- `elimination::singletons::shared_unknowns` meets its contract. The invariant: the same of the first i words.
 -- Assumes nothing.
 use native.Mathlib.Omega.{arith}
-use Prim.Native.Nat.{◌-◌}
 use lib.ListN.{length-set}
 use Rattle.elimination.proofs.SharedUnknownsLaws.{masks_more}
 use Rattle.elimination.proofs.singletons.shared_unknowns.Goals as goal

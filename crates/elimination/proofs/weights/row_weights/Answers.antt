@@ -1,7 +1,6 @@
 -- `elimination::weights::row_weights` meets its contract, which says nothing of the weights.
 -- Assumes nothing.
 use native.Mathlib.Omega.{arith}
-use Prim.Native.Nat.{◌-◌}
 use Rattle.elimination.proofs.FitsLaws.{row-end}
 use Rattle.elimination.proofs.weights.row_weights.Goals as goal
 

@@ -1,0 +1,11 @@
+-- `peeling::hints::close` meets its contract.
+-- Assumes nothing.
+use Rattle.std.proofs.Common.{◌≡◌, ◌-◌, ◌/◌, length}
+use Rattle.ccsds.specs.inner.Layout.{max_m}
+use Rattle.peeling.proofs.hints.close.Given as goal
+
+abbrev pub invariant-loop-i : goal.invariant-loop-i
+invariant-loop-i l = (length l.counts ≡ max_m) × (length l.ready ≡ max_m / 64)
+
+abbrev pub decreases-loop-i : goal.decreases-loop-i
+decreases-loop-i l = l.n - l.i

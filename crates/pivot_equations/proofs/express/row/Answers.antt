@@ -1,0 +1,98 @@
+-- `pivot_equations::express::row` meets its contract: after i turns, the expressions of i positions are added.
+-- Assumes nothing.
+use mathlib.Core.Path.{◌≡◌, sym, subst}
+use mathlib.Core.List.{List, ◌++◌}
+use Prim.Native.Nat.{ℕ, ◌+◌, ◌-◌, ◌*◌, ◌≤◌}
+use native.Mathlib.Nat.{mul-le-mul_left, mul-le-mul_right}
+use native.Mathlib.Omega.{arith}
+use lib.ListN.{length, take, drop}
+use Rattle.algebra.proofs.Codeword.{slot}
+use Rattle.pivot_equations.specs.Express.{Reads, Added, kind_but}
+use Rattle.peeling.proofs.CodeSizes.{few-positions}
+use Rattle.pivot_equations.proofs.RowChanges.{reads_same}
+use Rattle.pivot_equations.proofs.RowSums.{Cleared, cleared, reads_all_same, sum-none, sum_more, row_is}
+use Rattle.pivot_equations.proofs.express.row.Goals as goal
+use Rattle.pivot_equations.proofs.express.row.Goals.{After-clear_words, Start}
+
+-- the row lies within the words
+room : (s : Start)
+    → let a = s.args in
+    a.e.row * (a.r.packed + 1) + (a.r.packed + 1) ≤ length a.words.now
+room s =
+    let a = s.args in
+    omega (arith, s.requires.packed_bound.1, slot a.e.row a.s.layout.m (a.r.packed + 1) s.requires.row_lt_m.0)
+
+-- its numbers are small
+small : (s : Start) → let a = s.args in a.e.row * (a.r.packed + 1) + (a.r.packed + 1) ≤ 3072 * 49
+small s =
+    let a = s.args in
+    let m : a.s.layout.m ≤ 3072 = omega (arith, s.requires.table.shaped.given.few) in
+    let p : a.r.packed + 1 ≤ 49 = omega (arith, s.requires.packed_bound.0) in
+    omega (arith, slot a.e.row a.s.layout.m (a.r.packed + 1) s.requires.row_lt_m.0, mul-le-mul_right (a.r.packed + 1) m, mul-le-mul_left 3072 p)
+
+-- and is cleared
+zeroed : (c : After-clear_words)
+    → let a = c.args in
+    let l = a.words.now in
+    let at = a.e.row * (a.r.packed + 1) in
+    let k = at + (a.r.packed + 1) - at in
+    Cleared l (take at l ++ (c.clear_words.new.buf ++ drop k (drop at l))) a.r.packed a.e.row
+zeroed c =
+    let a = c.args in
+    let at = a.e.row * (a.r.packed + 1) in
+    cleared a.words.now c.clear_words.new.buf a.r.packed a.e.row (at + (a.r.packed + 1) - at) (omega arith) (room c.before.before.before.before.before.before) c.clear_words.ensures
+
+-- a position by its number of 16 bits
+module _ (plan : List ℕ) (p : ℕ) {x y : ℕ} (e : x ≡ y) where
+  reads-kind : {words : List ℕ} {packed early rows t : ℕ} → Reads words packed early rows t (kind_but plan p x) → Reads words packed early rows t (kind_but plan p y)
+  reads-kind {words} {packed} {early} {rows} {t} h = subst (λ (k : ℕ). Reads words packed early rows t (kind_but plan p k)) e h
+
+  added-kind : {words words' : List ℕ} {packed early t : ℕ} → Added words words' packed early t (kind_but plan p x) → Added words words' packed early t (kind_but plan p y)
+  added-kind {words} {words'} {packed} {early} {t} h = subst (λ (k : ℕ). Added words words' packed early t (kind_but plan p k)) e h
+
+pub overflow_mul-at : goal.overflow_mul-at
+overflow_mul-at c = omega (arith, small (goal.at.overflow_mul-at c).Start)
+
+pub overflow_add-at : goal.overflow_add-at
+overflow_add-at c = omega (arith, small (goal.at.overflow_add-at c).Start)
+
+pub offset_bounds-words-at : goal.offset_bounds-words-at
+offset_bounds-words-at c = omega (arith, small (goal.at.offset_bounds-words-at c).Start)
+
+pub slice_bounds-clear_words-start : goal.slice_bounds-clear_words-start
+slice_bounds-clear_words-start c = omega (arith, room (goal.at.slice_bounds-clear_words-start c).Start)
+
+pub slice_bounds-clear_words-end : goal.slice_bounds-clear_words-end
+slice_bounds-clear_words-end c = omega (arith, room (goal.at.slice_bounds-clear_words-end c).Start)
+
+pub of_row-n-requires : goal.of_row-n-requires
+of_row-n-requires c = record { table = c.requires.table; j_bound = c.requires.row_lt_m.1.0; xs_len = c.requires.xs_len }
+
+pub loop-i-init : goal.loop-i-init
+loop-i-init c =
+    let z = zeroed (goal.at.loop-i-init c).After-clear_words in
+    (omega arith, (λ k h. (reads_all_same z.only c.requires.reads_all).each _ (c.of_row-n.ensures.below k h), sum-none z))
+
+pub bounds-xs-i : goal.bounds-xs-i
+bounds-xs-i c = omega (arith, c.of_row-n.ensures.few)
+
+pub add_other-requires : goal.add_other-requires
+add_other-requires c =
+    let l = c.loop-i in
+    let e = c.wide.ensures.0 in
+    let x = c.of_row-n.ensures.below l.i (omega arith) in
+    record { packed_bound = (c.requires.packed_bound.0, omega (arith, c.requires.packed_bound.1, (zeroed (goal.at.add_other-requires c).After-clear_words).only.size, l.invariant.1.1.only.size)); t_lt_rows = (c.requires.row_lt_m.0, (omega (arith, e, x, few-positions c.args.s), c.requires.row_lt_m.1.1)); reads = reads-kind c.args.plan.now c.args.e.but (sym e) (reads_same l.invariant.1.1.only (l.invariant.1.0 l.i (omega arith))) }
+
+pub loop-i-preserved : goal.loop-i-preserved
+loop-i-preserved c =
+    let a = c.args in
+    let l = c.loop-i in
+    (omega arith, (l.invariant.1.0, sum_more l.invariant.1.1 (l.invariant.1.0 l.i (omega arith)) (added-kind a.plan.now a.e.but c.wide.ensures.0 c.add_other.ensures)))
+
+pub shape_of-words : goal.shape_of-words
+shape_of-words c = omega (arith, c.loop-i.invariant.1.1.only.size)
+
+pub returns : goal.returns
+returns c =
+    let z = zeroed (goal.at.returns c).After-clear_words in
+    record { xs_len_2 = c.of_row-n.ensures.size; row_is = row_is z.only c.requires.reads_all c.of_row-n.ensures c.loop-i.invariant.1.1 (omega arith) }
