@@ -10,6 +10,7 @@ use native.Mathlib.Decide.{dec_lt}
 use native.Mathlib.Omega.{arith}
 use lib.Dec.{eqb}
 use lib.ListN.{length, get_or, take, drop, length-append, length-drop, get_or-append}
+use Rattle.std.specs.Cmp.Lexicographic.{pointwise, same_text, other_text}
 use lib.Seq.{take-length, length-take-le, get_or-append-add, get_or-take, get_or-drop, ext_get_or}
 use Rattle.algebra.specs.Codeword.{byte_at, symbol_at}
 use Rattle.algebra.proofs.Lists.{and_iff, eqb_iff}
@@ -91,13 +92,13 @@ pub part_is : (s : List ℕ) (a w : ℕ) → take (a + w - a) (drop a s) ≡ tak
 part_is s a w = ap (λ (k : ℕ). take k (drop a s)) (add-sub_cancel_left a w)
 
 -- what a comparison said
-pub same_is : (x y : List ℕ) (r : Bool) → (r ≡ true → x ≡ y) → (x ≡ y → r ≡ true) → same_bytes x y ≡ r
-same_is x y true f g = (same_bytes_lem x y).1 (f refl)
-same_is x y false f g = go (same_bytes x y) refl
+pub same_is : (x y : List ℕ) (r : Bool) → r ≡ pointwise eqb x y → same_bytes x y ≡ r
+same_is x y true e = (same_bytes_lem x y).1 (same_text x y e)
+same_is x y false e = go (same_bytes x y) refl
   where
     go : (t : Bool) → same_bytes x y ≡ t → t ≡ false
-    go true e = absurd (false≢true (g ((same_bytes_lem x y).0 e)))
-    go false e = refl
+    go true d = absurd (other_text x y e ((same_bytes_lem x y).0 d))
+    go false d = refl
 
 -- w bytes put from index a on
 pub stores : (s y x : List ℕ) (a w : ℕ) → length y ≡ w → a + w ≤ length s → x ≡ put s a y 0 w → x ≡ stored s a y

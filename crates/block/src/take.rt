@@ -137,7 +137,7 @@ fn take_symbol(
     let at = position * w;
     match status::of(mark) {
         Status::Heard => {
-            if check::same(&symbols[at..at + w], symbol) {
+            if &symbols[at..at + w] == symbol {
                 return Taken::Repeated;
             }
             Taken::Refused(refusal::CONFLICT)
