@@ -173,7 +173,7 @@ pub fn layout_of(number: usize) -> Layout
             m: Code::C8_M,
             q: 32,
             a: 8,
-            rows: 64,
+            rows: 64, // of table 4-9
             long: 4,
             degree: 7,
             rest: 6,

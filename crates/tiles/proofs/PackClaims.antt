@@ -14,7 +14,7 @@ use Rattle.ccsds.specs.Fill.{wrong_fill}
 use Rattle.ccsds.specs.Refusals.{first_of, encoder_conditions, wrong_code, wrong_width, wrong_length}
 use Rattle.ccsds.proofs.RefusalOrder.{chain, in_order, first_on, first-end}
 use Rattle.ccsds.proofs.Refusals.{length-same}
-use Rattle.tiles.specs.Rows.{room_of, zero_row, joined, narrow, count_of, part_of}
+use Rattle.tiles.specs.Rows.{room_of, zero_row, narrow, count_of, part_of}
 use Rattle.tiles.specs.Pack.{rows_of, rows_needed, total, some_zero, wrong_tiles, tiles_rows, pack_rows, pack_of, pack_refusal}
 use Rattle.tiles.specs.PackClaims.{RowReads, tile_at, first_row, part_in, TileRow, parts_from, PacksAll, NoTiles, NoWrapping}
 use Rattle.tiles.proofs.LengthLaws.{rows_hold, needed_append, needed_next, total-next}

@@ -1,0 +1,31 @@
+-- `closing::states::put_states` meets its contract: after i turns, the first i positions are told by their marks; then the idle ones are.
+-- Assumes nothing.
+use mathlib.Core.Path.{refl, sym, ◌∙◌}
+use mathlib.Core.Bool.{cond}
+use Prim.Native.Nat.{◌-◌}
+use native.Mathlib.Omega.{arith}
+use Rattle.algebra.proofs.Fronts.{filled_none, filled_more}
+use Rattle.closing.specs.Close.{is_known}
+use Rattle.closing.proofs.Idle.{by-status}
+use Rattle.closing.proofs.states.put_states.Goals as goal
+
+pub loop-i-init : goal.loop-i-init
+loop-i-init c = (omega arith, filled_none c.requires.1)
+
+pub loop-i-preserved : goal.loop-i-preserved
+loop-i-preserved c = let l = c.loop-i in (omega arith, filled_more l.invariant.1 (omega arith) c.state.ensures)
+
+pub set_part-requires : goal.set_part-requires
+set_part-requires c = (c.requires.0.fill, omega (arith, c.requires.0.within, c.loop-i.invariant.1.size))
+
+pub shape_of-states : goal.shape_of-states
+shape_of-states c = c.set_part.ensures.size ∙ c.loop-i.invariant.1.size ∙ sym c.requires.1
+
+pub returns : goal.returns
+returns c =
+    let l = c.loop-i in
+    let P = c.set_part.ensures in
+    record {
+      size = P.size ∙ l.invariant.1.size;
+      each = by-status c.requires.0 (λ i x. cond (is_known x) 1 0) 1 (λ i. refl) c.args.marks.now l.invariant.1.size (λ i h. l.invariant.1.each i (omega arith)) P;
+    }
