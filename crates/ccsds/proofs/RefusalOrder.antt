@@ -101,12 +101,9 @@ or_else (suc number) next = suc number
 no_zero : (r : Refusal) → number_of r ≡ 0 → ⊥
 no_zero refusal.code e = omega arith
 no_zero refusal.width e = omega arith
-no_zero refusal.narrow e = omega arith
 no_zero refusal.label e = omega arith
 no_zero refusal.fill e = omega arith
 no_zero refusal.length e = omega arith
-no_zero refusal.tiles e = omega arith
-no_zero refusal.overfull e = omega arith
 no_zero refusal.header e = omega arith
 no_zero refusal.extension e = omega arith
 no_zero refusal.number e = omega arith

@@ -1,10 +1,10 @@
--- Document 01, "Why a call is turned down", with document 02, jobs 2, 3 and 6: the refusals by the table's words, their numbers, and the one order
--- in which their conditions are tried. Other files import it as `refusal`.
+-- Document 01, "Why a call is turned down", with document 02, jobs 2 and 6: the refusals by the table's words, their numbers, and the one order in
+-- which their conditions are tried. Other files import it as `refusal`.
 -- Assumes nothing.
 use Rattle.std.specs.Prelude.{List, [], ◌∷◌, ℕ}
 
 pub data Refusal : Type 0 where
-  code width narrow label fill length tiles overfull header extension number kind parameters foreign position idle symbol mark conflict : Refusal
+  code width label fill length header extension number kind parameters foreign position idle symbol mark conflict : Refusal
 
 abbrev pub number_of : Refusal → ℕ
 number_of code = 1
@@ -21,15 +21,10 @@ number_of mark = 11
 number_of conflict = 12
 number_of fill = 13
 number_of idle = 14
-number_of narrow = 15
-number_of tiles = 16
-number_of overfull = 17
 number_of number = 19
 number_of kind = 20
 
--- The table from the top down. 15 stands after 2, 13 after 3, 16 after 4, 17 after 16, and 14 after 9. 19 and 20 stand beside 6: there the first byte
--- that can't be accepted decides.
+-- The table from the top down. 13 stands after 3, and 14 after 9. 19 and 20 stand beside 6: there the first byte that can't be accepted decides.
 abbrev pub order : List Refusal
 order =
-    code ∷ width ∷ narrow ∷ label ∷ fill ∷ length ∷ tiles ∷ overfull ∷ header ∷ extension ∷ number ∷ kind ∷ parameters ∷ foreign ∷ position ∷ idle
-    ∷ symbol ∷ mark ∷ conflict ∷ []
+    code ∷ width ∷ label ∷ fill ∷ length ∷ header ∷ extension ∷ number ∷ kind ∷ parameters ∷ foreign ∷ position ∷ idle ∷ symbol ∷ mark ∷ conflict ∷ []

@@ -1,4 +1,2 @@
-pub mod Relending
 pub mod Answers
 pub mod Copying
-pub mod Lending

@@ -12,7 +12,7 @@ use Rattle.block.specs.declared.Block.{Block}
 
 -- the library's version: first number × 10000 + second × 100 + third
 abbrev pub version : ℕ
-version = 600
+version = 501
 
 -- a block's record from its five numbers
 unfoldable pub block_of : List ℕ → Block

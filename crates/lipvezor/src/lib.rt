@@ -32,9 +32,9 @@ use unit_reader::{Extension, UnitRead};
 // A block's buffers on board: the information symbols, and the parity symbols that encode makes of them. In C, lipvezor_codeword.
 #[repr(C)]
 #[derive(Drop)]
-pub struct Codeword<'a> {
+pub struct Codeword<'a, 'b> {
     pub information: &'a [u8],
-    pub parity: &'a mut [u8],
+    pub parity: &'b mut [u8],
 }
 
 // What is sent: the same two buffers, once encode has made the parity symbols. In C, lipvezor_codeword too.
@@ -66,7 +66,7 @@ pub struct Work<'a> {
 pub extern "C" fn lipvezor_version() -> usize
     ensures { result ≡ version }
 {
-    600
+    501
 }
 
 // Symbols of a block, and bytes of its marks.
@@ -264,7 +264,7 @@ fn show_in<'a, 'b, 'c>(
         return number;
     }
     let shown = sending::show::show(b.code, b.w, b.fill, info, parity, lwc);
-    bytes::copy(shown, out);
+    out.copy_from_slice(shown);
     0
 }
 
