@@ -5,49 +5,56 @@ pub mod pass;
 
 use block::take::Taken;
 use closing::{Closed, Report, Verdict};
+use std::io;
 
 // Prints take's answer.
-pub fn print_taken(answer: Taken) {
+pub fn print_taken(rt: &impl Print, answer: Taken) -> io::Result<()> {
     match answer {
-        Taken::Kept => report::print(b"kept"),
-        Taken::Repeated => report::print(b"repeated"),
-        Taken::Refused(number) => report::print_refusal(number),
+        Taken::Kept => report::print(rt, b"kept"),
+        Taken::Repeated => report::print(rt, b"repeated"),
+        Taken::Refused(number) => report::print_refusal(rt, number),
     }
 }
 
-fn print_verdict(verdict: Verdict) {
+fn print_verdict(rt: &impl Print, verdict: Verdict) -> io::Result<()> {
     match verdict {
-        Verdict::Whole => report::print(b"whole"),
-        Verdict::Ambiguous => report::print(b"ambiguous"),
-        Verdict::Inconsistent => report::print(b"inconsistent"),
+        Verdict::Whole => report::print(rt, b"whole"),
+        Verdict::Ambiguous => report::print(rt, b"ambiguous"),
+        Verdict::Inconsistent => report::print(rt, b"inconsistent"),
     }
 }
 
 // Prints the verdict and how many positions are heard; with `all`, how many are filled and left too.
-fn print_report(told: Report, all: bool) {
+fn print_report(rt: &impl Print, told: Report, all: bool) -> io::Result<()> {
     let verdict = told.verdict;
-    print_verdict(verdict);
-    report::print_count(b" heard ", told.heard);
+    print_verdict(rt, verdict)?;
+    report::print_count(rt, b" heard ", told.heard)?;
     if all {
-        report::print_count(b" filled ", told.filled);
-        report::print_count(b" left ", told.left);
+        report::print_count(rt, b" filled ", told.filled)?;
+        report::print_count(rt, b" left ", told.left)?;
     }
+    Ok(())
 }
 
 // Prints close's answer: a report with or without all its counts, or the refusal.
-pub fn print_closed(answer: Closed, all: bool) {
+pub fn print_closed(rt: &impl Print, answer: Closed, all: bool) -> io::Result<()> {
     match answer {
-        Closed::Reported(told) => print_report(told, all),
-        Closed::Refused(number) => report::print_refusal(number),
+        Closed::Reported(told) => print_report(rt, told, all),
+        Closed::Refused(number) => report::print_refusal(rt, number),
     }
 }
 
 // Prints whether the symbols are the information, zeros in the places of idle symbols, and the parity.
-pub fn print_compared(symbols: &[u8], info: &[u8], parity: &[u8]) {
+pub fn print_compared(
+    rt: &impl Print,
+    symbols: &[u8],
+    info: &[u8],
+    parity: &[u8],
+) -> io::Result<()> {
     if as_sent(symbols, info, parity) {
-        report::print(b", as sent");
+        report::print(rt, b", as sent")
     } else {
-        report::print(b", not as sent");
+        report::print(rt, b", not as sent")
     }
 }
 
@@ -61,13 +68,13 @@ fn as_sent(symbols: &[u8], info: &[u8], parity: &[u8]) -> bool {
     if sent > k {
         return false;
     }
-    if !check::same(&symbols[0..sent], info) {
+    if &symbols[0..sent] != info {
         return false;
     }
     if !only_zeros(&symbols[sent..k]) {
         return false;
     }
-    check::same(&symbols[k..], parity)
+    &symbols[k..] == parity
 }
 
 fn only_zeros(s: &[u8]) -> bool {

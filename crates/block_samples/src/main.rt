@@ -5,6 +5,7 @@
 use block::Block;
 use block_report::pass;
 use ccsds::code::Code;
+use std::io;
 
 // A block of C1.
 fn c1(fill: usize) -> Block {
@@ -96,42 +97,47 @@ fn hear_all(sample: usize, units: &[u8], symbols: &mut [u8], marks: &mut [u8]) {
 }
 
 // Prints what a sample is.
-fn print_name(sample: usize) {
+fn print_name(rt: &impl Print, sample: usize) -> io::Result<()> {
     match sample {
-        1 => report::print(b"C1, positions 1 to 511 and 767 heard: "),
-        2 => report::print(b"C1, all zero, u_0 and 79 parity symbols missing: "),
-        3 => report::print(b"C1, the same with p_60 missing too: "),
-        4 => report::print(b"C2, nothing heard: "),
-        5 => report::print(b"C2, only LWC 3072 heard, byte 01: "),
-        6 => report::print(b"C1, fill 1, nothing heard: "),
-        7 => report::print(b"C1, fill 100, positions 1 to 99 and 767 heard: "),
-        _ => report::print(b"C1, fill 1, only LWC 513 heard, first byte 01: "),
+        1 => report::print(rt, b"C1, positions 1 to 511 and 767 heard: "),
+        2 => report::print(rt, b"C1, all zero, u_0 and 79 parity symbols missing: "),
+        3 => report::print(rt, b"C1, the same with p_60 missing too: "),
+        4 => report::print(rt, b"C2, nothing heard: "),
+        5 => report::print(rt, b"C2, only LWC 3072 heard, byte 01: "),
+        6 => report::print(rt, b"C1, fill 1, nothing heard: "),
+        7 => report::print(rt, b"C1, fill 100, positions 1 to 99 and 767 heard: "),
+        _ => report::print(rt, b"C1, fill 1, only LWC 513 heard, first byte 01: "),
     }
 }
 
 // Prints whether position p is filled.
-fn print_position(marks: &[u8], p: usize) {
-    report::print_count(b", position ", p);
+fn print_position(rt: &impl Print, marks: &[u8], p: usize) -> io::Result<()> {
+    report::print_count(rt, b", position ", p)?;
     if p >= marks.len() {
-        return;
+        return Ok(());
     }
     if marks[p] != block::status::FILLED {
-        report::print(b" not");
+        report::print(rt, b" not")?;
     }
-    report::print(b" filled");
+    report::print(rt, b" filled")
 }
 
 // Opens the block, hears what the sample hears, closes, and prints.
-fn run(sample: usize, units: &[u8], symbols: &mut [u8], marks: &mut [u8]) {
+fn run(
+    rt: &impl Print,
+    sample: usize,
+    units: &[u8],
+    symbols: &mut [u8],
+    marks: &mut [u8],
+) -> io::Result<()> {
     let b = block_of(sample);
-    print_name(sample);
+    print_name(rt, sample)?;
     if !pass::open(b, symbols, marks) {
-        report::print(b"open refused");
-        return;
+        return report::print(rt, b"open refused");
     }
     hear_all(sample, units, symbols, marks);
-    block_report::print_closed(pass::close(b, symbols, marks), true);
-    print_position(marks, told_position(sample));
+    block_report::print_closed(rt, pass::close(b, symbols, marks), true)?;
+    print_position(rt, marks, told_position(sample))
 }
 
 // Buffers that hold something before they are used.
@@ -140,16 +146,16 @@ fn old_symbols() -> [u8; Code::C2_N] {
 }
 
 // Runs a sample with marks of its code's size.
-fn run_marked(sample: usize, units: &[u8], symbols: &mut [u8]) {
+fn run_marked(rt: &impl Print, sample: usize, units: &[u8], symbols: &mut [u8]) -> io::Result<()> {
     let code = Code {
         number: block_of(sample).code,
     };
     let n = code.n();
     let mut marks = old_symbols();
     if n > Code::C2_N {
-        return;
+        return Ok(());
     }
-    run(sample, units, symbols, &mut marks[0..n]);
+    run(rt, sample, units, symbols, &mut marks[0..n])
 }
 
 fn all_units() -> [u8; UNITS] {
@@ -157,15 +163,21 @@ fn all_units() -> [u8; UNITS] {
 }
 
 // Sends and runs a sample, and prints its line; with `compare`, also whether the block is as sent.
-fn print_line<'a>(sample: usize, info: &'a [u8], parity: &'a [u8], compare: bool) {
+fn print_line<'a>(
+    rt: &impl Print,
+    sample: usize,
+    info: &'a [u8],
+    parity: &'a [u8],
+    compare: bool,
+) -> io::Result<()> {
     let mut units = all_units();
     let mut symbols = old_symbols();
     pass::send_all(block_of(sample), info, parity, &mut units);
-    run_marked(sample, &units, &mut symbols);
+    run_marked(rt, sample, &units, &mut symbols)?;
     if compare {
-        block_report::print_compared(&symbols, info, parity);
+        block_report::print_compared(rt, &symbols, info, parity)?;
     }
-    report::print(b"\n");
+    report::print(rt, b"\n")
 }
 
 fn information() -> [u8; Code::C2_K] {
@@ -184,50 +196,50 @@ fn information_bytes(sample: usize) -> usize {
 }
 
 // The information is a pattern.
-fn pattern_sample(sample: usize) {
+fn pattern_sample(rt: &impl Print, sample: usize) -> io::Result<()> {
     let b = block_of(sample);
     let n = information_bytes(sample);
     let mut info = information();
     let mut parity = parity_symbols();
     report::fill(&mut info, 1);
     if n > info.len() {
-        return;
+        return Ok(());
     }
     encoder::encode::encode(b.code, b.w, b.fill, &info[0..n], &mut parity);
-    print_line(sample, &info[0..n], &parity, true);
+    print_line(rt, sample, &info[0..n], &parity, true)
 }
 
 // All is zero but the parity's byte `at`, which is `value`.
-fn zero_sample(sample: usize, at: usize, value: u8) {
+fn zero_sample(rt: &impl Print, sample: usize, at: usize, value: u8) -> io::Result<()> {
     let n = information_bytes(sample);
     let info = information();
     let mut parity = parity_symbols();
     if n > info.len() {
-        return;
+        return Ok(());
     }
     if at >= Code::C2_M {
-        return;
+        return Ok(());
     }
     parity[at] = value;
-    print_line(sample, &info[0..n], &parity, false);
+    print_line(rt, sample, &info[0..n], &parity, false)
 }
 
 // The samples of document 01.
-fn full_blocks() {
-    pattern_sample(1);
-    zero_sample(2, 0, 0);
-    zero_sample(3, 0, 0);
-    zero_sample(4, 0, 0);
-    zero_sample(5, Code::C2_M - 1, 1);
+fn full_blocks(rt: &impl Print) -> io::Result<()> {
+    pattern_sample(rt, 1)?;
+    zero_sample(rt, 2, 0, 0)?;
+    zero_sample(rt, 3, 0, 0)?;
+    zero_sample(rt, 4, 0, 0)?;
+    zero_sample(rt, 5, Code::C2_M - 1, 1)
 }
 
-fn short_blocks() {
-    zero_sample(6, 0, 0);
-    pattern_sample(7);
-    zero_sample(8, 0, 1);
+fn short_blocks(rt: &impl Print) -> io::Result<()> {
+    zero_sample(rt, 6, 0, 0)?;
+    pattern_sample(rt, 7)?;
+    zero_sample(rt, 8, 0, 1)
 }
 
-fn main() {
-    full_blocks();
-    short_blocks();
+fn main(rt: HostRuntime) -> io::Result<()> {
+    full_blocks(&rt)?;
+    short_blocks(&rt)
 }

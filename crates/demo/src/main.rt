@@ -9,7 +9,8 @@ use block::Block;
 use block_report::pass;
 use ccsds::code::Code;
 use encoder::encode::Encoded;
-use libc::STDIN_FILENO;
+use std::io;
+use std::io::Read;
 
 // Bytes of a symbol, and of a unit.
 const WIDTH: usize = 16;
@@ -25,23 +26,29 @@ const SYMBOLS: usize = Code::C1_N * WIDTH;
 const UNITS: usize = Code::C1_N * UNIT;
 
 // Encodes the block, and prints its information and its parity.
-fn encode(b: Block, info: &[u8], parity: &mut [u8]) {
-    report::print(b"information");
-    report::print_buffer(info, 8);
+fn encode(rt: &impl Print, b: Block, info: &[u8], parity: &mut [u8]) -> io::Result<()> {
+    report::print(rt, b"information")?;
+    report::print_buffer(rt, info, 8)?;
     let answer = encoder::encode::encode(b.code, b.w, b.fill, info, parity);
     match answer {
-        Encoded::Done => report::print(b"parity"),
-        Encoded::Refused(number) => report::print_refusal(number),
+        Encoded::Done => report::print(rt, b"parity")?,
+        Encoded::Refused(number) => report::print_refusal(rt, number)?,
     }
-    report::print_buffer(parity, 8);
+    report::print_buffer(rt, parity, 8)
 }
 
 // Writes the units, and prints how many.
-fn send<'a>(b: Block, info: &'a [u8], parity: &'a [u8], units: &mut [u8]) {
+fn send<'a>(
+    rt: &impl Print,
+    b: Block,
+    info: &'a [u8],
+    parity: &'a [u8],
+    units: &mut [u8],
+) -> io::Result<()> {
     let written = pass::send_all(b, info, parity, units);
-    report::print(b"units");
-    report::print_buffer(units, 8);
-    report::print_count(b"units written ", written);
+    report::print(rt, b"units")?;
+    report::print_buffer(rt, units, 8)?;
+    report::print_count(rt, b"units written ", written)
 }
 
 // Whether the unit of position p is lost: 3 of 10 are.
@@ -114,17 +121,16 @@ fn block_marks() -> [u8; Code::C1_N] {
 }
 
 // Opens the block, takes what arrives, closes, and prints.
-fn gather(b: Block, units: &[u8], symbols: &mut [u8]) {
+fn gather(rt: &impl Print, b: Block, units: &[u8], symbols: &mut [u8]) -> io::Result<()> {
     let mut marks = block_marks();
     if !pass::open(b, symbols, &mut marks) {
-        report::print(b"open refused\n");
-        return;
+        return report::print(rt, b"open refused\n");
     }
-    report::print_count(b", lost ", count_lost(b));
+    report::print_count(rt, b", lost ", count_lost(b))?;
     let kept = receive_all(b, units, symbols, &mut marks);
-    report::print_count(b", kept ", kept);
-    report::print(b"\nclosed: ");
-    block_report::print_closed(pass::close(b, symbols, &mut marks), true);
+    report::print_count(rt, b", kept ", kept)?;
+    report::print(rt, b"\nclosed: ")?;
+    block_report::print_closed(rt, pass::close(b, symbols, &mut marks), true)
 }
 
 fn all_units() -> [u8; UNITS] {
@@ -136,13 +142,13 @@ fn symbol_bytes() -> [u8; SYMBOLS] {
 }
 
 // Sends the block, gathers it, and compares.
-fn transmit<'a>(b: Block, info: &'a [u8], parity: &'a [u8]) {
+fn transmit<'a>(rt: &impl Print, b: Block, info: &'a [u8], parity: &'a [u8]) -> io::Result<()> {
     let mut units = all_units();
     let mut symbols = symbol_bytes();
-    send(b, info, parity, &mut units);
-    gather(b, &units, &mut symbols);
-    block_report::print_compared(&symbols, info, parity);
-    report::print(b"\n");
+    send(rt, b, info, parity, &mut units)?;
+    gather(rt, b, &units, &mut symbols)?;
+    block_report::print_compared(rt, &symbols, info, parity)?;
+    report::print(rt, b"\n")
 }
 
 fn information() -> [u8; INFORMATION] {
@@ -154,15 +160,15 @@ fn parity_symbols() -> [u8; PARITY] {
 }
 
 // Encodes and transmits the block. The information stands at the start of the buffer.
-fn run(b: Block, buffer: &[u8]) {
+fn run(rt: &impl Print, b: Block, buffer: &[u8]) -> io::Result<()> {
     let code = Code { number: b.code };
     let n = code.information_bytes(b.w, b.fill);
     let mut parity = parity_symbols();
     if n > buffer.len() {
-        return;
+        return Ok(());
     }
-    encode(b, &buffer[0..n], &mut parity);
-    transmit(b, &buffer[0..n], &parity);
+    encode(rt, b, &buffer[0..n], &mut parity)?;
+    transmit(rt, b, &buffer[0..n], &parity)
 }
 
 // The symbols that n bytes take: the last one may end with zeros.
@@ -174,18 +180,19 @@ fn symbols_of(n: usize) -> usize {
 }
 
 // Runs the next block: false where the input ends with it or before it.
-fn next(lsc: usize) -> bool {
+fn next(rt: &impl Print, input: &mut impl Read, lsc: usize) -> io::Result<bool> {
     let mut buffer = information();
-    let n = io::read_full(STDIN_FILENO, &mut buffer);
+    let n = report::read_full(input, &mut buffer)?;
     if n == 0 {
-        return false;
+        return Ok(false);
     }
     let fill = symbols_of(n);
-    report::print_count(b"block ", lsc);
-    report::print_count(b": bytes ", n);
-    report::print_count(b", fill ", fill);
-    report::print(b"\n");
+    report::print_count(rt, b"block ", lsc)?;
+    report::print_count(rt, b": bytes ", n)?;
+    report::print_count(rt, b", fill ", fill)?;
+    report::print(rt, b"\n")?;
     run(
+        rt,
         Block {
             code: 1,
             w: WIDTH,
@@ -194,20 +201,22 @@ fn next(lsc: usize) -> bool {
             fill: fill,
         },
         &buffer,
-    );
-    n == INFORMATION
+    )?;
+    Ok(n == INFORMATION)
 }
 
 // Above the last block's number: what comes after that block is not sent.
 const LSC_END: usize = 65535;
 
-fn main() {
+fn main(rt: HostRuntime) -> io::Result<()> {
+    let mut input = rt.stdin();
     let mut lsc = 7;
     while lsc < LSC_END {
-        if next(lsc) {
+        if next(&rt, &mut input, lsc)? {
             lsc += 1;
         } else {
             lsc = LSC_END;
         }
     }
+    Ok(())
 }

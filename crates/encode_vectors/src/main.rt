@@ -4,56 +4,84 @@
 
 use ccsds::code::Code;
 use encoder::encode::Encoded;
+use std::io;
 
 // Encodes a pattern, and prints a line. The parity buffer holds another pattern before.
-fn encode(code: usize, w: usize, fill: usize, info: &mut [u8], parity: &mut [u8]) {
+fn encode(
+    rt: &impl Print,
+    code: usize,
+    w: usize,
+    fill: usize,
+    info: &mut [u8],
+    parity: &mut [u8],
+) -> io::Result<()> {
     report::fill(info, 1);
     report::fill(parity, 2);
     let answer = encoder::encode::encode(code, w, fill, info, parity);
-    report::print_count(b"C", code);
-    report::print_count(b" W ", w);
-    report::print_count(b" fill ", fill);
+    report::print_count(rt, b"C", code)?;
+    report::print_count(rt, b" W ", w)?;
+    report::print_count(rt, b" fill ", fill)?;
     match answer {
-        Encoded::Done => report::print(b" parity"),
+        Encoded::Done => report::print(rt, b" parity")?,
         Encoded::Refused(number) => {
-            report::print(b" ");
-            report::print_refusal(number);
+            report::print(rt, b" ")?;
+            report::print_refusal(rt, number)?;
         }
     }
-    report::print_buffer(parity, 8);
+    report::print_buffer(rt, parity, 8)
 }
 
 // The same with the parts of the buffers that code, width and fill ask for.
-fn run(number: usize, w: usize, fill: usize, info: &mut [u8], parity: &mut [u8]) {
+fn run(
+    rt: &impl Print,
+    number: usize,
+    w: usize,
+    fill: usize,
+    info: &mut [u8],
+    parity: &mut [u8],
+) -> io::Result<()> {
     let code = Code { number };
     let n = code.information_bytes(w, fill);
     let m = code.parity_bytes(w);
     if n > info.len() {
-        return;
+        return Ok(());
     }
     if m > parity.len() {
-        return;
+        return Ok(());
     }
-    encode(number, w, fill, &mut info[0..n], &mut parity[0..m]);
+    encode(rt, number, w, fill, &mut info[0..n], &mut parity[0..m])
 }
 
 // A full block.
-fn full(number: usize, w: usize, info: &mut [u8], parity: &mut [u8]) {
+fn full(
+    rt: &impl Print,
+    number: usize,
+    w: usize,
+    info: &mut [u8],
+    parity: &mut [u8],
+) -> io::Result<()> {
     let code = Code { number };
-    run(number, w, code.k(), info, parity);
+    run(rt, number, w, code.k(), info, parity)
 }
 
 // One width for the two codes of one rate.
-fn both(small: usize, large: usize, w: usize, info: &mut [u8], parity: &mut [u8]) {
-    full(small, w, info, parity);
-    full(large, w, info, parity);
+fn both(
+    rt: &impl Print,
+    small: usize,
+    large: usize,
+    w: usize,
+    info: &mut [u8],
+    parity: &mut [u8],
+) -> io::Result<()> {
+    full(rt, small, w, info, parity)?;
+    full(rt, large, w, info, parity)
 }
 
 // One width for all codes.
-fn all(w: usize, info: &mut [u8], parity: &mut [u8]) {
-    both(1, 2, w, info, parity);
-    both(4, 5, w, info, parity);
-    both(7, 8, w, info, parity);
+fn all(rt: &impl Print, w: usize, info: &mut [u8], parity: &mut [u8]) -> io::Result<()> {
+    both(rt, 1, 2, w, info, parity)?;
+    both(rt, 4, 5, w, info, parity)?;
+    both(rt, 7, 8, w, info, parity)
 }
 
 // The fills of a code's short blocks: at their borders, in and about a table row, and past half of all. The first tests fail for every
@@ -84,25 +112,39 @@ fn fill_of(number: usize, i: usize) -> usize {
 }
 
 // Short blocks of a code.
-fn short(number: usize, w: usize, info: &mut [u8], parity: &mut [u8]) {
+fn short(
+    rt: &impl Print,
+    number: usize,
+    w: usize,
+    info: &mut [u8],
+    parity: &mut [u8],
+) -> io::Result<()> {
     let mut i = 0;
     while i < 8 {
-        run(number, w, fill_of(number, i), info, parity);
+        run(rt, number, w, fill_of(number, i), info, parity)?;
         i += 1;
     }
+    Ok(())
 }
 
 // Short blocks of the two codes of one rate.
-fn both_short(small: usize, large: usize, w: usize, info: &mut [u8], parity: &mut [u8]) {
-    short(small, w, info, parity);
-    short(large, w, info, parity);
+fn both_short(
+    rt: &impl Print,
+    small: usize,
+    large: usize,
+    w: usize,
+    info: &mut [u8],
+    parity: &mut [u8],
+) -> io::Result<()> {
+    short(rt, small, w, info, parity)?;
+    short(rt, large, w, info, parity)
 }
 
 // Short blocks of all codes.
-fn all_short(w: usize, info: &mut [u8], parity: &mut [u8]) {
-    both_short(1, 2, w, info, parity);
-    both_short(4, 5, w, info, parity);
-    both_short(7, 8, w, info, parity);
+fn all_short(rt: &impl Print, w: usize, info: &mut [u8], parity: &mut [u8]) -> io::Result<()> {
+    both_short(rt, 1, 2, w, info, parity)?;
+    both_short(rt, 4, 5, w, info, parity)?;
+    both_short(rt, 7, 8, w, info, parity)
 }
 
 const INFORMATION: usize = Code::C2_K * Code::MAX_WIDTH;
@@ -119,25 +161,25 @@ fn parity_symbols() -> [u8; PARITY] {
 }
 
 // Numbers that are no code's.
-fn no_codes(info: &mut [u8], parity: &mut [u8]) {
-    run(0, 1, Code::C1_K, info, parity);
-    run(3, 1, Code::C1_K, info, parity);
-    run(6, 1, Code::C1_K, info, parity);
-    run(9, 1, Code::C1_K, info, parity);
+fn no_codes(rt: &impl Print, info: &mut [u8], parity: &mut [u8]) -> io::Result<()> {
+    run(rt, 0, 1, Code::C1_K, info, parity)?;
+    run(rt, 3, 1, Code::C1_K, info, parity)?;
+    run(rt, 6, 1, Code::C1_K, info, parity)?;
+    run(rt, 9, 1, Code::C1_K, info, parity)
 }
 
-fn main() {
+fn main(rt: HostRuntime) -> io::Result<()> {
     let mut info = information();
     let mut parity = parity_symbols();
-    all(1, &mut info, &mut parity);
-    all(2, &mut info, &mut parity);
-    all(3, &mut info, &mut parity);
-    all(16, &mut info, &mut parity);
-    all(333, &mut info, &mut parity);
-    all(1023, &mut info, &mut parity);
-    all(1024, &mut info, &mut parity);
-    all(1025, &mut info, &mut parity);
-    no_codes(&mut info, &mut parity);
-    all_short(5, &mut info, &mut parity);
-    all_short(100, &mut info, &mut parity);
+    all(&rt, 1, &mut info, &mut parity)?;
+    all(&rt, 2, &mut info, &mut parity)?;
+    all(&rt, 3, &mut info, &mut parity)?;
+    all(&rt, 16, &mut info, &mut parity)?;
+    all(&rt, 333, &mut info, &mut parity)?;
+    all(&rt, 1023, &mut info, &mut parity)?;
+    all(&rt, 1024, &mut info, &mut parity)?;
+    all(&rt, 1025, &mut info, &mut parity)?;
+    no_codes(&rt, &mut info, &mut parity)?;
+    all_short(&rt, 5, &mut info, &mut parity)?;
+    all_short(&rt, 100, &mut info, &mut parity)
 }

@@ -1,9 +1,10 @@
-// What the programs share: a pattern for buffers, and how numbers and buffers are printed.
+// What the programs share: a pattern for buffers, how input is read, and how numbers and buffers are printed.
 #![tactic(auto)]
 
-ghost use Rattle.std.specs.Prelude.{◌<◌};
+ghost use Rattle.std.specs.Prelude.{◌<◌, ◌≤◌, length, IfOk};
 
-use libc::STDOUT_FILENO;
+use std::io;
+use std::io::Read;
 
 fn wide(x: u8) -> u64
     ensures { result < 256 }
@@ -33,38 +34,54 @@ fn checksum(s: &[u8]) -> u64 {
     d
 }
 
+// Reads until the buffer is full or the input ends. Answers how many bytes stand at the buffer's start.
+pub fn read_full(input: &mut impl Read, p: &mut [u8]) -> io::Result<usize>
+    ensures { IfOk result (λ n. n ≤ length p.new) }
+{
+    let mut done = 0;
+    while done < p.len() {
+        let n = input.read(&mut p[done..])?;
+        if n == 0 {
+            return Ok(done);
+        }
+        done += n;
+    }
+    Ok(done)
+}
+
 // Prints text.
-pub fn print(text: &[u8]) {
-    io::write_all(STDOUT_FILENO, text);
+pub fn print(rt: &impl Print, text: &[u8]) -> io::Result<()> {
+    rt.write_all(text)
 }
 
 // Prints a number after its name.
-pub fn print_count(name: &[u8], n: usize) {
-    print(name);
-    io::print_decimal(STDOUT_FILENO, n as u64);
+pub fn print_count(rt: &impl Print, name: &[u8], n: usize) -> io::Result<()> {
+    print(rt, name)?;
+    print!(rt; "{n}")
 }
 
 // Prints the number of a refusal.
-pub fn print_refusal(number: u8) {
-    print_count(b"refused ", number as usize);
+pub fn print_refusal(rt: &impl Print, number: u8) -> io::Result<()> {
+    print_count(rt, b"refused ", number as usize)
 }
 
 // Prints at most n bytes of s as pairs of hexadecimal digits, each after a space.
-fn print_bytes(s: &[u8], n: usize) {
+fn print_bytes(rt: &impl Print, s: &[u8], n: usize) -> io::Result<()> {
     let mut i = 0;
     while i < s.len() {
         if i >= n {
-            return;
+            return Ok(());
         }
-        print(b" ");
-        io::print_hex(STDOUT_FILENO, wide(s[i]), 2);
+        print(rt, b" ")?;
+        print!(rt; "{:02x}", s[i])?;
         i += 1;
     }
+    Ok(())
 }
 
 // Prints the first n bytes of s and the checksum of all, to the end of the line.
-pub fn print_buffer(s: &[u8], n: usize) {
-    print_bytes(s, n);
-    print_count(b" checksum ", checksum(s) as usize);
-    print(b"\n");
+pub fn print_buffer(rt: &impl Print, s: &[u8], n: usize) -> io::Result<()> {
+    print_bytes(rt, s, n)?;
+    print_count(rt, b" checksum ", checksum(s) as usize)?;
+    print(rt, b"\n")
 }

@@ -3,8 +3,9 @@
 #![tactic(auto)]
 
 use ccsds::code::Code;
-use libc::STDIN_FILENO;
 use sending::writer::Written;
+use std::io;
+use std::io::Read;
 use unit_reader::{Extension, UnitRead};
 use wire::big_endian;
 
@@ -32,68 +33,68 @@ fn four_bytes(a: u8, b: u8, c: u8, d: u8) -> usize {
 }
 
 // The next number from standard input; 0 where the input has ended.
-fn number() -> usize {
+fn number(input: &mut impl Read) -> io::Result<usize> {
     let mut b = [0u8; 4];
-    io::read_full(STDIN_FILENO, &mut b);
-    four_bytes(b[0], b[1], b[2], b[3])
+    report::read_full(input, &mut b)?;
+    Ok(four_bytes(b[0], b[1], b[2], b[3]))
 }
 
 // The numbers of the next vector.
-fn next() -> Vector {
-    Vector {
-        kind: number(),
-        code: number(),
-        w: number(),
-        protocol: number(),
-        lsc: number(),
-        fill: number(),
-        lwc: number(),
-        outs: number(),
-        len: number(),
-    }
+fn next(input: &mut impl Read) -> io::Result<Vector> {
+    Ok(Vector {
+        kind: number(input)?,
+        code: number(input)?,
+        w: number(input)?,
+        protocol: number(input)?,
+        lsc: number(input)?,
+        fill: number(input)?,
+        lwc: number(input)?,
+        outs: number(input)?,
+        len: number(input)?,
+    })
 }
 
-fn print_coding(x: Extension) {
+fn print_coding(rt: &impl Print, x: Extension) -> io::Result<()> {
     match x {
-        Extension::PassedOver => report::print(b" no type 1"),
+        Extension::PassedOver => report::print(rt, b" no type 1"),
         Extension::Coding(p) => {
-            report::print_count(b" W ", p.w);
-            report::print_count(b" k ", p.k);
-            report::print_count(b" n ", p.n);
-            report::print_count(b" seed ", p.seed);
+            report::print_count(rt, b" W ", p.w)?;
+            report::print_count(rt, b" k ", p.k)?;
+            report::print_count(rt, b" n ", p.n)?;
+            report::print_count(rt, b" seed ", p.seed)
         }
     }
 }
 
 // Reads a unit.
-fn read(u: &[u8]) {
+fn read(rt: &impl Print, u: &[u8]) -> io::Result<()> {
     match unit_reader::read_unit(u) {
-        UnitRead::Refused(r) => report::print_count(b"read: refused ", r as usize),
+        UnitRead::Refused(r) => report::print_count(rt, b"read: refused ", r as usize)?,
         UnitRead::Read(p) => {
-            report::print_count(b"read: protocol ", p.protocol);
-            report::print_count(b" count ", p.count);
-            report::print_count(b" LWC ", p.lwc);
-            report::print_count(b" LSC ", p.lsc);
+            report::print_count(rt, b"read: protocol ", p.protocol)?;
+            report::print_count(rt, b" count ", p.count)?;
+            report::print_count(rt, b" LWC ", p.lwc)?;
+            report::print_count(rt, b" LSC ", p.lsc)?;
             let coding = p.coding;
-            print_coding(coding);
-            report::print_count(b" symbol at ", p.symbol);
+            print_coding(rt, coding)?;
+            report::print_count(rt, b" symbol at ", p.symbol)?;
         }
     }
-    report::print(b"\n");
+    report::print(rt, b"\n")
 }
 
 // Writes a unit, and reads it.
-fn write(v: Vector, symbol: &[u8], out: &mut [u8]) {
+fn write(rt: &impl Print, v: Vector, symbol: &[u8], out: &mut [u8]) -> io::Result<()> {
     let answer = sending::writer::write(v.code, v.w, v.protocol, v.lsc, v.fill, v.lwc, symbol, out);
     match answer {
         Written::Refused(r) => {
-            report::print_count(b"write: refused ", r as usize);
-            report::print_buffer(out, SHOWN);
+            report::print_count(rt, b"write: refused ", r as usize)?;
+            report::print_buffer(rt, out, SHOWN)
         }
         Written::Done => {
-            report::print(b"write:");
-            report::print_buffer(out, SHOWN);
-            read(out);
+            report::print(rt, b"write:")?;
+            report::print_buffer(rt, out, SHOWN)?;
+            read(rt, out)
         }
     }
 }
@@ -104,81 +105,96 @@ fn output() -> [u8; OUTPUT] {
 }
 
 // The same into an output of v's size.
-fn write_new(v: Vector, symbol: &[u8]) {
+fn write_new(rt: &impl Print, v: Vector, symbol: &[u8]) -> io::Result<()> {
     let mut out = output();
     let n = v.outs;
     if n > OUTPUT {
-        return;
+        return Ok(());
     }
-    write(v, symbol, &mut out[0..n]);
+    write(rt, v, symbol, &mut out[0..n])
 }
 
 // Shows a symbol.
-fn show<'a>(v: Vector, info: &'a [u8], parity: &'a [u8]) {
+fn show<'a>(rt: &impl Print, v: Vector, info: &'a [u8], parity: &'a [u8]) -> io::Result<()> {
     let symbol = sending::show::show(v.code, v.w, v.fill, info, parity, v.lwc);
-    report::print_count(b"show: ", symbol.len());
-    report::print_buffer(symbol, SHOWN);
+    report::print_count(rt, b"show: ", symbol.len())?;
+    report::print_buffer(rt, symbol, SHOWN)
 }
 
 // The length of a unit.
-fn size(v: Vector) {
+fn size(rt: &impl Print, v: Vector) -> io::Result<()> {
     let code = Code { number: v.code };
-    report::print_count(b"unit bytes: ", code.unit_bytes(v.w));
-    report::print(b"\n");
+    report::print_count(rt, b"unit bytes: ", code.unit_bytes(v.w))?;
+    report::print(rt, b"\n")
 }
 
 // Shows a symbol of the vector's bytes: the first `outs` are the information, and the others the parity.
-fn show_parts(v: Vector, body: &[u8]) {
+fn show_parts(rt: &impl Print, v: Vector, body: &[u8]) -> io::Result<()> {
     let at = v.outs;
     if at <= body.len() {
-        show(v, &body[0..at], &body[at..]);
+        show(rt, v, &body[0..at], &body[at..])?;
     }
+    Ok(())
 }
 
 // Runs one vector.
-fn run(v: Vector, body: &[u8]) {
+fn run(rt: &impl Print, v: Vector, body: &[u8]) -> io::Result<()> {
     let kind = v.kind;
     match kind {
-        1 => read(body),
-        2 => write_new(v, body),
-        3 => show_parts(v, body),
-        _ => size(v),
+        1 => read(rt, body),
+        2 => write_new(rt, v, body),
+        3 => show_parts(rt, v, body),
+        _ => size(rt, v),
     }
 }
 
 // Reads the vector's bytes, and runs it; false where the buffer is too short.
-fn run_read(v: Vector, buffer: &mut [u8]) -> bool {
+fn run_read(
+    rt: &impl Print,
+    input: &mut impl Read,
+    v: Vector,
+    buffer: &mut [u8],
+) -> io::Result<bool> {
     let n = v.len;
     if n > buffer.len() {
-        return false;
+        return Ok(false);
     }
-    io::read_full(STDIN_FILENO, &mut buffer[0..n]);
-    run(v, &buffer[0..n]);
-    true
+    report::read_full(input, &mut buffer[0..n])?;
+    run(rt, v, &buffer[0..n])?;
+    Ok(true)
 }
 
 // The next vector from standard input; false where there is none.
-fn turn(buffer: &mut [u8]) -> bool {
-    let v = next();
+fn turn(rt: &impl Print, input: &mut impl Read, buffer: &mut [u8]) -> io::Result<bool> {
+    let v = next(input)?;
     if v.kind == 0 {
-        return false;
+        return Ok(false);
     }
-    run_read(v, buffer)
+    run_read(rt, input, v, buffer)
 }
 
 // Every vector.
-fn all(buffer: &mut [u8]) {
+fn all(rt: &impl Print, input: &mut impl Read, buffer: &mut [u8]) -> io::Result<()> {
     let mut left: usize = 100000;
     while left > 0 {
-        if turn(buffer) {
+        if turn(rt, input, buffer)? {
             left -= 1;
         } else {
             left = 0;
         }
     }
+    Ok(())
 }
 
-fn main() {
-    let mut buffer = io::buffer();
-    all(&mut buffer);
+// The bytes of the longest vector.
+const VECTOR: usize = 4096;
+
+fn vector_bytes() -> [u8; VECTOR] {
+    [0; VECTOR]
+}
+
+fn main(rt: HostRuntime) -> io::Result<()> {
+    let mut input = rt.stdin();
+    let mut buffer = vector_bytes();
+    all(&rt, &mut input, &mut buffer)
 }
