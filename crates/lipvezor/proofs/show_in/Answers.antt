@@ -7,7 +7,7 @@ use Rattle.sending.specs.Show.{Slice}
 use Rattle.ccsds.proofs.Refusals.{kept_by, changed_by}
 use Rattle.lipvezor.specs.Sending.{copy_refusal}
 use Rattle.lipvezor.proofs.Answers.{number_by}
-use Rattle.lipvezor.proofs.Copying.{copyable, shown_length, copied}
+use Rattle.lipvezor.proofs.Copying.{copyable, shown_length}
 use Rattle.lipvezor.proofs.show_in.Goals as goal
 use Rattle.lipvezor.proofs.show_in.Goals.{After-show-shown, Else-number-ne0}
 
