@@ -1,6 +1,6 @@
 # `make help` prints the targets with what stands after ## here.
-.PHONY: help demo test format clippy test-c test-rust test-dist archive soak bench bench-peers curves dist install uninstall clean FORCE
-# rt keeps its work in target/: no two at a time. What a failed command wrote does not count as built.
+.PHONY: help demo test test-code format clippy test-c test-rust test-dist archive soak bench bench-peers curves dist install uninstall clean FORCE
+# rt keeps its work in crates/*/out, and proves on all processors: no two at a time. What a failed command wrote does not count as built.
 .NOTPARALLEL:
 .DELETE_ON_ERROR:
 
@@ -15,6 +15,7 @@ SECONDS = 3600
 SEED =
 
 archive = target/staticlib/liblipvezor.a
+mir = target/mir/lipvezor.json
 # LIPVEZOR_LIB_DIR may name a folder with an archive, for what neither tests nor packs; cargo gets absolute paths
 given = $(if $(LIPVEZOR_LIB_DIR),$(abspath $(LIPVEZOR_LIB_DIR))/liblipvezor.a,$(archive))
 cargo_given = $(foreach name,LIPVEZOR_LIB_DIR LIPVEZOR_EARLIER,$(if $($(name)),$(name)=$(abspath $($(name))) ))$(CARGO)
@@ -31,9 +32,11 @@ help: ## this list
 demo: target/bin/demo ## a sample pass: encode, write units, lose some, take the rest, close, compare
 	@target/bin/demo <crates/demo/stdin
 
-# rt ci comes last: it removes target/, and its last line is the verdict
-test: need-test format clippy test-c test-dist test-rust ## all that decides whether a change may land: half an hour; the last line says it
-	rt ci
+# rt ci comes last: its last line is the verdict
+test: test-code ## all that decides whether a change may land; the last line says it
+	tools/ci
+
+test-code: need-test format clippy test-c test-dist test-rust ## all of make test but rt ci: the proofs that the library and gather need, and no must-fail edit
 
 format: need-format ## is the Rust code in cargo fmt's layout?
 	$(CARGO) fmt --check --manifest-path rust/Cargo.toml
@@ -71,7 +74,7 @@ test-c: need-test-c $(archive) ## C examples, plainly and under valgrind; the he
 test-dist: need-test-dist $(archive) ## the tar of make dist, unpacked, installed and used from C and Rust elsewhere
 	tests/dist/run
 
-test-rust: need-test-rust $(archive) target/bin/gather ## Rust tests
+test-rust: need-test-rust $(archive) $(mir) target/bin/gather ## Rust tests
 	$(cargo_test)
 	$(cargo_test) --lib --no-default-features
 	$(cargo_test) --lib --no-default-features --features alloc
@@ -79,7 +82,7 @@ test-rust: need-test-rust $(archive) target/bin/gather ## Rust tests
 archive: $(archive) ## the proved library for C and Rust, target/staticlib/liblipvezor.a: minutes at first, then only after a change
 	@echo "$(archive), proved by $$(cat $(archive).kit)"
 
-soak: need-soak $(archive) target/bin/gather ## Rust tests for SECONDS (3600) with a new seed; SEED=... runs an earlier one again
+soak: need-soak $(archive) $(mir) target/bin/gather ## Rust tests for SECONDS (3600) with a new seed; SEED=... runs an earlier one again
 	@seed=$(SEED); seed=$${seed:-$$(od -An -N8 -tu8 /dev/urandom | tr -d ' ')}; echo "soak: SECONDS=$(SECONDS) SEED=$$seed"; \
 	LIPVEZOR_SECONDS=$(SECONDS) LIPVEZOR_SEED=$$seed $(cargo_test)
 
@@ -103,8 +106,8 @@ install: need-prefix $(archive) ## library, header and pkg-config file to PREFIX
 uninstall: ## removes what install put there
 	@$(MAKE) --no-print-directory -f tools/packed/Makefile uninstall
 
-clean: ## removes all that was built: target/, rust/target/, dist/
-	rm -rf target rust/target dist
+clean: ## removes all that was built or proved: target/, rust/target/, dist/, crates/*/out/
+	rm -rf target rust/target dist crates/*/out
 
 # What the targets need besides make and rt: said in one line before anything is done. Who needs rt is told when there is something to prove.
 need_format = $(firstword $(CARGO)) rustfmt
@@ -144,16 +147,20 @@ crates = $(shell tools/crates $(1))
 begin = @tools/need 'make $(firstword $(MAKECMDGOALS))' rt && mkdir -p target && touch target/began
 end = @touch -r target/began $@ && rt version >$@.kit
 
-# rt check proves side by side what rt staticlib would prove one by one
 $(archive): $(call sources,lipvezor,$(archive))
 	$(begin)
-	@tools/quietly archive $(words $(call crates,lipvezor)) \
-	    sh -c 'rt check $(filter-out lipvezor,$(call crates,lipvezor)) && rt staticlib lipvezor'
+	@tools/quietly archive $(words $(call crates,lipvezor)) tools/prove lipvezor $@
+	$(end)
+
+# what is proved and compiled, as a Rust test reads it
+$(mir): $(archive)
+	$(begin)
+	@tools/quietly mir $(words $(call crates,lipvezor)) tools/mir lipvezor $(@D)
 	$(end)
 
 target/bin/demo: $(call sources,demo,target/bin/demo)
 target/bin/gather: $(call sources,gather,target/bin/gather)
 target/bin/demo target/bin/gather:
 	$(begin)
-	@tools/quietly $(@F) $(words $(call crates,$(@F))) rt check $(@F)
+	@tools/quietly $(@F) $(words $(call crates,$(@F))) tools/prove $(@F) $@
 	$(end)

@@ -16,7 +16,7 @@ use std::thread;
 
 fn run(input: &[u8]) -> Vec<u8> {
     let program = Path::new(env!("CARGO_MANIFEST_DIR")).join("../target/bin/gather");
-    assert!(program.exists(), "target/bin/gather is not there; `rt check gather` makes it");
+    assert!(program.exists(), "target/bin/gather is not there; `make target/bin/gather` makes it");
     let mut child = Command::new(program).stdin(Stdio::piped()).stdout(Stdio::piped()).spawn().expect("gather starts");
     let mut stdin = child.stdin.take().unwrap();
     thread::scope(|scope| {
