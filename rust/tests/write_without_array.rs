@@ -1,57 +1,94 @@
 //! Neither the writer nor anything that it calls has an array, and the call for C has none but the record that it is lent. What is walked is the
-//! MIR, the program that is proved and compiled.
+//! MIR, the program that is proved and compiled, as `make` writes it to target/mir: a list in JSON for each crate.
 use std::collections::{BTreeMap, BTreeSet};
+use std::fs;
 use std::path::Path;
-use std::process::Command;
-use std::sync::OnceLock;
-use Node::{List, Text, Word};
+use Node::{List, Record, Text, Word};
 
-/// A part of the MIR's text: a word, a string in quotes, or a list in parentheses.
+/// A part of the MIR's text: a number or a word, a string in quotes, a list in brackets, or a record of named parts in braces.
 enum Node<'a> {
-    Word(&'a str),
+    Word,
     Text(&'a str),
     List(Vec<Node<'a>>),
+    Record(Vec<(&'a str, Node<'a>)>),
 }
 
-fn parse(mir: &str) -> Vec<Node<'_>> {
-    let mut open = vec![Vec::new()];
+/// A list or a record that has not ended yet; of a record the name of the part that comes next.
+enum Open<'a> {
+    List(Vec<Node<'a>>),
+    Record(Vec<(&'a str, Node<'a>)>, Option<&'a str>),
+}
+
+fn parse(mir: &str) -> Node<'_> {
+    let mut open = vec![Open::List(Vec::new())];
     let mut rest = mir.trim_start();
     while let Some(first) = rest.chars().next() {
-        let (node, length) = match first {
-            '(' => {
-                open.push(Vec::new());
+        let (node, length) = match (first, open.last_mut().expect("a bracket that is closed was opened")) {
+            ('[', _) => {
+                open.push(Open::List(Vec::new()));
                 rest = rest[1..].trim_start();
                 continue;
             }
-            ')' => (List(open.pop().unwrap()), 1),
-            '"' => {
-                let (text, _) = rest[1..].split_once('"').expect("a string ends");
+            ('{', _) => {
+                open.push(Open::Record(Vec::new(), None));
+                rest = rest[1..].trim_start();
+                continue;
+            }
+            (',', _) => {
+                rest = rest[1..].trim_start();
+                continue;
+            }
+            (']' | '}', _) => match open.pop() {
+                Some(Open::List(nodes)) if first == ']' => (List(nodes), 1),
+                Some(Open::Record(parts, None)) if first == '}' => (Record(parts), 1),
+                _ => panic!("a bracket that is closed by another"),
+            },
+            ('"', last) => {
+                let (text, after) = rest[1..].split_once('"').expect("a string ends");
                 assert!(!text.contains('\\'), "a string of the MIR has an escape, which isn't read here: {text}");
+                if let Open::Record(_, name @ None) = last {
+                    *name = Some(text);
+                    rest = after.trim_start().strip_prefix(':').expect("a colon after a part's name").trim_start();
+                    continue;
+                }
                 (Text(text), text.len() + 2)
             }
             _ => {
-                let word = rest.split(|c: char| c.is_whitespace() || "()\"".contains(c)).next().unwrap();
-                (Word(word), word.len())
+                let word = rest.split(|c: char| c.is_whitespace() || "[]{}\",".contains(c)).next().unwrap();
+                assert!(!word.is_empty(), "not read here: {first}");
+                (Word, word.len())
             }
         };
-        open.last_mut().expect("a parenthesis that is closed was opened").push(node);
+        match open.last_mut().expect("a bracket that is closed was opened") {
+            Open::List(nodes) => nodes.push(node),
+            Open::Record(parts, name) => parts.push((name.take().expect("a part has a name"), node)),
+        }
         rest = rest[length..].trim_start();
     }
-    assert_eq!(open.len(), 1, "a parenthesis that is opened is closed");
-    open.pop().unwrap()
+    assert_eq!(open.len(), 1, "a bracket that is opened is closed");
+    match open.pop() {
+        Some(Open::List(mut nodes)) if nodes.len() == 1 => nodes.pop().unwrap(),
+        _ => panic!("more than one list"),
+    }
 }
 
-/// A list and all lists in it.
-fn lists<'a, 'b>(list: &'b [Node<'a>]) -> Vec<&'b [Node<'a>]> {
-    let mut found = vec![list];
-    let mut done = 0;
-    while done < found.len() {
-        for node in found[done] {
-            if let List(inner) = node {
-                found.push(inner);
-            }
+/// What stands in a part, without its own name.
+fn inner<'a, 'b>(node: &'b Node<'a>) -> Vec<&'b Node<'a>> {
+    match node {
+        Word | Text(_) => Vec::new(),
+        List(nodes) => nodes.iter().collect(),
+        Record(parts) => parts.iter().map(|(_, node)| node).collect(),
+    }
+}
+
+/// All named parts in a part, at any depth.
+fn named<'a, 'b>(node: &'b Node<'a>) -> Vec<(&'a str, &'b Node<'a>)> {
+    let (mut found, mut next) = (Vec::new(), vec![node]);
+    while let Some(node) = next.pop() {
+        if let Record(parts) = node {
+            found.extend(parts.iter().map(|(name, part)| (*name, part)));
         }
-        done += 1;
+        next.extend(inner(node));
     }
     found
 }
@@ -65,45 +102,92 @@ struct Function<'a> {
     own_array: bool,
 }
 
-/// Whether an array's type or literal stands in a list, but for what a reference `&` leads to.
-fn has_own_array(list: &[Node]) -> bool {
-    let lent = matches!(list, [Word("tyRef"), _, Word("imm"), List(_)] | [Word("deref"), List(_)]);
-    list.iter().any(|node| match node {
-        Word("tyArray" | "repeat") => true,
-        // of what is lent, the array itself is passed over and its elements are not
-        List(inner) if lent && matches!(inner[..], [Word("tyArray"), ..]) => has_own_array(&inner[1..]),
-        List(inner) => has_own_array(inner),
-        _ => false,
-    })
+/// An array's type, or a literal that repeats a value.
+fn is_array(name: &str) -> bool {
+    matches!(name, "Array" | "Repeat")
 }
 
-/// Whether a call is by a function's path.
-fn is_direct(callee: &Node) -> bool {
-    let List(callee) = callee else { return false };
-    matches!(&callee[..], [Word("direct"), List(path)] if matches!(path[..], [Word("fnRef"), Text(_)]))
+/// Whether what a reference `&` leads to has the type of an array: then that is passed over, and its elements are not.
+fn lent<'a, 'b>(name: &str, part: &'b Node<'a>) -> Option<&'b Node<'a>> {
+    let ty = match (name, part) {
+        ("Ref", List(parts)) => match &parts[..] {
+            [_, Text("Imm"), ty] => ty,
+            _ => return None,
+        },
+        ("Deref", ty) => ty,
+        _ => return None,
+    };
+    match ty {
+        Record(parts) => match &parts[..] {
+            [("Array", elements)] => Some(elements),
+            _ => None,
+        },
+        _ => None,
+    }
 }
 
-/// A function of its parts: its locals and body, and the fields of the types that it names.
-fn function<'a>(path: &str, parts: &[Node<'a>]) -> Function<'a> {
-    let mut function = Function { own_array: has_own_array(parts), ..Function::default() };
-    let (mut named, mut declared) = (BTreeSet::new(), BTreeSet::new());
-    for list in lists(parts) {
-        function.array |= list.iter().any(|node| matches!(node, Word("tyArray" | "repeat")));
-        match list {
-            [Word("fnRef"), Text(callee)] => function.calls.push(callee),
-            [Word("call"), callee, ..] if is_direct(callee) => {}
-            [Word("fnRef" | "call"), ..] => panic!("{path} has a call that can't be followed"),
-            [Word("tyNamed"), List(head)] => {
-                let [Word("pair"), Text(name), _] = head[..] else { panic!("{path} has a named type without a name") };
-                named.insert(name);
+/// Whether an array's type or literal stands in a part, but for what a reference `&` leads to.
+fn has_own_array(node: &Node) -> bool {
+    match node {
+        Record(parts) => parts.iter().any(|(name, part)| match lent(name, part) {
+            Some(elements) => has_own_array(elements),
+            None => is_array(name) || has_own_array(part),
+        }),
+        _ => inner(node).into_iter().any(has_own_array),
+    }
+}
+
+/// The function of this path, where a part is one.
+fn path_of<'a>(part: &Node<'a>) -> Option<&'a str> {
+    match part {
+        Record(parts) => match &parts[..] {
+            [("Fn", List(parts))] => match parts[..] {
+                [Text(path), ..] => Some(path),
+                _ => None,
+            },
+            _ => None,
+        },
+        _ => None,
+    }
+}
+
+/// A function by its body, its locals and the types that these name, with their fields.
+fn function<'a>(path: &str, body: &Node<'a>) -> Function<'a> {
+    let mut function = Function { own_array: has_own_array(body), ..Function::default() };
+    let (mut types, mut declared, mut functions) = (BTreeSet::new(), BTreeSet::new(), 0);
+    for (name, part) in named(body) {
+        function.array |= is_array(name);
+        match (name, part) {
+            ("Call", List(parts)) => {
+                let callee = parts.first().and_then(path_of);
+                function.calls.push(callee.unwrap_or_else(|| panic!("{path} has a call that can't be followed")));
             }
-            [Word("pair"), Text(name), List(fields)] if matches!(fields[..], [Word("fields" | "variants"), ..]) => {
-                declared.insert(*name);
+            ("Fn", _) => functions += 1,
+            ("Method", _) => panic!("{path} has a call that can't be followed"),
+            ("Named", List(parts)) => match &parts[..] {
+                [Record(head), ..] => match head[..] {
+                    [("name", Text(name)), ..] => {
+                        types.insert(name);
+                    }
+                    _ => panic!("{path} has a named type without a name"),
+                },
+                _ => panic!("{path} has a named type without a name"),
+            },
+            ("types", List(all)) => {
+                for ty in all {
+                    if let Record(parts) = ty {
+                        if let ([("name", Text(name)), ..], true) = (&parts[..], parts.iter().any(|(name, _)| *name == "shape")) {
+                            declared.insert(*name);
+                        }
+                    }
+                }
             }
             _ => {}
         }
     }
-    let bare = &named - &declared;
+    // a function that is named and not called at once
+    assert_eq!(functions, function.calls.len(), "{path} has a call that can't be followed");
+    let bare = &types - &declared;
     assert!(bare.is_empty(), "{path} names types without fields: {bare:?}");
     function
 }
@@ -111,11 +195,15 @@ fn function<'a>(path: &str, parts: &[Node<'a>]) -> Function<'a> {
 /// The functions by their paths.
 type Program<'a> = BTreeMap<&'a str, Function<'a>>;
 
-fn program(mir: &str) -> Program<'_> {
+/// The functions of crates, each by the text of its MIR.
+fn program<'a>(crates: impl IntoIterator<Item = &'a str>) -> Program<'a> {
     let mut program = Program::new();
-    for list in lists(&parse(mir)) {
-        if let [Word("fn-def"), Text(path), parts @ ..] = list {
-            assert!(program.insert(path, function(path, parts)).is_none(), "{path} is there twice");
+    for mir in crates {
+        let List(functions) = parse(mir) else { panic!("the MIR of a crate is no list") };
+        for it in &functions {
+            let List(parts) = it else { panic!("a function of the MIR is no list") };
+            let [Text(path), body] = &parts[..] else { panic!("a function of the MIR has no path") };
+            assert!(program.insert(path, function(path, body)).is_none(), "{path} is there twice");
         }
     }
     program
@@ -143,22 +231,18 @@ fn with_array<'a>(program: &Program<'a>, start: &'a str) -> Vec<String> {
     with_array.map(|(path, caller)| format!("{path}, called by {caller}")).collect()
 }
 
-/// The MIR of the archive's crate and those below it, which `make archive` has proved.
-fn printed() -> &'static str {
-    static MIR: OnceLock<String> = OnceLock::new();
-    MIR.get_or_init(|| {
-        let root = Path::new(env!("CARGO_MANIFEST_DIR")).join("..");
-        let output = Command::new("rt").args(["mir", "lipvezor"]).current_dir(root).output();
-        let output =
-            output.unwrap_or_else(|error| panic!("rt does not start: {error}; it is in the Rattle kit, whose bin/ belongs in PATH"));
-        assert!(output.status.success(), "`rt mir lipvezor`, {}: {}", output.status, String::from_utf8_lossy(&output.stderr));
-        String::from_utf8(output.stdout).unwrap()
-    })
+/// The MIR of the archive's crate and of those below it.
+fn written() -> Vec<String> {
+    let folder = Path::new(env!("CARGO_MANIFEST_DIR")).join("../target/mir");
+    let files = fs::read_dir(&folder).unwrap_or_else(|error| panic!("target/mir: {error}; `make test-rust` writes it"));
+    let files = files.map(|entry| entry.unwrap().path()).filter(|path| path.extension().is_some_and(|extension| extension == "json"));
+    files.map(|path| fs::read_to_string(path).unwrap()).collect()
 }
 
 #[test]
 fn write_reaches_no_array() {
-    let (program, start) = (program(printed()), "sending::writer::write");
+    let mir = written();
+    let (program, start) = (program(mir.iter().map(String::as_str)), "sending::writer::write");
     let found = with_array(&program, start);
     assert!(found.is_empty(), "functions with an array, reached by write:\n{}", found.join("\n"));
     println!("walked {} functions of {}", reached(&program, start).len(), program.len());
@@ -167,7 +251,8 @@ fn write_reaches_no_array() {
 /// The call for C reads the block's numbers through a reference to an array of five, and that is all.
 #[test]
 fn write_for_c_is_lent_its_record_alone() {
-    let (program, start) = (program(printed()), "lipvezor::lipvezor_write");
+    let mir = written();
+    let (program, start) = (program(mir.iter().map(String::as_str)), "lipvezor::lipvezor_write");
     let reached = reached(&program, start);
     assert!(reached.contains_key("sending::writer::write"), "{reached:?}");
     let found = with_array(&program, start);
@@ -179,7 +264,8 @@ fn write_for_c_is_lent_its_record_alone() {
 
 #[test]
 fn arrays_of_take_and_encode_are_found() {
-    let program = program(printed());
+    let mir = written();
+    let program = program(mir.iter().map(String::as_str));
     for start in ["lipvezor::lipvezor_take", "lipvezor::lipvezor_encode"] {
         let found = with_array(&program, start);
         assert!(!found.is_empty(), "{start} has arrays, and the walk finds none");
@@ -187,22 +273,26 @@ fn arrays_of_take_and_encode_are_found() {
     }
 }
 
-const BYTE: &str = "(tyInt 8)";
-const ARRAY: &str = "(tyArray (tyInt 8) (lenLit 16))";
-const NAMED: &str = "(tyRef erased mut (tyNamed (pair \"t\" lnil)))";
+const BYTE: &str = r#"{"Int":8}"#;
+const ARRAY: &str = r#"{"Array":[{"Int":8},{"Lit":16}]}"#;
+const NAMED: &str = r#"{"Ref":["Erased","Mut",{"Named":[{"name":"t","lifetimes":[]},[]]}]}"#;
 
-/// The text of a function that has a local of this type and calls these.
-fn made(path: &str, ty: &str, callees: &[&str], fields: &str) -> String {
-    let calls: String = callees.iter().map(|callee| format!("(seq (call (direct (fnRef \"{callee}\")) lnil (place 0 lnil)) ")).collect();
-    let ends = ")".repeat(callees.len());
-    format!("(fn-def \"{path}\" (fnItem 0 lnil 0 (lcons (local {ty} valueLocal) lnil) {calls}return{ends}){fields})")
+/// The text of a function that has a local of this type and calls these; and the types that it names, with their fields.
+fn made(path: &str, ty: &str, callees: &[&str], types: &str) -> String {
+    let call =
+        |callee: &&str| format!(r#""Seq",{{"Call":[{{"Fn":["{callee}",{{"types":[],"dicts":[]}}]}},[],{{"local":0,"steps":[]}}]}},"#);
+    let calls: String = callees.iter().map(call).collect();
+    format!(r#"["{path}",{{"lifetimes":0,"types":[{types}],"locals":[{{"ty":{ty},"home":"ValueLocal"}}],"body":[{calls}"Return"]}}]"#)
 }
 
-/// The functions with an array that `start` reaches; the program's own entry, after the last function, has no body.
+/// The text of a crate with these functions.
+fn text(functions: &[String]) -> String {
+    format!("[{}]\n", functions.join(","))
+}
+
+/// The functions with an array that `start` reaches.
 fn found(functions: &[String]) -> Vec<String> {
-    let functions = functions.iter().rev().fold("lnil".to_string(), |rest, function| format!("(lcons {function} {rest})"));
-    let mir = format!("program {functions} (fnRef \"main\")\n");
-    with_array(&program(&mir), "start")
+    with_array(&program([text(functions).as_str()]), "start")
 }
 
 #[test]
@@ -210,16 +300,22 @@ fn array_two_calls_down() {
     let functions =
         |ty: &str| [made("start", BYTE, &["a", "b"], ""), made("a", BYTE, &[], ""), made("b", BYTE, &["c"], ""), made("c", ty, &[], "")];
     assert_eq!(found(&functions(ARRAY)), ["c, called by b"]);
-    assert_eq!(found(&functions(&format!("(tyRef erased imm {ARRAY})"))), ["c, called by b"]);
+    assert_eq!(found(&functions(&format!(r#"{{"Ref":["Erased","Imm",{ARRAY}]}}"#))), ["c, called by b"]);
     assert!(found(&functions(BYTE)).is_empty());
 }
 
 #[test]
+fn array_of_another_crate() {
+    let (low, high) = (text(&[made("low::a", ARRAY, &[], "")]), text(&[made("start", BYTE, &["low::a"], "")]));
+    assert_eq!(with_array(&program([low.as_str(), high.as_str()]), "start"), ["low::a, called by start"]);
+}
+
+#[test]
 fn array_behind_a_reference() {
-    let own = |ty: &str| program(&made("start", ty, &[], ""))["start"].own_array;
-    assert!(!own(BYTE) && !own(&format!("(tyRef erased imm {ARRAY})")));
-    assert!(own(ARRAY) && own(&format!("(tyRef erased mut {ARRAY})")));
-    assert!(own(&format!("(tyRef erased imm (tyArray {ARRAY} (lenLit 2)))")));
+    let own = |ty: &str| program([text(&[made("start", ty, &[], "")]).as_str()])["start"].own_array;
+    assert!(!own(BYTE) && !own(&format!(r#"{{"Ref":["Erased","Imm",{ARRAY}]}}"#)) && !own(&format!(r#"{{"Deref":{ARRAY}}}"#)));
+    assert!(own(ARRAY) && own(&format!(r#"{{"Ref":["Erased","Mut",{ARRAY}]}}"#)));
+    assert!(own(&format!(r#"{{"Ref":["Erased","Imm",{{"Array":[{ARRAY},{{"Lit":2}}]}}]}}"#)));
 }
 
 #[test]
@@ -229,8 +325,8 @@ fn array_in_the_first_function() {
 
 #[test]
 fn array_literal() {
-    let literal = made("start", BYTE, &[], "").replace("return", "(seq (assign (place 0 lnil) (repeat (int 8 0) 16)) return)");
-    assert_eq!(found(&[literal]), ["start, called by the user"]);
+    let literal = r#""Seq",{"Assign":[{"local":0,"steps":[]},{"Repeat":[{"Int":{"width":8,"value":0}},{"Lit":16}]}]},"Return""#;
+    assert_eq!(found(&[made("start", BYTE, &[], "").replace(r#""Return""#, literal)]), ["start, called by the user"]);
 }
 
 #[test]
@@ -240,7 +336,7 @@ fn array_that_is_not_reached() {
 
 #[test]
 fn array_in_a_field() {
-    let fields = |ty| format!(" (lcons (pair \"t\" (fields (tcons {ty} tnil))) lnil)");
+    let fields = |ty| format!(r#"{{"name":"t","lifetimes":0,"shape":{{"Fields":[{ty}]}},"is_tuple":false}}"#);
     let functions = |ty| [made("start", BYTE, &["a"], ""), made("a", NAMED, &[], &fields(ty))];
     assert_eq!(found(&functions(ARRAY)), ["a, called by start"]);
     assert!(found(&functions(BYTE)).is_empty());
@@ -251,10 +347,10 @@ fn calls_in_a_circle() {
     assert_eq!(found(&[made("start", BYTE, &["start", "a"], ""), made("a", ARRAY, &["start", "a"], "")]), ["a, called by start"]);
 }
 
-/// Neither their parentheses nor their words count.
+/// Neither their brackets nor their words count.
 #[test]
 fn strings() {
-    let names = ["(", "tyArray", "a repeat)"];
+    let names = ["[", "Array", "a Repeat}"];
     let mut functions = vec![made("start", BYTE, &names, "")];
     functions.extend(names.map(|name| made(name, BYTE, &[], "")));
     assert!(found(&functions).is_empty());
@@ -269,7 +365,23 @@ fn call_without_a_body() {
 #[test]
 #[should_panic(expected = "a call that can't be followed")]
 fn call_through_a_pointer() {
-    found(&[made("start", BYTE, &["start"], "").replace("direct (fnRef \"start\")", "copy (place 1 lnil)")]);
+    let callee = r#"{"Fn":["start",{"types":[],"dicts":[]}]}"#;
+    found(&[made("start", BYTE, &["start"], "").replace(callee, r#"{"Copy":{"local":1,"steps":[]}}"#)]);
+}
+
+#[test]
+#[should_panic(expected = "a call that can't be followed")]
+fn call_of_a_method() {
+    let callee = r#"{"Fn":["start",{"types":[],"dicts":[]}]}"#;
+    found(&[made("start", BYTE, &["start"], "").replace(callee, r#"{"Method":[{"Given":0},0,{"types":[],"dicts":[]}]}"#)]);
+}
+
+/// A pointer to a function may be called elsewhere.
+#[test]
+#[should_panic(expected = "a call that can't be followed")]
+fn function_that_is_passed_on() {
+    let pointer = r#""Seq",{"Assign":[{"local":0,"steps":[]},{"Fn":["start",{"types":[],"dicts":[]}]}]},"Return""#;
+    found(&[made("start", BYTE, &[], "").replace(r#""Return""#, pointer)]);
 }
 
 #[test]
@@ -279,7 +391,7 @@ fn type_without_fields() {
 }
 
 #[test]
-#[should_panic(expected = "a parenthesis that is opened is closed")]
+#[should_panic(expected = "a bracket that is opened is closed")]
 fn text_cut_off() {
-    parse("program (lcons (fn-def \"start\"");
+    parse(r#"[["start",{"lifetimes":0"#);
 }
