@@ -36,7 +36,7 @@ demo: target/bin/demo ## a sample pass: encode, write units, lose some, take the
 test: test-code ## all that decides whether a change may land; the last line says it
 	tools/ci
 
-test-code: need-test format clippy test-c test-dist test-rust ## all of make test but rt ci: the proofs that the library and gather need, and no must-fail edit
+test-code: need-test format clippy test-c test-dist test-rust ## all of make test but rt ci
 
 format: need-format ## is the Rust code in cargo fmt's layout?
 	$(CARGO) fmt --check --manifest-path rust/Cargo.toml
