@@ -265,7 +265,12 @@ fn write_for_c_is_lent_its_record_alone() {
 #[test]
 fn arrays_of_take_and_encode_are_found() {
     let mir = written();
-    let program = program(mir.iter().map(String::as_str));
+    let mut program = program(mir.iter().map(String::as_str));
+    // These also call functions of Rattle's core, which are not written with the crates; they are taken to have no array. write calls none.
+    let called: BTreeSet<&str> = program.values().flat_map(|function| function.calls.iter().copied()).collect();
+    for path in called.into_iter().filter(|path| path.starts_with("core::")) {
+        program.entry(path).or_default();
+    }
     for start in ["lipvezor::lipvezor_take", "lipvezor::lipvezor_encode"] {
         let found = with_array(&program, start);
         assert!(!found.is_empty(), "{start} has arrays, and the walk finds none");
