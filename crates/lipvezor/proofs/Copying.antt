@@ -5,8 +5,9 @@ use mathlib.Core.List.{List, [], ◌∷◌, ◌++◌, append-nil}
 use native.Mathlib.Omega.{arith}
 use Prim.Native.Nat.{ℕ, ◌+◌, ◌-◌, ◌≤◌, ◌<◌}
 use native.Mathlib.Decide.{dec_lt}
+use native.Mathlib.Nat.{zero-add}
 use lib.ListN.{length, take, drop, length-drop, drop_of_length-le}
-use lib.Seq.{take-length, length-take-le}
+use lib.Seq.{paste, take-length, length-take-le}
 use denote.Ref.{Bor}
 use Rattle.ccsds.specs.Codes.{n_of}
 use Rattle.ccsds.specs.Tables.{code_of}
@@ -48,7 +49,7 @@ module _ (number w fill : ℕ) (info parity : Bor (List ℕ)) (lwc : ℕ) (z : s
           ap (λ (x : Slice). length x.bytes) (shows-parity number w fill info parity lwc z l) ∙ part parity.now _ (in_parity s l)
 
 -- an output of the part's length holds the part
-pub copied : (out x shown : List ℕ) → length out ≡ length shown → x ≡ take (length shown) shown ++ drop (length shown) out → x ≡ shown
+pub copied : (out x shown : List ℕ) → length out ≡ length shown → x ≡ paste out 0 shown (length shown) → x ≡ shown
 copied out x shown h q =
     let n : length out ≤ length shown = omega arith in
-    rw (q, take-length shown, drop_of_length-le out n, append-nil)
+    q ∙ ap (λ (k : ℕ). take (length shown) shown ++ drop k out) (zero-add (length shown)) ∙ rw (take-length shown, drop_of_length-le out n, append-nil)

@@ -264,7 +264,7 @@ fn show_in<'a, 'b, 'c>(
         return number;
     }
     let shown = sending::show::show(b.code, b.w, b.fill, info, parity, lwc);
-    out.copy_from_slice(shown);
+    buffers::put_from(out, 0, shown, 0, shown.len());
     0
 }
 

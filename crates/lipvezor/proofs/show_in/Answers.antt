@@ -7,7 +7,8 @@ use Rattle.sending.specs.Show.{Slice}
 use Rattle.ccsds.proofs.Refusals.{kept_by, changed_by}
 use Rattle.lipvezor.specs.Sending.{copy_refusal}
 use Rattle.lipvezor.proofs.Answers.{number_by}
-use Rattle.lipvezor.proofs.Copying.{copyable, shown_length}
+use Rattle.buffers.proofs.Put.{put-paste}
+use Rattle.lipvezor.proofs.Copying.{copyable, shown_length, copied}
 use Rattle.lipvezor.proofs.show_in.Goals as goal
 use Rattle.lipvezor.proofs.show_in.Goals.{After-show-shown, Else-number-ne0}
 
@@ -28,8 +29,8 @@ returns-then-number-ne0 c = record {
   output = rw (← c.block_of-b.ensures) (kept_by _ _ c.check_copy-number.ensures c.if-number-ne0.true _ c.args.out.now);
 }
 
-pub copy_from_slice-requires : goal.copy_from_slice-requires
-copy_from_slice-requires c = omega (arith, fits (goal.at.copy_from_slice-requires c).After-show-shown)
+pub put_from-requires : goal.put_from-requires
+put_from-requires c = let f = fits (goal.at.put_from-requires c).After-show-shown in (omega arith, omega arith)
 
 pub returns : goal.returns
 returns c =
@@ -37,7 +38,8 @@ returns c =
     let e = c.check_copy-number.ensures in
     let z = c.if-number-ne0.false in
     let shown = ap (λ (s : Slice). s.bytes) c.show-shown.ensures in
+    let f = fits (goal.at.returns c).After-show-shown in
     record {
       answer = rw (← c.block_of-b.ensures) (sym (number_by _ tt ∙ zero (goal.at.returns c).Else-number-ne0));
-      output = rw (← c.block_of-b.ensures) (c.copy_from_slice.ensures.after ∙ shown ∙ changed_by _ _ e z _ a.out.now);
+      output = rw (← c.block_of-b.ensures) (copied a.out.now _ c.show-shown.result.now f (c.put_from.ensures ∙ put-paste a.out.now 0 c.show-shown.result.now _ (omega arith) (omega arith)) ∙ shown ∙ changed_by _ _ e z _ a.out.now);
     }
