@@ -1,6 +1,6 @@
 /* SPDX-License-Identifier: Apache-2.0 */
 /*
- * Lipvezor 0.6.0: the erasure layer of a satellite downlink (codes C1, C2, C4, C5, C7 and C8 of CCSDS 131.5-O-1), for C11 and C++11.
+ * Lipvezor 0.5.1: the erasure layer of a satellite downlink (codes C1, C2, C4, C5, C7 and C8 of CCSDS 131.5-O-1), for C11 and C++11.
  *
  * Sending:   lipvezor_encode, then for each LWC of lipvezor_next_lwc lipvezor_show and lipvezor_write. Tiles may be packed first, by
  *            lipvezor_pack: what it makes is the information.
@@ -93,9 +93,9 @@ _Static_assert(sizeof(size_t) == 8, "lipvezor: a size_t has 64 bits");
 
 /* ---- version */
 
-#define LIPVEZOR_VERSION_TEXT "0.6.0"
+#define LIPVEZOR_VERSION_TEXT "0.5.1"
 /* first number * 10000 + second * 100 + third */
-#define LIPVEZOR_VERSION 600
+#define LIPVEZOR_VERSION 501
 
 /* The archive's version, as LIPVEZOR_VERSION. */
 size_t lipvezor_version(void);
