@@ -33,11 +33,11 @@ after-position : (c : Else-wrong_position) → let a = c.args in
     first_of (unit_conditions a.number a.w a.fill a.lwc a.symbolLength a.outLength)
     ≡ chain ((refusal.idle, idle_lwc (code_of a.number).k a.fill a.lwc) ∷ (refusal.symbol, wrong_length a.symbolLength a.w) ∷ [])
 after-position c =
-    in_order _ refl ∙ first_on _ _ _ (length-same _ _ (c.if-outLength-size.false ∙ output c.before.before.before)) ∙ first_on _ _ _ ((sym (c.wrong_position.ensures ∙ ap (λ (n : ℕ). wrong_position n c.args.lwc) (n_of_lem c.requires.0))) ∙ c.if-wrong_position.false)
+    in_order _ refl ∙ first_on _ _ _ (length-same _ _ (c.if-outLength-size.false ∙ (c.unit_length-size.ensures ∙ length_of c.requires.0 _))) ∙ first_on _ _ _ ((sym (c.wrong_position.ensures ∙ ap (λ (n : ℕ). wrong_position n c.args.lwc) (n_of_lem c.requires.0))) ∙ c.if-wrong_position.false)
 
 after-idle : (c : Else-idle_lwc) → let a = c.args in
     first_of (unit_conditions a.number a.w a.fill a.lwc a.symbolLength a.outLength) ≡ chain ((refusal.symbol, wrong_length a.symbolLength a.w) ∷ [])
-after-idle c = (in_order _ refl ∙ first_on _ _ _ (length-same _ _ (c.if-outLength-size.false ∙ output c.before.before.before.before.before)) ∙ first_on _ _ _ ((sym (c.wrong_position.ensures ∙ ap (λ (n : ℕ). wrong_position n c.args.lwc) (n_of_lem c.requires.0))) ∙ c.if-wrong_position.false)) ∙ first_on _ _ _ ((sym (c.idle_lwc.ensures ∙ ap (λ (k : ℕ). idle_lwc k c.args.fill c.args.lwc) c.requires.0.k)) ∙ c.if-idle_lwc.false)
+after-idle c = (in_order _ refl ∙ first_on _ _ _ (length-same _ _ (c.if-outLength-size.false ∙ (c.unit_length-size.ensures ∙ length_of c.requires.0 _))) ∙ first_on _ _ _ ((sym (c.wrong_position.ensures ∙ ap (λ (n : ℕ). wrong_position n c.args.lwc) (n_of_lem c.requires.0))) ∙ c.if-wrong_position.false)) ∙ first_on _ _ _ ((sym (c.idle_lwc.ensures ∙ ap (λ (k : ℕ). idle_lwc k c.args.fill c.args.lwc) c.requires.0.k)) ∙ c.if-idle_lwc.false)
 
 pub returns-then-outLength-size : goal.returns-then-outLength-size
 returns-then-outLength-size c = sym (in_order _ refl ∙ first_is _ _ _ (length-wrong _ _ (λ e. c.if-outLength-size.true (e ∙ sym (output (goal.at.returns-then-outLength-size c).After-unit_length-size)))))
