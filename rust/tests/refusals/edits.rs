@@ -3,12 +3,15 @@ use crate::model::refusals::Record;
 use crate::model::{codes, Code};
 
 /// The refusals in the order in which they are tried. Those of one place are told apart by the unit's bytes.
-pub const ORDER: [&[u8]; 17] =
+pub const ORDER: [&[u8]; 14] = [&[1], &[2], &[3], &[13], &[4], &[5], &[6, 19, 20], &[7], &[8], &[9], &[14], &[10], &[11], &[12]];
+
+/// The same with pack's.
+pub const WITH_PACK: [&[u8]; 17] =
     [&[1], &[2], &[15], &[3], &[13], &[4], &[16], &[17], &[5], &[6, 19, 20], &[7], &[8], &[9], &[14], &[10], &[11], &[12]];
 
 /// The place of a number in the order; that of 0, allowed, comes last.
 fn place(number: u8) -> usize {
-    ORDER.iter().position(|numbers| numbers.contains(&number)).unwrap_or(ORDER.len())
+    WITH_PACK.iter().position(|numbers| numbers.contains(&number)).unwrap_or(WITH_PACK.len())
 }
 
 /// One change of an input, and the number that it alone is refused with; 0 if it is allowed.
