@@ -154,7 +154,7 @@ fn decode(
     requires idle_in { IdleIn b k (length marks.old) × (length states.old ≡ length marks.old) }
     ensures symbols_after { symbols.new ≡ symbols_after b symbols.old marks.old }
     ensures marks_after { marks.new ≡ marks_after b symbols.old marks.old }
-    ensures marks_after_2 { verdict_by result (count missing_mark (sent_marks b marks.new)) ≡ verdict_of (agreeing_words b symbols.old marks.old) }
+    ensures verdict { verdict_by result (count missing_mark (sent_marks b marks.new)) ≡ verdict_of (agreeing_words b symbols.old marks.old) }
 {
     states::set_part(symbols, b.fill * b.w, k * b.w, 0);
     states::put_states(b, k, marks, states);

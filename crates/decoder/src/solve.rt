@@ -165,7 +165,8 @@ fn by_pivots(
         packed: packed,
     };
     reduce(s, r, table, plan, symbols, words, bytes);
-    if consistent_behind(r, s.w, words, bytes) {
+    let consistent = consistent_behind(r, s.w, words, bytes);
+    if consistent {
         fill(s, r, table, plan, symbols, states, words, bytes);
         return true;
     }

@@ -56,7 +56,7 @@ fn reduce_row(
     requires r_lt_rows { r < s.rows }
     requires reduced_where { ReducedWhere done.old rows.old s.rows s.words }
     ensures same_solutions { SameSolutions rows.old rhs.old rows.new rhs.new s.rows s.words s.width }
-    ensures reduced_where_2 { ReducedWhere done.new rows.new s.rows s.words }
+    ensures reduced_where_after { ReducedWhere done.new rows.new s.rows s.words }
     ensures row_marked { RowMarked done.old done.new r }
 {
     if done[r] == 0 {
@@ -70,7 +70,7 @@ fn reduce_next(rows: &mut [u64], rhs: &mut [u8], done: &mut [u8; MAX_ROWS], s: S
     requires fits { Fits s (length rows.old) (length rhs.old) }
     requires reduced_where { ReducedWhere done.old rows.old s.rows s.words }
     ensures same_solutions { SameSolutions rows.old rhs.old rows.new rhs.new s.rows s.words s.width }
-    ensures reduced_where_2 { ReducedWhere done.new rows.new s.rows s.words }
+    ensures reduced_where_after { ReducedWhere done.new rows.new s.rows s.words }
 {
     let r = (v % 1024) as usize;
     if r < s.rows {
@@ -91,7 +91,7 @@ pub fn back_substitute(
     requires count_le_rows { count ≤ s.rows }
     requires reduced_where { ReducedWhere done.old rows.old s.rows s.words }
     ensures same_solutions { SameSolutions rows.old rhs.old rows.new rhs.new s.rows s.words s.width }
-    ensures reduced_where_2 { ReducedWhere done.new rows.new s.rows s.words }
+    ensures reduced_where_after { ReducedWhere done.new rows.new s.rows s.words }
 {
     let mut t = count;
     while t > 0 {

@@ -54,7 +54,7 @@ fn set_singleton(
     requires shared_masks { SharedMasks masks.now rows.old s.rows s.words s.words }
     requires reduced_where { ReducedWhere done.old rows.old s.rows s.words }
     ensures same_coefficients { SameCoefficients rows.old rows.new s.words }
-    ensures reduced_where_2 { ReducedWhere done.new rows.new s.rows s.words }
+    ensures reduced_where_after { ReducedWhere done.new rows.new s.rows s.words }
 {
     let r = (v % 1024) as usize;
     let p = (v / 1024) as usize;
@@ -89,7 +89,7 @@ pub fn set_singletons(
     requires count_le_rows { count ≤ s.rows }
     requires reduced_where { ReducedWhere done.old rows.old s.rows s.words }
     ensures same_coefficients { SameCoefficients rows.old rows.new s.words }
-    ensures reduced_where_2 { ReducedWhere done.new rows.new s.rows s.words }
+    ensures reduced_where_after { ReducedWhere done.new rows.new s.rows s.words }
 {
     let mut masks = [0u64; MAX_WORDS];
     shared_unknowns(rows, &mut masks, s);

@@ -137,7 +137,7 @@ fn try_row(
     requires xs_len { length xs.old ≡ max_positions }
     requires r_bound { (r < (code_of s.number).m) × (0 < g.fuel) }
     requires reached { Reached (checks s) s.w plan.old symbols.old g }
-    ensures xs_len_2 { length xs.new ≡ max_positions }
+    ensures xs_len_after { length xs.new ≡ max_positions }
     ensures continued { Continued (checks s) s.w plan.old symbols.old g plan.new symbols.new result }
 {
     let n = positions::of_row(s, table, r, xs);
@@ -257,7 +257,7 @@ fn advance(
     requires xs_len { length xs.old ≡ max_positions }
     requires cursor_bound { (g.cursor < (checks s).n) × (r < s.layout.m → 0 < g.fuel) }
     requires reached { Reached (checks s) s.w plan.old symbols.old g }
-    ensures xs_len_2 { length xs.new ≡ max_positions }
+    ensures xs_len_after { length xs.new ≡ max_positions }
     ensures continued { Continued (checks s) s.w plan.old symbols.old g plan.new symbols.new result }
 {
     let l = s.layout;
@@ -283,8 +283,8 @@ fn turn(
     requires xs_len { length xs.old ≡ max_positions }
     requires cursor_bound { g.cursor < (checks s).n }
     requires reached { Reached (checks s) s.w plan.old symbols.old g }
-    ensures xs_len_2 { length xs.new ≡ max_positions }
-    ensures hinted_2 { Hinted counts.new ready.new }
+    ensures xs_len_after { length xs.new ≡ max_positions }
+    ensures hinted_after { Hinted counts.new ready.new }
     ensures continued { Continued (checks s) s.w plan.old symbols.old g plan.new symbols.new result }
 {
     let l = s.layout;

@@ -115,7 +115,7 @@ fn row(
     requires packed_bound { (r.packed ≤ 48) × (s.layout.m * (r.packed + 1) ≤ length words.old) }
     requires row_lt_m { (e.row < s.layout.m) × ((e.check < (code_of s.number).m) × (length plan.now ≡ plan_size)) }
     requires reads_all { ReadsAll (checks s) plan.now words.old r.packed r.early s.layout.m e.row e.but }
-    ensures xs_len_2 { length xs.new ≡ max_positions }
+    ensures xs_len_after { length xs.new ≡ max_positions }
     ensures row_is { RowIs (checks s) plan.now words.old words.new r.packed r.early e.row e.check e.but }
 {
     let l = s.layout;
@@ -177,9 +177,9 @@ fn remaining_row(
     requires unsolved { Unsolved plan.now r.pivots }
     requires j_bound { (j < (code_of s.number).m) × (t ≡ r.steps + unused_below plan.now j) }
     requires rest_to { RestTo (checks s) plan.now words.old r.packed r.early r.steps j }
-    ensures xs_len_2 { length xs.new ≡ max_positions }
+    ensures xs_len_after { length xs.new ≡ max_positions }
     ensures value { result ≡ r.steps + unused_below plan.now (j + 1) }
-    ensures rest_to_2 { RestTo (checks s) plan.now words.new r.packed r.early r.steps (j + 1) }
+    ensures rest_to_next { RestTo (checks s) plan.now words.new r.packed r.early r.steps (j + 1) }
     ensures same_below { SameBelow words.old words.new r.packed r.steps }
 {
     if plan[USED + j] != 0 {

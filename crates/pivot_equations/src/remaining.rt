@@ -24,7 +24,7 @@ fn passes(
     requires table { Table s table.now }
     requires xs_len { (length xs.old ≡ max_positions) × (j < (checks s).m) }
     requires plan_len { (length plan.now ≡ plan_size) × (length symbols.now ≡ (checks s).n * s.w) }
-    ensures xs_len_2 { length xs.new ≡ max_positions }
+    ensures xs_len_after { length xs.new ≡ max_positions }
     ensures pass_is { PassIs (checks s) s.w plan.now symbols.now j result }
 {
     if plan[USED + j] != 0 {
@@ -68,8 +68,8 @@ fn put_row(
     requires xs_len { (length xs.old ≡ max_positions) × (j < (checks s).m) }
     requires plan_len { (length plan.now ≡ plan_size) × (length symbols.now ≡ (checks s).n * s.w) }
     requires sides_to { SidesTo (checks s) s.w plan.now symbols.now bytes.old j i }
-    ensures xs_len_2 { length xs.new ≡ max_positions }
-    ensures sides_to_2 { SidesTo (checks s) s.w plan.now symbols.now bytes.new (j + 1) result }
+    ensures xs_len_after { length xs.new ≡ max_positions }
+    ensures sides_to_next { SidesTo (checks s) s.w plan.now symbols.now bytes.new (j + 1) result }
 {
     if plan[USED + j] != 0 {
         return i;

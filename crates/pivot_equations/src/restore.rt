@@ -44,7 +44,7 @@ fn restore_by(
     requires table { Table s table.now }
     requires xs_len { (length xs.old ≡ max_positions) × ((j < (checks s).m) × (p < (checks s).n)) }
     requires symbols_len { length symbols.old ≡ (checks s).n * s.w }
-    ensures xs_len_2 { length xs.new ≡ max_positions }
+    ensures xs_len_after { length xs.new ≡ max_positions }
     ensures replaced { Replaced (λ b. sum ((checks s).has j) (λ x. cond (eqb x p) 0 (byte_at s.w symbols.old b x)) (checks s).n) s.w p symbols.old symbols.new }
 {
     let n = positions::of_row(s, table, j, xs);

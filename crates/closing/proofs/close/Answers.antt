@@ -54,5 +54,5 @@ make_report-requires c =
 pub returns : goal.returns
 returns c = let q = (let a = c.args in
     let d = c.decode-ok in
-    close_told a.b a.symbols.now a.marks.now a.work_words.now a.work_bytes.now _ c.check_close-refusal.ensures c.if-refusal-ne0.false d.result _ _ _ _ d.ensures.symbols_after d.ensures.marks_after d.ensures.marks_after_2
+    close_told a.b a.symbols.now a.marks.now a.work_words.now a.work_bytes.now _ c.check_close-refusal.ensures c.if-refusal-ne0.false d.result _ _ _ _ d.ensures.symbols_after d.ensures.marks_after d.ensures.verdict
     (c.clear_words.ensures ∙ ap (λ (n : ℕ). replicate n 0) d.auto.work_words) (c.clear.ensures ∙ ap (λ (n : ℕ). replicate n 0) d.auto.work_bytes) (report_as c.make_report.result) c.make_report.ensures) in record { answer = q.0; symbols = q.1.0; marks = q.1.1.0; work_words = q.1.1.1.0; work_bytes = q.1.1.1.1 }

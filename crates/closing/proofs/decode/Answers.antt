@@ -37,4 +37,4 @@ set_marks-requires c = (c.requires.idle_in.0, c.solve-ok.auto.states ∙ c.put_s
 pub returns : goal.returns
 returns c = let q = (let a = c.args in
     let p = c.requires in
-    decoded a.symbols.now a.marks.now p.ready p.idle_in.0 c.set_part.ensures c.put_states.ensures c.solve-ok.ensures c.set_marks.ensures) in record { symbols_after = q.0; marks_after = q.1.0; marks_after_2 = q.1.1 }
+    decoded a.symbols.now a.marks.now p.ready p.idle_in.0 c.set_part.ensures c.put_states.ensures c.solve-ok.ensures c.set_marks.ensures) in record { symbols_after = q.0; marks_after = q.1.0; verdict = q.1.1 }

@@ -48,18 +48,18 @@ reduce-requires c =
     let L = p.peeled in
     record { table = p.table; planned = (record { states = _; made = L.made; closed = L.closed }, L.unsolved); room = (room_at p.words_len.0 (room (goal.at.reduce-requires c).Start), all (goal.at.reduce-requires c).Start); symbols_len = (L.values.size, p.words_len.1) }
 
-pub consistent_behind-requires : goal.consistent_behind-requires
-consistent_behind-requires c =
+pub consistent_behind-consistent-requires : goal.consistent_behind-consistent-requires
+consistent_behind-consistent-requires c =
     let G = solvable c in
-    record { rows_room = rows-room G.peeled.made.rows (all (goal.at.consistent_behind-requires c).Start) G.room G.sides; reduced = G.equations.reduced }
+    record { rows_room = rows-room G.peeled.made.rows (all (goal.at.consistent_behind-consistent-requires c).Start) G.room G.sides; reduced = G.equations.reduced }
 
 pub fill-requires : goal.fill-requires
 fill-requires c =
     let G = solvable (goal.at.fill-requires c).After-slice_known-7-1 in
-    record { table = c.requires.table; solvable = G; consistent = subst (ConsistentIs (behind (rows (goal.at.fill-requires c).Start).packed (rows (goal.at.fill-requires c).Start).steps c.reduce.new.words) c.reduce.new.bytes (rows (goal.at.fill-requires c).Start).rest (rows (goal.at.fill-requires c).Start).packed c.args.s.w) c.if-consistent_behind.true c.consistent_behind.ensures; states_len = c.requires.w_nonzero.1 }
+    record { table = c.requires.table; solvable = G; consistent = subst (ConsistentIs (behind (rows (goal.at.fill-requires c).Start).packed (rows (goal.at.fill-requires c).Start).steps c.reduce.new.words) c.reduce.new.bytes (rows (goal.at.fill-requires c).Start).rest (rows (goal.at.fill-requires c).Start).packed c.args.s.w) c.if-consistent.true c.consistent_behind-consistent.ensures; states_len = c.requires.w_nonzero.1 }
 
 pub clear_missing-requires : goal.clear_missing-requires
 clear_missing-requires c = c.requires.peeled.values.size ∙ ap (λ (n : ℕ). n * c.args.s.w) (sym c.requires.w_nonzero.1)
 
 pub returns : goal.returns
-returns c = by-rows_no (solvable (goal.at.returns c).After-slice_known-7-1) c.requires.w_nonzero.1 _ c.consistent_behind.ensures c.if-consistent_behind.false _ _ c.clear_missing.ensures c.clear_missing.auto.symbols c.clear_missing.auto.states
+returns c = by-rows_no (solvable (goal.at.returns c).After-slice_known-7-1) c.requires.w_nonzero.1 _ c.consistent_behind-consistent.ensures c.if-consistent.false _ _ c.clear_missing.ensures c.clear_missing.auto.symbols c.clear_missing.auto.states

@@ -18,7 +18,7 @@ reduce_next-requires c = record { fits = kept-fits c.loop-t.invariant.1.1 c.requ
 
 pub loop-t-preserved : goal.loop-t-preserved
 loop-t-preserved c =
-    let call = c.reduce_next in (omega arith, (call.ensures.reduced_where_2, kept_more c.loop-t.invariant.1.1 call.auto.rows call.auto.rhs call.ensures.same_solutions))
+    let call = c.reduce_next in (omega arith, (call.ensures.reduced_where_after, kept_more c.loop-t.invariant.1.1 call.auto.rows call.auto.rhs call.ensures.same_solutions))
 
 pub shape_of-rows : goal.shape_of-rows
 shape_of-rows c = c.loop-t.invariant.1.1.rows
@@ -27,4 +27,4 @@ pub shape_of-rhs : goal.shape_of-rhs
 shape_of-rhs c = c.loop-t.invariant.1.1.rhs
 
 pub returns : goal.returns
-returns c = record { same_solutions = c.loop-t.invariant.1.1.same; reduced_where_2 = c.loop-t.invariant.1.0 }
+returns c = record { same_solutions = c.loop-t.invariant.1.1.same; reduced_where_after = c.loop-t.invariant.1.0 }

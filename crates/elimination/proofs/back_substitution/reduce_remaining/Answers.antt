@@ -23,7 +23,7 @@ loop-j-preserved c =
     let call = c.reduce_row in
     record {
       up_to = omega arith;
-      reduced = call.ensures.reduced_where_2;
+      reduced = call.ensures.reduced_where_after;
       marked = marked_more _ _ _ call.ensures.row_marked inv.marked;
       kept = kept_more inv.kept call.auto.rows call.auto.rhs call.ensures.same_solutions;
     }

@@ -11,7 +11,7 @@ pub returns-then-done-r-eq0 : goal.returns-then-done-r-eq0
 returns-then-done-r-eq0 c =
     let pre = c.requires in
     let f : List ℕ = c.args.done.now in
-    let step = c.pivot_step.ensures in record { same_solutions = step_same _ _ _ _ _ _ _ _ step pre.r_lt_rows pre.fits.in_rows.within pre.fits.in_rhs; reduced_where_2 = step_where _ _ _ _ _ _ _ _ step pre.r_lt_rows pre.fits.in_rows.within pre.fits.in_rhs f pre.reduced_where; row_marked = row_marked f _ (le_trans pre.r_lt_rows (le_trans pre.fits.in_rows.few pre.reduced_where.long)) }
+    let step = c.pivot_step.ensures in record { same_solutions = step_same _ _ _ _ _ _ _ _ step pre.r_lt_rows pre.fits.in_rows.within pre.fits.in_rhs; reduced_where_after = step_where _ _ _ _ _ _ _ _ step pre.r_lt_rows pre.fits.in_rows.within pre.fits.in_rhs f pre.reduced_where; row_marked = row_marked f _ (le_trans pre.r_lt_rows (le_trans pre.fits.in_rows.few pre.reduced_where.long)) }
 
 pub returns-else-done-r-eq0 : goal.returns-else-done-r-eq0
-returns-else-done-r-eq0 c = record { same_solutions = same_refl; reduced_where_2 = c.requires.reduced_where; row_marked = record { here = c.if-done-r-eq0.false; kept = λ s z. z } }
+returns-else-done-r-eq0 c = record { same_solutions = same_refl; reduced_where_after = c.requires.reduced_where; row_marked = record { here = c.if-done-r-eq0.false; kept = λ s z. z } }

@@ -46,4 +46,4 @@ returns-then-bit_at c =
     let p : ℕ = a.v / 1024 in
     let inside : r < a.s.rows = omega arith in
     let off : test_bit (get_or a.masks.now (p / 64) 0) (p % 64) ≡ false = ne_eqb _ 1 c.if-mask-p-eq1.false in
-    let step = singleton_step a.masks.now l a.s.rows a.s.words r p inside (omega arith) c.requires.shared_masks off (sym c.bit_at.ensures ∙ c.if-bit_at.true) [] 0 in record { same_coefficients = coefficients_pivot_set l a.s.words r (p + 1); reduced_where_2 = step_where l [] (set l (pivot_at a.s.words r) (p + 1)) [] a.s.rows a.s.words 0 r step inside c.requires.fits_rows.within (omega arith) f c.requires.reduced_where }
+    let step = singleton_step a.masks.now l a.s.rows a.s.words r p inside (omega arith) c.requires.shared_masks off (sym c.bit_at.ensures ∙ c.if-bit_at.true) [] 0 in record { same_coefficients = coefficients_pivot_set l a.s.words r (p + 1); reduced_where_after = step_where l [] (set l (pivot_at a.s.words r) (p + 1)) [] a.s.rows a.s.words 0 r step inside c.requires.fits_rows.within (omega arith) f c.requires.reduced_where }

@@ -49,7 +49,7 @@ loop-g-smaller c = c.turn-g.ensures.continued.less
 pub loop-g-preserved : goal.loop-g-preserved
 loop-g-preserved c =
     let e = c.turn-g.ensures in
-    (e.xs_len_2, (e.hinted_2, e.continued.state _ _ c.loop-g.invariant.1.1))
+    (e.xs_len_after, (e.hinted_after, e.continued.state _ _ c.loop-g.invariant.1.1))
 
 pub shape_of-plan : goal.shape_of-plan
 shape_of-plan c = c.loop-g.invariant.1.1.made.size ∙ sym c.requires.opened.size

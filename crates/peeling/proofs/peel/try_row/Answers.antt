@@ -26,7 +26,7 @@ single-i-requires c =
 
 pub returns-then-i-n : goal.returns-then-i-n
 returns-then-i-n c =
-    record { xs_len_2 = c.of_row-n.ensures.size; continued = record { state = λ block states S. state_late S _ _; less = omega (arith, c.requires.r_bound.1) } }
+    record { xs_len_after = c.of_row-n.ensures.size; continued = record { state = λ block states S. state_late S _ _; less = omega (arith, c.requires.r_bound.1) } }
 
 pub overflow_add-r : goal.overflow_add-r
 overflow_add-r c = omega (arith, row_lt (goal.at.overflow_add-r c).Start, c.requires.reached.state.made.rows)
@@ -41,7 +41,7 @@ bounds-plan-r c =
 
 pub returns-then-plan-r-ne0 : goal.returns-then-plan-r-ne0
 returns-then-plan-r-ne0 c =
-    record { xs_len_2 = c.of_row-n.ensures.size; continued = record { state = λ block states S. state_late S _ _; less = omega (arith, c.requires.r_bound.1) } }
+    record { xs_len_after = c.of_row-n.ensures.size; continued = record { state = λ block states S. state_late S _ _; less = omega (arith, c.requires.r_bound.1) } }
 
 pub offset_bounds-xs-i : goal.offset_bounds-xs-i
 offset_bounds-xs-i c = omega (arith, c.of_row-n.ensures.few, c.of_row-n.ensures.size, c.if-i-n.false)
@@ -84,7 +84,7 @@ overflow_sub-result c = omega (arith, c.requires.r_bound.1)
 pub returns : goal.returns
 returns c =
     record {
-      xs_len_2 = simp length-set c.of_row-n.ensures.size;
+      xs_len_after = simp length-set c.of_row-n.ensures.size;
       continued = record {
         state = λ block states S. state_settled S c.of_row-n.ensures (row_lt (goal.at.returns c).Start) c.if-i-n.false c.single-i.ensures c.if-plan-r-ne0.false _ c.wide.ensures.0 _ _ _ c.settle.ensures.plan_after c.settle.ensures.replaced
             c.early_steps-early.ensures;

@@ -16,4 +16,4 @@ close-requires c =
 pub returns : goal.returns
 returns c =
     let a = c.advance-h.ensures in
-    record { xs_len_2 = a.xs_len_2; hinted_2 = record { counts-size = c.close.ensures.0; ready_size = c.close.ensures.1 }; continued = a.continued }
+    record { xs_len_after = a.xs_len_after; hinted_after = record { counts-size = c.close.ensures.0; ready_size = c.close.ensures.1 }; continued = a.continued }

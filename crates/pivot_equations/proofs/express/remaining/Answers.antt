@@ -26,7 +26,7 @@ pub loop-j-preserved : goal.loop-j-preserved
 loop-j-preserved c =
     let i = c.loop-j.invariant in
     let r = c.remaining_row-t.ensures in
-    record { size = r.xs_len_2; to = omega arith; next = r.value; expressed = r.rest_to_2; steps = below_more i.steps r.same_below }
+    record { size = r.xs_len_after; to = omega arith; next = r.value; expressed = r.rest_to_next; steps = below_more i.steps r.same_below }
 
 pub shape_of-words : goal.shape_of-words
 shape_of-words c = c.loop-j.invariant.steps.size

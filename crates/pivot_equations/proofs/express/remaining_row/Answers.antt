@@ -19,7 +19,7 @@ pub returns-then-plan-j-ne0 : goal.returns-then-plan-j-ne0
 returns-then-plan-j-ne0 c =
     let k : Checks = checks c.args.s in
     let used : used_by c.args.plan.now c.args.j ≢ 0 = λ e. omega arith in
-    record { xs_len_2 = c.requires.xs_len; value = omega (arith, unused-none c.args.plan.now c.args.j used); rest_to_2 = rest_skip k c.args.plan.now c.args.words.now c.args.r.packed c.args.r.early c.args.r.steps c.args.j used c.requires.rest_to; same_below = below_none }
+    record { xs_len_after = c.requires.xs_len; value = omega (arith, unused-none c.args.plan.now c.args.j used); rest_to_next = rest_skip k c.args.plan.now c.args.words.now c.args.r.packed c.args.r.early c.args.r.steps c.args.j used c.requires.rest_to; same_below = below_none }
 
 pub row-requires : goal.row-requires
 row-requires c =
@@ -43,4 +43,4 @@ returns c =
     let unused : used_by c.args.plan.now c.args.j ≡ 0 = omega arith in
     let e = c.requires.j_bound.1 in
     let r = c.row.ensures in
-    record { xs_len_2 = r.xs_len_2; value = omega (arith, unused-one c.args.plan.now c.args.j unused); rest_to_2 = rest_more c.requires.planned.made c.requires.planned.closed c.requires.unsolved c.requires.places c.args.j e unused r.row_is c.requires.rest_to; same_below = below-only r.row_is.only (omega arith) }
+    record { xs_len_after = r.xs_len_after; value = omega (arith, unused-one c.args.plan.now c.args.j unused); rest_to_next = rest_more c.requires.planned.made c.requires.planned.closed c.requires.unsolved c.requires.places c.args.j e unused r.row_is c.requires.rest_to; same_below = below-only r.row_is.only (omega arith) }

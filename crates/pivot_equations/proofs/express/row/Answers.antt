@@ -95,4 +95,4 @@ shape_of-words c = omega (arith, c.loop-i.invariant.1.1.only.size)
 pub returns : goal.returns
 returns c =
     let z = zeroed (goal.at.returns c).After-clear_words in
-    record { xs_len_2 = c.of_row-n.ensures.size; row_is = row_is z.only c.requires.reads_all c.of_row-n.ensures c.loop-i.invariant.1.1 (omega arith) }
+    record { xs_len_after = c.of_row-n.ensures.size; row_is = row_is z.only c.requires.reads_all c.of_row-n.ensures c.loop-i.invariant.1.1 (omega arith) }

@@ -64,7 +64,7 @@ loop-t-preserved c =
     let i = l.invariant in
     let r = c.row.ensures in
     let h : l.t < c.args.r.steps = omega arith in
-    record { size = r.xs_len_2; from = omega (arith, i.from); to = omega arith; expressed = steps-more p.made p.closed (places (goal.at.loop-t-preserved c).Start i) i.from h r.row_is i.expressed; behind = from_more i.behind r.row_is.only h }
+    record { size = r.xs_len_after; from = omega (arith, i.from); to = omega arith; expressed = steps-more p.made p.closed (places (goal.at.loop-t-preserved c).Start i) i.from h r.row_is i.expressed; behind = from_more i.behind r.row_is.only h }
 
 pub shape_of-words : goal.shape_of-words
 shape_of-words c = c.loop-t.invariant.behind.size

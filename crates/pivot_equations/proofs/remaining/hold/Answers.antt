@@ -18,7 +18,7 @@ pub returns-then-not-passes : goal.returns-then-not-passes
 returns-then-not-passes c = let a = c.args in pass_not (checks a.s) a.s.w a.plan.now a.symbols.now c.loop-j.j c.passes.result (omega (arith, layout-rows c.requires.table)) c.passes.ensures.pass_is (ap not c.if-not-passes.true)
 
 pub loop-j-preserved : goal.loop-j-preserved
-loop-j-preserved c = let a = c.args in (omega arith, c.passes.ensures.xs_len_2, pass_more (checks a.s) a.s.w a.plan.now a.symbols.now c.loop-j.j c.passes.result c.loop-j.invariant.2 c.passes.ensures.pass_is (ap not c.if-not-passes.false))
+loop-j-preserved c = let a = c.args in (omega arith, c.passes.ensures.xs_len_after, pass_more (checks a.s) a.s.w a.plan.now a.symbols.now c.loop-j.j c.passes.result c.loop-j.invariant.2 c.passes.ensures.pass_is (ap not c.if-not-passes.false))
 
 pub returns : goal.returns
 returns c = λ x b h. c.loop-j.invariant.2 x b (omega (arith, layout-rows c.requires.table))

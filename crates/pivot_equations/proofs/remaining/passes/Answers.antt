@@ -21,4 +21,4 @@ pub cancels-requires : goal.cancels-requires
 cancels-requires c = row_inside c.of_row-n.ensures c.requires.plan_len.1
 
 pub returns : goal.returns
-returns c = let a = c.args in record { xs_len_2 = c.of_row-n.ensures.size; pass_is = pass_row a.s.w a.plan.now a.symbols.now c.of_row-n.ensures c.if-plan-j-ne0.false c.cancels.result c.cancels.ensures }
+returns c = let a = c.args in record { xs_len_after = c.of_row-n.ensures.size; pass_is = pass_row a.s.w a.plan.now a.symbols.now c.of_row-n.ensures c.if-plan-j-ne0.false c.cancels.result c.cancels.ensures }

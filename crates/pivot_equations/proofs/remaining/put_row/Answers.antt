@@ -16,7 +16,7 @@ pub bounds-plan-j : goal.bounds-plan-j
 bounds-plan-j c = omega (arith, few-rows c.requires.table)
 
 pub returns-then-plan-j-ne0 : goal.returns-then-plan-j-ne0
-returns-then-plan-j-ne0 c = record { xs_len_2 = c.requires.xs_len.0; sides_to_2 = sides-used _ _ _ _ c.requires.sides_to c.if-plan-j-ne0.true }
+returns-then-plan-j-ne0 c = record { xs_len_after = c.requires.xs_len.0; sides_to_next = sides-used _ _ _ _ c.requires.sides_to c.if-plan-j-ne0.true }
 
 pub of_row-n-requires : goal.of_row-n-requires
 of_row-n-requires c = let t = c.requires.table in record { table = t; j_bound = row-known t _ c.requires.xs_len.1; xs_len = c.requires.xs_len.0 }
@@ -28,4 +28,4 @@ pub overflow_add-result : goal.overflow_add-result
 overflow_add-result c = omega (arith, few-rows c.requires.table, c.requires.sides_to.count, unused_le c.args.plan.now c.args.j, c.requires.xs_len.1)
 
 pub returns : goal.returns
-returns c = record { xs_len_2 = c.of_row-n.ensures.size; sides_to_2 = sides-put _ _ _ _ c.requires.sides_to c.if-plan-j-ne0.false c.of_row-n.ensures c.put_sum.ensures }
+returns c = record { xs_len_after = c.of_row-n.ensures.size; sides_to_next = sides-put _ _ _ _ c.requires.sides_to c.if-plan-j-ne0.false c.of_row-n.ensures c.put_sum.ensures }

@@ -14,7 +14,7 @@ pub put_row-i-requires : goal.put_row-i-requires
 put_row-i-requires c = record { table = c.requires.table; xs_len = (c.loop-j.invariant.1, omega (arith, layout-rows c.requires.table)); plan_len = c.requires.plan_len; sides_to = c.loop-j.invariant.2 }
 
 pub loop-j-preserved : goal.loop-j-preserved
-loop-j-preserved c = (omega arith, c.put_row-i.ensures.xs_len_2, c.put_row-i.ensures.sides_to_2)
+loop-j-preserved c = (omega arith, c.put_row-i.ensures.xs_len_after, c.put_row-i.ensures.sides_to_next)
 
 pub shape_of-bytes : goal.shape_of-bytes
 shape_of-bytes c = c.loop-j.invariant.2.size ∙ sym c.requires.bytes_len

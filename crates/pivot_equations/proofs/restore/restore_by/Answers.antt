@@ -16,4 +16,4 @@ pub restore-requires : goal.restore-requires
 restore-requires c = record { w_in_bounds = omega (arith, slot _ _ c.args.s.w c.requires.xs_len.1.1, c.requires.symbols_len); inside = others_inside c.of_row-n.ensures c.others-k.ensures c.requires.symbols_len; by_index = λ i h. (c.others-k.ensures.each i h).0 }
 
 pub returns : goal.returns
-returns c = record { xs_len_2 = c.others-k.ensures.size ∙ c.of_row-n.ensures.size; replaced = replaced_by (λ b. others-sum c.of_row-n.ensures c.others-k.ensures (byte_at c.args.s.w c.args.symbols.now b)) c.restore.ensures }
+returns c = record { xs_len_after = c.others-k.ensures.size ∙ c.of_row-n.ensures.size; replaced = replaced_by (λ b. others-sum c.of_row-n.ensures c.others-k.ensures (byte_at c.args.s.w c.args.symbols.now b)) c.restore.ensures }

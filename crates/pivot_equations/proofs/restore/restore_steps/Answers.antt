@@ -50,7 +50,7 @@ pub loop-t-preserved : goal.loop-t-preserved
 loop-t-preserved c =
     let i = c.loop-t.invariant in
     let r = c.restore_by.ensures in
-    record { size = r.xs_len_2; from = omega (arith, i.from); to = omega arith; restored = restored-more _ _ c.requires.planned.made i.from (omega arith) i.restored r.replaced }
+    record { size = r.xs_len_after; from = omega (arith, i.from); to = omega arith; restored = restored-more _ _ c.requires.planned.made i.from (omega arith) i.restored r.replaced }
 
 pub shape_of-symbols : goal.shape_of-symbols
 shape_of-symbols c = c.loop-t.invariant.restored.size
