@@ -12,13 +12,9 @@ use Rattle.block.proofs.Symbols.{part_is, same_is, stores}
 use Rattle.block.proofs.Taking.{sent}
 use Rattle.block.proofs.Taking.{at-wrong, at_right, apart}
 use Rattle.block.proofs.take.take_symbol.Goals as goal
-use Rattle.block.proofs.take.take_symbol.Goals.{After-of, In-Heard, In-Missing}
+use Rattle.block.proofs.take.take_symbol.Goals.{In-Heard, In-Missing}
 
 -- the status of the position, which is not idle, as the code found it
-status_is : (c : After-of) → let a = c.args in status_of a.b a.marks.now a.position ≡ status_as c.of.result
-status_is c =
-    sent c.args.b c.args.marks.now c.args.position c.requires.position_in_bounds.1 ∙ sym c.of.ensures
-
 is-heard : (c : In-Heard) → let a = c.args in status_of a.b a.marks.now a.position ≡ heard
 is-heard c = (sent c.args.b c.args.marks.now c.args.position c.requires.position_in_bounds.1 ∙ sym c.of.ensures) ∙ ap status_as c.in-Heard.is
 

@@ -10,13 +10,10 @@ use native.Mathlib.Omega.{arith}
 use Rattle.decoder.proofs.OutcomeLaws.{decoded}
 use Rattle.decoder.proofs.Assembly.{peeled-here, outcome-same}
 use Rattle.decoder.proofs.solve.solve.Goals as goal
-use Rattle.decoder.proofs.solve.solve.Goals.{After-lay, After-rows_to-rows, Start}
+use Rattle.decoder.proofs.solve.solve.Goals.{After-lay, After-rows_to-rows}
 
 -- the shape that peeling and what comes after it go by
 module _ (c : After-rows_to-rows) where
-  abbrev start : Start
-  start = c.before.before.before.before.before.before.before.before
-
   abbrev shape : Shape
   shape = record { number = c.args.number; layout = c.layout_of-l.result; w = c.args.w; fill = c.args.fill; rows = c.rows_to-rows.result }
 
