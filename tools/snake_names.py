@@ -4,7 +4,8 @@
 A definition is in snake case: sameSymbol becomes same_symbol. In a lemma's name a dash joins two names, and a plain word is added with _:
 all-same-iff becomes all_same_iff, and length-take stays, if length and take are names. Where a lemma would get its definition's name, it gets _lem.
 It goes by whole words, in the code of .antt, .rt and must-fail files, in code spans of comments and in code spans of the documents on what stands today.
-Names of src/, exported names, strings, inputs and outputs stay. What it turned is in docs/names.tsv: old, a tab, new.
+Names of src/, exported names, strings, inputs and outputs stay. It writes what it turned to docs/names.tsv: old, a tab, new. That page has since been
+made anew, by crate and with the names that port.py turned: crate, old, new.
 """
 
 import collections
