@@ -6,4 +6,4 @@ use Rattle.elimination.proofs.weights.lightest_between.Goals.{then-weight-best+e
 
 pub loop-j-preserved : goal.loop-j-preserved
 loop-j-preserved c =
-    λ n to best now. elim c.if-weight-best.branch [ then-weight-best+else-weight-enough w ↦ rw w.best-is (omega arith) | else-weight-best w ↦ rw w.best-is (c.loop-j.invariant n to best (rw w.best-is at now)) ]
+    λ best now. elim c.if-weight-best.branch [ then-weight-best+else-weight-enough w ↦ rw w.best-is (omega arith) | else-weight-best w ↦ rw w.best-is (c.loop-j.invariant best (rw w.best-is at now)) ]
