@@ -11,7 +11,7 @@ use lib.Seq.{get_or-set_same, get_or-set_other}
 use Rattle.std.proofs.Common.{Option, Some, None}
 use Rattle.elimination.proofs.Order.{eq_or_ne}
 use Rattle.algebra.proofs.Codeword.{slot}
-use Rattle.elimination.specs.Bits.{row_bit, LowestIs}
+use Rattle.elimination.specs.Bits.{row_bit}
 use Rattle.elimination.specs.Column.{add_row_where, has_pivot}
 use Rattle.elimination.proofs.ColumnLaws.{has_pivot_own}
 use Rattle.elimination.specs.System.{SameSolutions}
@@ -72,11 +72,6 @@ row_marked f r h = record { here = one; kept = λ s z. ⊎_elim (λ e. absurd (o
   where
     one : get_or (set f r true) r false ≢ false
     one z = true≢false (sym (get_or-set_same f r true false h) ∙ z)
-
--- the lowest unknown is one
-pub pivot_lowest : (b : ℕ → Bool) (n : ℕ) (f : Option ℕ) → LowestIs b n f → PivotIs b n f
-pivot_lowest b n (Some p) h = (h.0, h.1.0)
-pivot_lowest b n None h = h
 
 -- one row more in order
 pub marked_more : (f g : List Bool) (s : ℕ) → RowMarked f g s → ((i : ℕ) → i < s → get_or f i false ≡ false → ⊥) → (i : ℕ) → i < s + 1 → get_or g i false ≡ false → ⊥

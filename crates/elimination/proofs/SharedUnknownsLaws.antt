@@ -7,8 +7,7 @@ use mathlib.Core.List.{List}
 use Prim.Native.Nat.{ℕ, ◌+◌, ◌*◌, ◌/◌, ◌%◌, ◌≤◌, ◌<◌}
 use native.Mathlib.Nat.{eq-or-lt_of_le}
 use native.Mathlib.Omega.{arith}
-use lib.ListN.{length, get_or, set}
-use lib.Seq.{get_or-set_same, get_or-set_other}
+use lib.ListN.{get_or, set}
 use lib.Bits.{bit_or, bit_and}
 use Rattle.std.proofs.Common.{Some}
 use Rattle.elimination.proofs.Order.{eq_or_ne}
@@ -77,14 +76,6 @@ module _ (l : List ℕ) (words k n seen shared : ℕ) where
       (λ lj. old b i j li lj ne was on)
       (eq-or-lt_of_le (let g : j ≤ n = omega arith in g)))
       (eq-or-lt_of_le (let g : i ≤ n = omega arith in g))
-
--- one word more
-pub masks_more : (f l : List ℕ) (m words k v : ℕ) → k < length f → SharedMasks f l m words k → SharedMask v l m words k → SharedMasks (set f k v) l m words (k + 1)
-masks_more f l m words k v fit s here i h b p q hp hq ne off on = ⊎_elim
-    (λ e. let w : test_bit v b ≡ false = ap (λ (x : ℕ). test_bit x b) (sym (ap (λ (x : ℕ). get_or (set f k v) x 0) e ∙ get_or-set_same f k v 0 fit)) ∙ off in
-    ap (λ (x : ℕ). test_bit (get_or l (q * (words + 1) + x) 0) b) e ∙ here b p q hp hq ne w (ap (λ (x : ℕ). test_bit (get_or l (p * (words + 1) + x) 0) b) (sym e) ∙ on))
-    (λ lt. s i lt b p q hp hq ne (ap (λ (x : ℕ). test_bit x b) (sym (get_or-set_other f k i v 0 (λ e. omega arith))) ∙ off) on)
-    (eq-or-lt_of_le (let g : i ≤ k = omega arith in g))
 
 -- ---- pivot words take no part
 

@@ -1,20 +1,10 @@
 -- `elimination::system::System::clear_active` meets its contract. The invariant: the solutions are those of the start.
 -- Assumes nothing.
-use mathlib.Core.Path.{sym}
 use native.Mathlib.Omega.{arith}
-use Rattle.elimination.proofs.KeptLaws.{kept_refl, kept_trans}
+use Rattle.elimination.proofs.KeptLaws.{kept_trans}
 use Rattle.elimination.proofs.SystemLaws.{add_same}
 use Rattle.elimination.proofs.system.System.clear_active.Goals as goal
 use Rattle.elimination.proofs.system.System.clear_active.Goals.{then-j-r, else-j-r}
-
-pub loop-i-init : goal.loop-i-init
-loop-i-init c = (omega arith, kept_refl)
-
-pub next_active-requires : goal.next_active-requires
-next_active-requires c = rw c.loop-i.invariant.1.buffers.shape c.requires.0
-
-pub add_row-requires : goal.add_row-requires
-add_row-requires c = record { r_lt_rows = (rw c.loop-i.invariant.1.buffers.shape c.requires.1, c.in-Some.ensures.1.1); r_nonzero = λ e. c.if-j-r.false (sym e) }
 
 pub loop-i-preserved : goal.loop-i-preserved
 loop-i-preserved c =

@@ -13,14 +13,8 @@ pub loop-j-init : goal.loop-j-init
 unfolding add_row_where
 loop-j-init c = record { up_to = omega arith; buffers = buffers_refl; rows = refl; rhs = refl }
 
-pub next_with_pivot-requires : goal.next_with_pivot-requires
-next_with_pivot-requires c = rw c.loop-j.invariant.buffers.shape c.requires.0
-
-pub add_row-requires : goal.add_row-requires
-add_row-requires c = let next = c.in-Some.ensures in record { r_lt_rows = (rw c.loop-j.invariant.buffers.shape c.requires.1, next.1.0); r_nonzero = has_pivot_ne _ _ _ _ _ next.1.1.0 }
-
-pub loop-j-smaller : goal.loop-j-smaller
-loop-j-smaller c = let inside = rw c.loop-j.invariant.buffers.shape at c.in-Some.ensures.1.0 in omega (arith, inside, c.in-Some.ensures.0)
+pub add_row-requires-clause-r_nonzero : goal.add_row-requires-clause-r_nonzero
+add_row-requires-clause-r_nonzero c = has_pivot_ne _ _ _ _ _ c.in-Some.ensures.1.1.0
 
 pub loop-j-preserved : goal.loop-j-preserved
 loop-j-preserved c =

@@ -1,23 +1,16 @@
 -- `elimination::system::System::reduce_row` meets its contract.
 -- Assumes nothing.
-use native.Mathlib.Nat.{le_trans}
-use mathlib.Core.Bool.{true≢false}
-use mathlib.Core.Path.{sym, ◌∙◌}
-use Rattle.elimination.proofs.KeptLaws.{kept_refl}
-use Rattle.elimination.proofs.PivotStepLaws.{step_same, step_where, row_marked}
+use Rattle.elimination.proofs.PivotStepLaws.{step_same, step_where}
 use Rattle.elimination.proofs.system.System.reduce_row.Goals as goal
 
-pub returns-then-not-done-r : goal.returns-then-not-done-r
-returns-then-not-done-r c =
-    let pre = c.requires in
-    let f = c.args.done.now in
+pub returns-then-not-done-r-clause-kept : goal.returns-then-not-done-r-clause-kept
+returns-then-not-done-r-clause-kept c =
     let step = c.pivot_step.ensures in
     let fits = c.args.self.now.fits in
-    record {
-      kept = record { buffers = step.buffers; same = step_same _ _ _ _ _ _ _ _ step.step pre.r_lt_rows fits.in_rows.within fits.in_rhs };
-      reduced_where_after = rw step.buffers.shape (step_where _ _ _ _ _ _ _ _ step.step pre.r_lt_rows fits.in_rows.within fits.in_rhs f pre.reduced_where);
-      row_marked = row_marked f _ (le_trans pre.r_lt_rows (le_trans fits.in_rows.few pre.reduced_where.long));
-    }
+    record { buffers = step.buffers; same = step_same _ _ _ _ _ _ _ _ step.step c.requires.r_lt_rows fits.in_rows.within fits.in_rhs }
 
-pub returns-else-not-done-r : goal.returns-else-not-done-r
-returns-else-not-done-r c = record { kept = kept_refl; reduced_where_after = c.requires.reduced_where; row_marked = record { here = λ e. true≢false (sym c.if-not-done-r.false ∙ e); kept = λ s z. z } }
+pub returns-then-not-done-r-clause-reduced_where_after : goal.returns-then-not-done-r-clause-reduced_where_after
+returns-then-not-done-r-clause-reduced_where_after c =
+    let step = c.pivot_step.ensures in
+    let fits = c.args.self.now.fits in
+    rw step.buffers.shape (step_where _ _ _ _ _ _ _ _ step.step c.requires.r_lt_rows fits.in_rows.within fits.in_rhs c.args.done.now c.requires.reduced_where)

@@ -1,11 +1,8 @@
 -- `elimination::system::System::set_singletons` meets its contract.
 -- Assumes nothing.
-use Rattle.elimination.proofs.KeptLaws.{kept_refl, kept_trans}
+use Rattle.elimination.proofs.KeptLaws.{kept_trans}
 use Rattle.elimination.proofs.SharedUnknownsLaws.{coefficients_masks}
 use Rattle.elimination.proofs.system.System.set_singletons.Goals as goal
-
-pub loop-step-init : goal.loop-step-init
-loop-step-init c = record { kept = kept_refl; shared = c.shared_unknowns.ensures; reduced = c.requires }
 
 pub loop-step-preserved : goal.loop-step-preserved
 loop-step-preserved c =

