@@ -12,7 +12,7 @@ use borrow.Author.Tests.{eq-eqb, ne_eqb}
 use lib.Dec.{eqb}
 use lib.ListN.{length, get_or}
 use Rattle.algebra.specs.Sums.{◌⊕◌}
-use Rattle.elimination.proofs.Order.{lt_or_le}
+use Rattle.std.proofs.lemmas.Bool.{cases_lt}
 use Rattle.algebra.proofs.Codeword.{slot}
 use Rattle.buffers.specs.Parts.{added, Apart}
 use Rattle.buffers.proofs.Added.{added-length, added_out, added_above, added_in}
@@ -42,7 +42,7 @@ length-add_row_where h l r w len (suc j) =
 pub rows_beside : (a b w len : ℕ) → a ≢ b → len ≤ w → Apart (b * w) (a * w) len
 rows_beside a b w len ne small = record {
   either = ⊎_elim (λ lt. inl (omega (arith, slot a b w lt)))
-      (λ ge. ⊎_elim (λ q. absurd (ne (sym q))) (λ gt. inr (omega (arith, slot b a w gt))) (eq-or-lt_of_le ge)) (lt_or_le a b);
+      (λ ge. ⊎_elim (λ q. absurd (ne (sym q))) (λ gt. inr (omega (arith, slot b a w gt))) (eq-or-lt_of_le ge)) (cases_lt a b);
 }
 
 -- so they have no index in common
