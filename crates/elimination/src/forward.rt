@@ -5,7 +5,7 @@ ghost use Rattle.elimination.specs.Kept.{Kept};
 
 use crate::active::Active;
 use crate::system::System;
-use crate::weights::{lightest_row, sum_weight};
+use crate::weights::lightest_row;
 use crate::{MAX_ROWS, bits};
 
 // A step's row and pivot. A row without unknowns has 0 in place of a pivot.
@@ -45,7 +45,7 @@ impl<'a> System<'a> {
                 place = Some(i);
             } else {
                 self.add_row(r, j);
-                active.weights[j] = sum_weight(active.weights[j], active.weights[r]);
+                active.weigh_sum(r, j);
             }
             from = i + 1;
         }

@@ -14,7 +14,7 @@ pub struct System<'a> {
 }
 
 impl<'a> System<'a> {
-    ghost use Rattle.std.specs.Prelude.{◌≡◌, ◌≢◌, ◌+◌, ◌*◌, ◌/◌, ◌≤◌, ◌<◌};
+    ghost use Rattle.std.specs.Prelude.{◌≡◌, ◌≢◌, ◌+◌, ◌*◌, ◌/◌, ◌<◌};
     ghost use Rattle.buffers.specs.Parts.{added};
     ghost use Rattle.elimination.specs.Bits.{row_bit, LowestIs};
     ghost use Rattle.elimination.specs.Column.{add_row_where, has_pivot, FirstFrom};
