@@ -6,7 +6,8 @@ use crate::MAX_ROWS;
 use crate::system::System;
 use crate::weights::{RETIRED, row_weight, sum_weight};
 
-// The weight of each row, and the list of the active ones, in any order. A row that loses its last unknown stays in it.
+// The weight of each row, and the list of the active ones, in any order. A row that loses its last unknown stays in it. The list is an array with a
+// count, since there is no heap.
 #[derive(Drop)]
 pub struct Active {
     pub weights: [u16; MAX_ROWS],

@@ -3,7 +3,7 @@
 ghost use Rattle.std.specs.Prelude.{◌*◌, ◌≤◌, ◌<◌, length, IfSome};
 ghost use Rattle.elimination.specs.Fits.{max_words};
 
-// In place of a weight. Options for the weights were tried: they make elimination 3 to 8 % slower than the speeds in README.
+// In place of a weight. Options were tried in place of it: they take twice the memory and make elimination up to 10 % slower.
 pub const RETIRED: u16 = u16::MAX;
 
 // The number of unknowns of a row.
