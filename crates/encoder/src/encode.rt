@@ -6,16 +6,11 @@ ghost use Rattle.encoder.specs.Encode.{encode_refusal, parity_of, encoded_as};
 ghost use Rattle.encoder.specs.inner.Steps.{Sized, Done};
 ghost use Rattle.symbol_sums.specs.Gather.{max_positions};
 
-use crate::positions::CheckRows;
+use crate::positions;
+use crate::positions::{CheckRows, TABLE_SIZE};
 use ccsds::checks;
+use ccsds::refusal::Refusal;
 use symbol_sums::MAX_POSITIONS;
-
-// What encode answers: that it is done, or the number of the refusal.
-#[derive(Clone, Copy)]
-pub enum Encoded {
-    Done,
-    Refused(u8),
-}
 
 // Parity symbol i * a + r.
 fn put_row(
@@ -65,14 +60,23 @@ fn encode_sized(rows: &CheckRows, info: &[u8], parity: &mut [u8])
 }
 
 // The parity bytes of the fill * w information bytes, into a buffer of m * w bytes; or a refusal, which changes nothing.
-pub fn encode(code: usize, w: usize, fill: usize, info: &[u8], parity: &mut [u8]) -> Encoded
+pub fn encode(
+    code: usize,
+    w: usize,
+    fill: usize,
+    info: &[u8],
+    parity: &mut [u8],
+) -> Result<(), Refusal>
     ensures answer { encoded_as result ≡ outcome (encode_refusal code w fill (length info.now) (length parity.old)) tt }
     ensures parity { parity.new ≡ afterwards (encode_refusal code w fill (length info.now) (length parity.old)) (parity_of (code_of code) w fill info.now) parity.old }
 {
-    let refusal = checks::check_encoder(code, w, fill, info.len(), parity.len());
-    if refusal != 0 {
-        return Encoded::Refused(refusal);
-    }
-    encode_sized(&CheckRows::of(code, w, fill), info, parity);
-    Encoded::Done
+    checks::check_encoder(code, w, fill, info.len(), parity.len())?;
+    let mut table = [0u16; TABLE_SIZE];
+    let shape = positions::lay(code, w, fill, &mut table);
+    let rows = CheckRows {
+        shape,
+        table: &table,
+    };
+    encode_sized(&rows, info, parity);
+    Ok(())
 }

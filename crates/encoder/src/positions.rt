@@ -41,38 +41,16 @@ pub struct Shape {
     pub rows: usize,
 }
 
-// The check rows of a block: its shape, and the table by class, laid out as far as positions are sent.
-#[derive(Drop)]
-pub struct CheckRows {
+// The check rows of a block: its shape, and the table by class, laid out as far as positions are sent. The table is lent: an array that moved
+// with it would be copied, on a stack that has no room for two.
+#[derive(Clone, Copy)]
+pub struct CheckRows<'a> {
     pub shape: Shape,
-    pub table: [u16; TABLE_SIZE],
-    pub ghost laid: { Table shape table },
+    pub table: &'a [u16; TABLE_SIZE],
+    pub ghost laid: { Table shape table.now },
 }
 
-impl CheckRows {
-    // Those of a code, with symbols of w bytes, of which the first `fill` of the information symbols are sent.
-    pub fn of(number: usize, w: usize, fill: usize) -> CheckRows
-        requires known { Known number × (fill ≤ (code_of number).k) }
-        ensures number { result.shape.number ≡ number }
-        ensures w { result.shape.w ≡ w }
-        ensures fill { result.shape.fill ≡ fill }
-    {
-        let layout = tables::layout_of(number);
-        let shape = Shape {
-            number,
-            layout,
-            w,
-            fill,
-            rows: rows_to(fill, layout.q),
-        };
-        let mut rows = CheckRows {
-            shape,
-            table: [0u16; TABLE_SIZE],
-        };
-        lay(shape, &mut rows.table);
-        rows
-    }
-
+impl CheckRows<'_> {
     // The positions of check row i * a + r in the table rows that are laid out, at the front of xs; answers how many. Whole groups of 16 are made,
     // whatever lies behind the entries: the vector instructions that this is compiled to then have no rest, which would be a branch that can't be
     // foreseen.
@@ -233,15 +211,26 @@ fn count_whole(s: Shape, r: usize, table: &mut [u16; TABLE_SIZE])
     table[WHOLE + r] = e as u16;
 }
 
-// Lays out the table of a code, as far as positions are sent.
-fn lay(s: Shape, table: &mut [u16; TABLE_SIZE])
-    requires shaped { Shaped s × (table.old ≡ replicate table_size 0) }
-    ensures { Table s table.new }
+// Lays out the table of a code, as far as positions are sent: the first `fill` information symbols, and all parity symbols. Answers the block's shape.
+pub fn lay(number: usize, w: usize, fill: usize, table: &mut [u16; TABLE_SIZE]) -> Shape
+    requires known { Known number × (fill ≤ (code_of number).k) }
+    requires blank { table.old ≡ replicate table_size 0 }
+    ensures laid { Table result table.new }
+    ensures numbers { (result.number ≡ number) × (result.w ≡ w) × (result.fill ≡ fill) }
 {
+    let layout = tables::layout_of(number);
+    let s = Shape {
+        number,
+        layout,
+        w,
+        fill,
+        rows: rows_to(fill, layout.q),
+    };
     enter_rows(s, table);
-    for r in 0..s.layout.a {
+    for r in 0..layout.a {
         count_whole(s, r, table);
     }
+    s
 }
 
 // A position i steps further in its table row, which ends at `end`; after the last position comes the first. Any numbers will do, so that it
