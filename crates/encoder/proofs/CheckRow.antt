@@ -10,10 +10,10 @@ use Rattle.ccsds.specs.Codes.{Params}
 use Rattle.ccsds.specs.Tables.{code_of}
 use Rattle.ccsds.proofs.Valid.{Valid, valid_of, some-a}
 use Rattle.encoder.specs.declared.positions.Shape.{Shape}
-use Rattle.encoder.specs.inner.Positions.{class_of, positions, entries_of, first_at, end_at, count_at, whole_at, EntryBounds, WithinRow, Whole, Table, Entries, max_classes}
-use Rattle.encoder.proofs.Touched.{quotient_lt, row-each, entry_fits}
-use Rattle.encoder.proofs.ClassTable.{entries-few}
-use Rattle.encoder.proofs.Sent.{entries-to}
+use Rattle.encoder.specs.inner.Positions.{class_of, positions, entries_of, first_at, end_at, count_at, whole_at, EntryBounds, WithinRow, Whole, Table, Entries, Kept, max_classes}
+use Rattle.encoder.proofs.Touched.{row_lt', quotient_lt, row-each, entry_fits}
+use Rattle.encoder.proofs.ClassTable.{entries-few, class_room}
+use Rattle.encoder.proofs.Sent.{entries-to, entries_lt, kept_all}
 
 -- of the first e elements, those before n are f's
 pub record EntriesTo (f : ℕ → ℕ) (n e : ℕ) (xs : List ℕ) : Type 0 where
@@ -37,7 +37,13 @@ module _ {s : Shape} {t : List ℕ} (T : Table s t) {r : ℕ} (hr : r < (code_of
   v = valid_of _ T.shaped.known
 
   pub class-lt : r < max_classes
-  class-lt = omega (arith, T.laid.few.classes)
+  class-lt = (class_room T.laid hr).0
+
+  -- its number, as the layout has it
+  pub number : (i : ℕ) → i < code.q → (i * s.layout.a + r ≡ i * code.a + r) × (i * s.layout.a + r < code.m)
+  number i hi =
+      let e : i * s.layout.a + r ≡ i * code.a + r = ap (λ (a : ℕ). i * a + r) T.shaped.given.a in
+      (e, omega (arith, e, row_lt' code v r i hr hi))
 
   -- a table row has no more positions than there are check rows
   pub narrow : s.layout.q < 65536
@@ -46,12 +52,18 @@ module _ {s : Shape} {t : List ℕ} (T : Table s t) {r : ℕ} (hr : r < (code_of
   pub count_of : (i : ℕ) {n : ℕ} {xs : List ℕ} → Entries code s.rows (i * code.a + r) n xs → n ≡ get_or t (count_at r) 0
   count_of i e = e.count ∙ ap (λ (x : ℕ). entries_of code x s.rows) (digits_mod i hr) ∙ sym (T.laid.counts _ hr)
 
+  -- where the fill ends with a table row, nothing is idle
+  pub none-idle : (i : ℕ) {n : ℕ} {xs : List ℕ} → Entries code s.rows (i * code.a + r) n xs → s.rows * s.layout.q ≡ s.fill → Kept s.fill n xs n xs
+  none-idle i e z =
+      let q : s.rows * s.layout.q ≡ s.rows * code.q = ap (λ (x : ℕ). s.rows * x) T.shaped.given.q in
+      kept_all s.fill _ _ (λ k h. omega (arith, entries_lt code v e T.shaped.within k h, q))
+
   module _ {n : ℕ} (counted : n ≡ get_or t (count_at r) 0) where
     count-is : n ≡ entries_of code r s.rows
     count-is = counted ∙ T.laid.counts _ hr
 
     pub few : n + 2 ≤ max_positions
-    few = omega (arith, count-is, entries-few code r s.rows, T.laid.few.entries _ hr)
+    few = omega (arith, counted, (class_room T.laid hr).1)
 
     -- what `further` makes of entry e is its position
     pub position : {i : ℕ} → i < code.q → (e : ℕ) → e < n → {x : ℕ}
