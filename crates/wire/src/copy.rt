@@ -124,10 +124,8 @@ fn copy_many(out: &mut [u8], at: usize, s: &[u8]) -> usize
     let n = s.len();
     let last = n - 16;
     copy_16(out, at, s, 0);
-    let mut i = second_part(at, n);
-    while i < last {
+    for i in (second_part(at, n)..last).step_by(16) {
         copy_16(out, at + i, s, i);
-        i += 16;
     }
     copy_16(out, at + last, s, last)
 }
