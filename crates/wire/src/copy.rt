@@ -1,4 +1,6 @@
 // Copies bytes into an output, without a local array. Internal: the unit writer's, and packing's.
+// A function for each size: a const parameter would need a local array, and rust/tests/write_without_array.rs follows no call of a trait's method
+// and none of core's copy_from_slice.
 //
 // Bytes that are read before the first of them is put become one load and one store, without a test of whether the two buffers overlap. No copy has
 // a tail: its last part reaches back over bytes that stand already.
