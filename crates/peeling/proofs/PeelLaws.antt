@@ -1,6 +1,6 @@
 -- How far peeling has come: what stays as an open position is closed, and what a step and a pivot add.
 -- Assumes nothing.
-use Rattle.std.proofs.Common.{◌≡◌, ℕ, ◌+◌, ◌-◌, ◌*◌, ◌<◌, ◌≤◌, Bool, true, false, cond, eqb, ◌≢◌, ◌⊎◌, List, length, get_or, set, sym, refl, ap, ◌∙◌, subst, inl, inr, arith, eq-eqb, ne_eqb}
+use Rattle.std.proofs.Common.{Option, None, ◌≡◌, ℕ, ◌+◌, ◌-◌, ◌*◌, ◌<◌, ◌≤◌, Bool, true, false, cond, eqb, ◌≢◌, ◌⊎◌, List, length, get_or, set, sym, refl, ap, ◌∙◌, subst, inl, inr, arith, eq-eqb, ne_eqb}
 use mathlib.Core.Path.{subst⁻¹}
 use native.Mathlib.Decide.{ℕ_discrete, dec_lt}
 use Rattle.algebra.specs.Sums.{◌⊕◌}
@@ -12,7 +12,7 @@ use Rattle.symbol_sums.specs.Gather.{gathered, Inside, Replaced}
 use Rattle.encoder.specs.inner.Positions.{RowOf}
 use Rattle.peeling.specs.Plan.{kind_of, pivot_of, row_of, position_of, used_by, Before, Step, PutOff, Sort}
 use Rattle.peeling.specs.Values.{row_sum, Peeled}
-use Rattle.peeling.specs.Peel.{Opened, SingleIs, NextOpen, State}
+use Rattle.peeling.specs.Peel.{Opened, OnlyOpen, NoneOpen, State}
 use Rattle.peeling.specs.declared.peel.Progress.{Progress}
 use Rattle.peeling.proofs.PlanLaws.{Settled, Deferred, settled}
 use Rattle.peeling.proofs.StepLaws.{few-steps}
@@ -163,12 +163,12 @@ module _ {c : Checks} {w : ℕ} {block states plan symbols : List ℕ} {g : Prog
       go (no d) = omega (arith, early_some d)
 
 module _ {c : Checks} {w : ℕ} {block states plan symbols : List ℕ} {g : Progress} {r n i : ℕ} {xs : List ℕ} (S : State c w block states plan symbols g)
-    (R : RowOf c r n xs) (hr : r < c.m) (hi : i < n) (one : SingleIs plan xs n i) (un : used_by plan r ≡ 0) where
+    (R : RowOf c r n xs) (hr : r < c.m) (only : OnlyOpen plan xs n i) (un : used_by plan r ≡ 0) where
   settle_steps : g.steps < c.m
   settle_steps = omega (arith, S.made.steps-unused, unused-some plan r c.m hr un)
 
   settle_alone : (k : ℕ) → k < n → k ≢ i → get_or xs k 0 ≢ get_or xs i 0
-  settle_alone k h d e = (one hi).1 k h d (ap (λ (x : ℕ). kind_of plan x) e ∙ (one hi).0)
+  settle_alone k h d e = only.others k h d (ap (λ (x : ℕ). kind_of plan x) e ∙ only.open_kind)
 
   -- as `settle` requires it of position p
   abbrev Ready : ℕ → Type 0
@@ -180,11 +180,11 @@ module _ {c : Checks} {w : ℕ} {block states plan symbols : List ℕ} {g : Prog
   ready : Ready (get_or xs i 0)
   ready =
       let m = S.made in
-      let p = R.below i hi in (
+      let p = R.below i only.below in (
         (omega (arith, settle_steps, m.rows), (omega (arith, m.rows), (omega (arith, m.positions), m.size))),
         (
-          (omega (arith, slot (get_or xs i 0) c.n w p, S.values.size), rest_inside R i hi w (length symbols) S.values.size),
-          rest_ne R i hi settle_alone,
+          (omega (arith, slot (get_or xs i 0) c.n w p, S.values.size), rest_inside R i only.below w (length symbols) S.values.size),
+          rest_ne R i only.below settle_alone,
         ),
       )
 
@@ -195,17 +195,17 @@ module _ {c : Checks} {w : ℕ} {block states plan symbols : List ℕ} {g : Prog
   row-others : (x : ℕ) → x < c.n → c.has r x ≡ true → x ≢ get_or xs i 0 → kind_of plan x ≢ 65535
   row-others x hx h d e =
       let k = R.found x hx h in
-      (one hi).1 k.0 k.1.0 (λ f. d (sym k.1.1 ∙ ap (λ (j : ℕ). get_or xs j 0) f)) (ap (λ (y : ℕ). kind_of plan y) k.1.1 ∙ e)
+      only.others k.0 k.1.0 (λ f. d (sym k.1.1 ∙ ap (λ (j : ℕ). get_or xs j 0) f)) (ap (λ (y : ℕ). kind_of plan y) k.1.1 ∙ e)
 
   module _ {plan' symbols' : List ℕ} (T : Settled plan plan' g.steps r (get_or xs i 0))
       (Q : Replaced (λ b. gathered (byte_at w symbols b) (set xs i (get_or xs (n - 1) 0)) (n - 1)) w (get_or xs i 0) symbols symbols') where
     settle_keeps : Keeps c w g.steps g.pivots (get_or xs i 0) plan symbols plan' symbols'
     settle_keeps =
         let l = settle_steps in
-        let hp = R.below i hi in
+        let hp = R.below i only.below in
         let m = S.made in
         record {
-          was = (one hi).0;
+          was = only.open_kind;
           size = T.size;
           kinds = λ p h d. T.others p (λ e. omega (arith, m.positions)) (λ e. omega (arith, m.positions)) (λ e. omega (arith, m.positions)) d;
           pivot-same = λ u h.
@@ -222,16 +222,16 @@ module _ {c : Checks} {w : ℕ} {block states plan symbols : List ℕ} {g : Prog
     used-same : (j : ℕ) → j < c.m → j ≢ r → used_by plan' j ≡ used_by plan j
     used-same j h d =
         let l = settle_steps in
-        let hp = R.below i hi in
+        let hp = R.below i only.below in
         T.others (8192 + j) (λ e. omega (arith, S.made.rows)) (λ e. omega (arith, S.made.rows)) (λ e. omega arith) (λ e. omega (arith, S.made.positions))
 
     -- the row adds up to zero
     row-holds : (b : ℕ) → b < w → row_sum c w symbols' r b ≡ 0
     row-holds b h =
-        sum-rest R i hi (byte_at w symbols' b)
+        sum-rest R i only.below (byte_at w symbols' b)
         ∙ ap (λ (v : ℕ). v ⊕ byte_at w symbols' b (get_or xs i 0))
         (sum_ext (λ k. true) (λ k. byte_at w symbols' b (get_or (set xs i (get_or xs (n - 1) 0)) k 0)) (λ k. byte_at w symbols b (get_or (set xs i (get_or xs (n - 1) 0)) k 0)) (n - 1)
-        (λ k l. replaced_other Q (get_or (set xs i (get_or xs (n - 1) 0)) k 0) b (rest_ne R i hi settle_alone k l) h)
+        (λ k l. replaced_other Q (get_or (set xs i (get_or xs (n - 1) 0)) k 0) b (rest_ne R i only.below settle_alone k l) h)
         ∙ sym (Q.each b h))
         ∙ self (byte_at w symbols' b (get_or xs i 0))
 
@@ -264,10 +264,10 @@ module _ {c : Checks} {w : ℕ} {block states plan symbols : List ℕ} {g : Prog
           go : Dec (t < g.steps) → Step c states plan' early' t
           go (yes l) = step_kept S settle_keeps early' t l (early_kept S early' e t l)
           go (no l) =
-              let hp = R.below i hi in
+              let hp = R.below i only.below in
               let d : g.steps ≡ t = omega arith in
               subst (λ (s : ℕ). Step c states plan' early' s) d
-              (step-at r (get_or xs i 0) T.row T.position hr hp (missing-here S settle_keeps hp) T.kind (row_has R i hi settle_alone)
+              (step-at r (get_or xs i 0) T.row T.position hr hp (missing-here S settle_keeps hp) T.kind (row_has R i only.below settle_alone)
               (λ x hx k f. settle_before x hx f (row-others x hx k f)))
 
       settle_sort : (p : ℕ) → p < c.n → is_known states p ≡ false → Sort plan' (g.steps + 1) g.pivots p
@@ -295,7 +295,7 @@ module _ {c : Checks} {w : ℕ} {block states plan symbols : List ℕ} {g : Prog
               let d : t ≡ g.steps = omega arith in
               ap (λ (k : ℕ). row_sum c w symbols' k b) (ap (λ (s : ℕ). row_of plan' s) d ∙ T.row) ∙ row-holds b hb
 
-      state_settle : (fuel last : ℕ)
+      state_settle : (fuel : ℕ) (last : Option ℕ)
           → State c w block states plan' symbols' (record { steps = g.steps + 1; pivots = g.pivots; early = early'; cursor = g.cursor; fuel = fuel; last = last })
       state_settle fuel last =
           record {
@@ -328,7 +328,7 @@ module _ {c : Checks} {w : ℕ} {block states plan symbols : List ℕ} {g : Prog
           }
 
   -- from what `settle` ensures
-  pub state_settled : {plan' symbols' : List ℕ} (p : ℕ) → p ≡ get_or xs i 0 → (early' fuel last : ℕ)
+  pub state_settled : {plan' symbols' : List ℕ} (p : ℕ) → p ≡ get_or xs i 0 → (early' fuel : ℕ) (last : Option ℕ)
       → plan' ≡ set (set (set (set plan (6144 + g.steps) r) (7168 + g.steps) p) (8192 + r) 1) p (g.steps + 1)
       → Replaced (λ b. gathered (byte_at w symbols b) (set xs i (get_or xs (n - 1) 0)) (n - 1)) w p symbols symbols'
       → early' ≡ cond (eqb g.pivots 0) (g.steps + 1) g.early
@@ -352,7 +352,7 @@ closed-more plan from x below here p f h e = go (dec_lt p x)
 
 module _ {c : Checks} {w : ℕ} {block states plan symbols : List ℕ} {g : Progress} (S : State c w block states plan symbols g) where
   -- fuel and the last position say nothing
-  pub state_late : (fuel last : ℕ)
+  pub state_late : (fuel : ℕ) (last : Option ℕ)
       → State c w block states plan symbols (record { steps = g.steps; pivots = g.pivots; early = g.early; cursor = g.cursor; fuel = fuel; last = last })
   state_late fuel last =
       record {
@@ -366,22 +366,22 @@ module _ {c : Checks} {w : ℕ} {block states plan symbols : List ℕ} {g : Prog
       }
 
   -- the cursor passes over closed positions
-  pub state_pass : {n x : ℕ} (last : ℕ) → n ≡ c.n → NextOpen plan g.cursor n x
+  pub state_pass : {x : ℕ} (last : Option ℕ) → g.cursor ≤ x → x ≤ c.n → NoneOpen plan g.cursor x
       → State c w block states plan symbols (record { steps = g.steps; pivots = g.pivots; early = g.early; cursor = x; fuel = g.fuel; last = last })
-  state_pass {n} {x} last e N =
+  state_pass {x} last from to none =
       record {
         made = S.made;
         unsolved = S.unsolved;
         values = S.values;
         begun = S.begun;
-        cursor_below = omega (arith, N.below);
-        pivots_below = omega (arith, S.pivots_below, N.after);
+        cursor_below = to;
+        pivots_below = omega (arith, S.pivots_below);
         closed = λ p h. go p h (dec_lt p g.cursor);
       }
     where
       go : (p : ℕ) → p < x → Dec (p < g.cursor) → kind_of plan p ≢ 65535
       go p h (yes l) = S.closed p l
-      go p h (no l) = N.passed p (omega arith) h
+      go p h (no l) = none p (omega arith) h
 
   -- the cursor moves on
   module _ (hx : g.cursor < c.n) where
@@ -443,7 +443,7 @@ module _ {c : Checks} {w : ℕ} {block states plan symbols : List ℕ} {g : Prog
             kind = (omega (arith, now_kind), omega (arith, now_kind, few_pivots));
           }
 
-      pub state_defer : (last : ℕ) → State c w block states plan' symbols'
+      pub state_defer : (last : Option ℕ) → State c w block states plan' symbols'
           (record { steps = g.steps; pivots = g.pivots + 1; early = g.early; cursor = g.cursor + 1; fuel = g.fuel; last = last })
       state_defer last =
           record {
@@ -479,7 +479,7 @@ module _ {c : Checks} {w : ℕ} {block states plan symbols : List ℕ} {g : Prog
 
 -- ---- the beginning
 
-pub state-start : (c : Checks) (w n : ℕ) (states plan symbols : List ℕ) (fuel last : ℕ) → c.n ≤ 3072 → c.m ≤ 1024 → length symbols ≡ c.n * w → n ≡ c.n → Opened n states plan
+pub state-start : (c : Checks) (w n : ℕ) (states plan symbols : List ℕ) (fuel : ℕ) (last : Option ℕ) → c.n ≤ 3072 → c.m ≤ 1024 → length symbols ≡ c.n * w → n ≡ c.n → Opened n states plan
     → State c w symbols states plan symbols (record { steps = 0; pivots = 0; early = 0; cursor = 0; fuel = fuel; last = last })
 state-start c w n states plan symbols fuel last hn hm e d o =
     record {
@@ -515,5 +515,5 @@ state-start c w n states plan symbols fuel last hn hm e d o =
 pub nothing-missing : {c : Checks} {w n : ℕ} {states plan symbols : List ℕ} → c.n ≤ 3072 → c.m ≤ 1024 → length symbols ≡ c.n * w → n ≡ c.n → Opened n states plan
     → ((p : ℕ) → p < n → is_known states p ≡ true) → Peeled c w symbols states plan symbols 0 0 0
 nothing-missing {c} {w} {n} {states} {plan} {symbols} hn hm e d o k =
-    let S = state-start c w n states plan symbols 0 0 hn hm e d o in
+    let S = state-start c w n states plan symbols 0 None hn hm e d o in
     record { made = S.made; closed = λ p h z. omega (arith, o.known p (omega arith) (k p (omega arith)), z); unsolved = S.unsolved; values = S.values; begun = S.begun }

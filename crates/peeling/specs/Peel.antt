@@ -1,6 +1,6 @@
 -- How far peeling has come. Internal: no public contract cites it.
 -- Assumes nothing.
-use Rattle.std.specs.Prelude.{◌≡◌, ℕ, ◌+◌, ◌-◌, ◌<◌, ◌≤◌, Bool, true, false, ◌≢◌, List, length, slice_index}
+use Rattle.std.specs.Prelude.{◌≡◌, ℕ, ◌+◌, ◌-◌, ◌<◌, ◌≤◌, Bool, true, false, ◌≢◌, List, length, slice_index, Option, IfSome, MatchOption}
 use Rattle.algebra.specs.Codeword.{Checks}
 use Rattle.peeling.specs.States.{is_known}
 use Rattle.peeling.specs.Plan.{kind_of, Plan, Unsolved, plan_size}
@@ -19,16 +19,30 @@ abbrev pub AllKnownIs : List ℕ → Bool → Type 0
 AllKnownIs states true = (p : ℕ) → p < length states → is_known states p ≡ true
 AllKnownIs states false = (p : ℕ) × ((p < length states) × (is_known states p ≡ false))
 
--- if r is below n, the r-th of the first n positions of xs is open, and no other is
-abbrev pub SingleIs : List ℕ → List ℕ → ℕ → ℕ → Type 0
-SingleIs plan xs n r = r < n → (kind_of plan (slice_index xs r) ≡ 65535) × ((i : ℕ) → i < n → i ≢ r → kind_of plan (slice_index xs i) ≢ 65535)
+-- of the first n positions of xs, the i-th is open, and no other
+pub record OnlyOpen (plan xs : List ℕ) (n i : ℕ) : Type 0 where
+  pub below : i < n
+  pub open_kind : kind_of plan (slice_index xs i) ≡ 65535
+  pub others : (k : ℕ) → k < n → k ≢ i → kind_of plan (slice_index xs k) ≢ 65535
 
--- r is the first open position from `from` on, or n where there is none below n
-pub record NextOpen (plan : List ℕ) (from n r : ℕ) : Type 0 where
-  pub after : from ≤ r
-  pub below : r ≤ n
-  pub passed : (p : ℕ) → from ≤ p → p < r → kind_of plan p ≢ 65535
-  pub found : r < n → kind_of plan r ≡ 65535
+-- r is the index of a position of xs that is open, while no other is
+abbrev pub SingleIs : List ℕ → List ℕ → Option ℕ → Type 0
+SingleIs plan xs r = IfSome r (OnlyOpen plan xs (length xs))
+
+-- no position from `from` on below n is open
+abbrev pub NoneOpen : List ℕ → ℕ → ℕ → Type 0
+NoneOpen plan from n = (p : ℕ) → from ≤ p → p < n → kind_of plan p ≢ 65535
+
+-- x is the first that is
+pub record FirstOpen (plan : List ℕ) (from n x : ℕ) : Type 0 where
+  pub after : from ≤ x
+  pub below : x < n
+  pub passed : NoneOpen plan from x
+  pub found : kind_of plan x ≡ 65535
+
+-- r is the first open position from `from` on below n, or none is
+abbrev pub NextOpen : List ℕ → ℕ → ℕ → Option ℕ → Type 0
+NextOpen plan from n r = MatchOption r (NoneOpen plan from n) (FirstOpen plan from n)
 
 -- the plan and the symbols as far as they are made; every position before the cursor is closed
 pub record State (c : Checks) (w : ℕ) (block states plan symbols : List ℕ) (g : Progress) : Type 0 where
@@ -54,3 +68,4 @@ left n g = g.fuel + (n - g.cursor)
 pub record Continued (c : Checks) (w : ℕ) (plan symbols : List ℕ) (g : Progress) (plan' symbols' : List ℕ) (h : Progress) : Type 0 where
   pub state : (block states : List ℕ) → State c w block states plan symbols g → State c w block states plan' symbols' h
   pub less : left c.n h < left c.n g
+  pub last : IfSome h.last (λ x. x < c.n)

@@ -14,4 +14,4 @@ overflow_cast-x c =
 
 pub shifted_row-requires : goal.shifted_row-requires
 shifted_row-requires c =
-    (c.requires.2, row_small _ c.requires.0 _ (omega arith), c.requires.3)
+    (c.requires.2, row_small _ c.requires.0 _ (omega arith))

@@ -9,4 +9,4 @@ bounds-plan-x c = simp length-set (omega arith)
 
 pub returns : goal.returns
 returns c =
-    record { plan_after = refl; replaced = cleared_symbol c.args.symbols.now c.args.x c.args.w c.requires.w_in_bounds _ c.clear.ensures }
+    record { plan_after = refl; replaced = cleared_symbol c.args.symbols.now c.args.x c.args.w c.requires.w_in_bounds _ (c.fill.ensures.after (λ y e. e)) }
