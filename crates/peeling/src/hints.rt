@@ -49,7 +49,8 @@ fn degree(l: Layout, row: usize) -> usize
     if row < l.long { l.degree } else { l.rest }
 }
 
-// The check rows of position x, at the front of js.
+// The check rows of position x, at the front of js. Inlined, so that js is the caller's own: only then is shifted_row compiled to vector instructions.
+#[inline(always)]
 fn column<'a>(
     l: Layout,
     table: &[u16; TABLE_SIZE],
