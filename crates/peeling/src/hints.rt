@@ -1,15 +1,13 @@
 // Which check rows to look at. Nothing is proved of the hints but that they stay in their arrays: a row that they name is looked at before it is
 // used.
 ghost use Rattle.std.specs.Prelude.{◌≡◌, ◌/◌, ◌<◌, ◌≤◌, length};
-ghost use Rattle.peeling.specs.Hints.{Fits};
 ghost use Rattle.ccsds.specs.inner.Layout.{max_n, max_m, max_rows, max_degree};
-ghost use Rattle.encoder.specs.inner.Positions.{table_size};
 
 use crate::states::KNOWN;
 use ccsds::code::Code;
 use ccsds::tables;
 use ccsds::tables::{Layout, MAX_DEGREE};
-use encoder::positions::{ADDRESSES, TABLE_SIZE};
+use encoder::positions::{ADDRESSES, CheckRows, TABLE_SIZE};
 
 // The words of the rows that are ready, 64 to a word.
 const READY: usize = Code::MAX_M / 64;
@@ -32,7 +30,7 @@ fn shifted(y: u16, o: u16, m: u16) -> u16 {
 // The check rows of an information position, which stands o check rows further than the first of its table row. All places of the row are
 // made, whatever lies behind its addresses: this is compiled to a few vector instructions.
 fn shifted_row(m: u16, table: &[u16; TABLE_SIZE], row: usize, o: u16, js: &mut [u16; MAX_DEGREE])
-    requires { (length table.now ≡ table_size) × (row < max_rows) }
+    requires { row < max_rows }
     ensures { length js.new ≡ max_degree }
 {
     let at = ADDRESSES + row * MAX_DEGREE;
@@ -51,14 +49,10 @@ fn degree(l: Layout, row: usize) -> usize
 
 // The check rows of position x, at the front of js. Inlined, so that js is the caller's own: only then is shifted_row compiled to vector instructions.
 #[inline(always)]
-fn column<'a>(
-    l: Layout,
-    table: &[u16; TABLE_SIZE],
-    x: usize,
-    js: &'a mut [u16; MAX_DEGREE],
-) -> &'a [u16]
-    requires { Fits l × (x < 65535) × (length table.now ≡ table_size) }
+fn column<'a>(rows: &CheckRows, x: usize, js: &'a mut [u16; MAX_DEGREE]) -> &'a [u16]
+    requires { x < 65535 }
 {
+    let l = rows.shape.layout;
     if x >= l.k {
         let t = x - l.k;
         js[0] = t as u16;
@@ -66,17 +60,17 @@ fn column<'a>(
         return if t + 1 == l.m { &js[..1] } else { &js[..2] };
     }
     let row = x / l.q;
-    shifted_row(l.m as u16, table, row, (x % l.q * l.a) as u16, js);
+    shifted_row(l.m as u16, rows.table, row, (x % l.q * l.a) as u16, js);
     &js[..degree(l, row)]
 }
 
 // Position x is open: its check rows have one more.
-fn open_column(l: Layout, table: &[u16; TABLE_SIZE], x: usize, counts: &mut [u8; Code::MAX_M])
-    requires { Fits l × (x < 65535) × (length table.now ≡ table_size) }
+fn open_column(rows: &CheckRows, x: usize, counts: &mut [u8; Code::MAX_M])
+    requires { x < 65535 }
     ensures { length counts.new ≡ max_m }
 {
     let mut js = [0u16; MAX_DEGREE];
-    for &j in column(l, table, x, &mut js) {
+    for &j in column(rows, x, &mut js) {
         let c = &mut counts[tables::wide(j) % Code::MAX_M];
         *c = c.saturating_add(1);
     }
@@ -91,28 +85,28 @@ fn set_ready(ready: &mut [u64; READY], j: usize, is: bool)
 
 impl Hints {
     // Each missing position is open.
-    pub fn new(l: Layout, table: &[u16; TABLE_SIZE], states: &[u8]) -> Self
-        requires { Fits l × (length states.now ≤ max_n) × (length table.now ≡ table_size) }
+    pub fn new(rows: &CheckRows, states: &[u8]) -> Self
+        requires { length states.now ≤ max_n }
     {
         let mut counts = [0u8; Code::MAX_M];
         for (x, &state) in states.iter().enumerate() {
             if state != KNOWN {
-                open_column(l, table, x, &mut counts);
+                open_column(rows, x, &mut counts);
             }
         }
         let mut ready = [0u64; READY];
-        for (j, &c) in counts[..l.m].iter().enumerate() {
-            set_ready(&mut ready, j, c == 1);
+        for j in 0..rows.shape.layout.m {
+            set_ready(&mut ready, j, counts[j] == 1);
         }
         Hints { counts, ready }
     }
 
     // Position x is no longer open: its check rows have one less.
-    pub fn close(&mut self, l: Layout, table: &[u16; TABLE_SIZE], x: usize)
-        requires { Fits l × (length table.now ≡ table_size) × (x < 65535) }
+    pub fn close(&mut self, rows: &CheckRows, x: usize)
+        requires { x < 65535 }
     {
         let mut js = [0u16; MAX_DEGREE];
-        for &j in column(l, table, x, &mut js) {
+        for &j in column(rows, x, &mut js) {
             let j = tables::wide(j) % Code::MAX_M;
             let c = self.counts[j];
             self.counts[j] = c.saturating_sub(1);

@@ -14,8 +14,7 @@ use crate::hints::Hints;
 use crate::plan::{FIRST_PIVOT, OPEN, PIVOTS, STEP_POSITIONS, STEP_ROWS, USED};
 use crate::states::KNOWN;
 use ccsds::tables;
-use encoder::positions;
-use encoder::positions::{Shape, TABLE_SIZE};
+use encoder::positions::CheckRows;
 use symbol_sums::MAX_POSITIONS;
 
 // How far peeling has come: steps made, pivots put off, steps made before the first pivot, the position up to which none is open, how many rows may
@@ -117,20 +116,18 @@ fn settle(
 
 // Check row r settles a position, if it has just one open one and no step used it.
 fn try_row(
-    s: Shape,
+    rows: &CheckRows,
     r: usize,
     g: Progress,
-    table: &[u16; TABLE_SIZE],
     plan: &mut [u16],
     symbols: &mut [u8],
 ) -> Progress
-    requires table { Table s table.now }
-    requires r_bound { (r < (code_of s.number).m) × (0 < g.fuel) }
-    requires reached { Reached (checks s) s.w plan.old symbols.old g }
-    ensures { Continued (checks s) s.w plan.old symbols.old g plan.new symbols.new result }
+    requires r_bound { (r < (code_of rows.now.shape.number).m) × (0 < g.fuel) }
+    requires reached { Reached (checks rows.now.shape) rows.now.shape.w plan.old symbols.old g }
+    ensures { Continued (checks rows.now.shape) rows.now.shape.w plan.old symbols.old g plan.new symbols.new result }
 {
     let mut xs = [0u16; MAX_POSITIONS];
-    let n = positions::of_row(s, table, r, &mut xs);
+    let n = rows.of_row(r, &mut xs);
     let late = Progress {
         fuel: g.fuel - 1,
         last: None,
@@ -144,7 +141,7 @@ fn try_row(
     }
     let p = tables::wide(xs[i]);
     xs[i] = xs[n - 1];
-    settle(s.w, g.steps, r, p, &xs, n - 1, plan, symbols);
+    settle(rows.shape.w, g.steps, r, p, &xs, n - 1, plan, symbols);
     Progress {
         steps: g.steps + 1,
         early: g.early_steps(),
@@ -180,13 +177,12 @@ fn next_open(plan: &[u16], from: usize, n: usize) -> Option<usize>
 }
 
 // The next open position becomes a pivot.
-fn put_off(s: Shape, g: Progress, plan: &mut [u16], symbols: &mut [u8]) -> Progress
-    requires layout_of { LayoutOf (code_of s.number) s.layout }
-    requires cursor_bound { g.cursor < (checks s).n }
-    requires reached { Reached (checks s) s.w plan.old symbols.old g }
-    ensures { Continued (checks s) s.w plan.old symbols.old g plan.new symbols.new result }
+fn put_off(rows: &CheckRows, g: Progress, plan: &mut [u16], symbols: &mut [u8]) -> Progress
+    requires cursor_bound { g.cursor < (checks rows.now.shape).n }
+    requires reached { Reached (checks rows.now.shape) rows.now.shape.w plan.old symbols.old g }
+    ensures { Continued (checks rows.now.shape) rows.now.shape.w plan.old symbols.old g plan.new symbols.new result }
 {
-    let n = s.layout.k + s.layout.m;
+    let n = rows.shape.layout.k + rows.shape.layout.m;
     let Some(x) = next_open(plan, g.cursor, n) else {
         return Progress {
             cursor: n,
@@ -194,7 +190,7 @@ fn put_off(s: Shape, g: Progress, plan: &mut [u16], symbols: &mut [u8]) -> Progr
             ..g
         };
     };
-    defer(s.w, g.pivots, x, plan, symbols);
+    defer(rows.shape.w, g.pivots, x, plan, symbols);
     Progress {
         pivots: g.pivots + 1,
         cursor: x + 1,
@@ -215,43 +211,39 @@ fn next_row(fuel: usize, m: usize, hints: &mut Hints) -> Option<usize>
 
 // One step by check row r, or nothing where it turned out not to be ready; where there is no row, one position put off.
 fn advance(
-    s: Shape,
+    rows: &CheckRows,
     r: Option<usize>,
     g: Progress,
-    table: &[u16; TABLE_SIZE],
     plan: &mut [u16],
     symbols: &mut [u8],
 ) -> Progress
-    requires table { Table s table.now }
-    requires row { IfSome r (λ j. (j < s.layout.m) × (0 < g.fuel)) }
-    requires cursor_bound { g.cursor < (checks s).n }
-    requires reached { Reached (checks s) s.w plan.old symbols.old g }
-    ensures { Continued (checks s) s.w plan.old symbols.old g plan.new symbols.new result }
+    requires row { IfSome r (λ j. (j < rows.now.shape.layout.m) × (0 < g.fuel)) }
+    requires cursor_bound { g.cursor < (checks rows.now.shape).n }
+    requires reached { Reached (checks rows.now.shape) rows.now.shape.w plan.old symbols.old g }
+    ensures { Continued (checks rows.now.shape) rows.now.shape.w plan.old symbols.old g plan.new symbols.new result }
 {
     match r {
-        Some(j) => try_row(s, j, g, table, plan, symbols),
-        None => put_off(s, g, plan, symbols),
+        Some(j) => try_row(rows, j, g, plan, symbols),
+        None => put_off(rows, g, plan, symbols),
     }
 }
 
 // The same by the next row that is ready.
 fn turn(
-    s: Shape,
+    rows: &CheckRows,
     g: Progress,
-    table: &[u16; TABLE_SIZE],
     hints: &mut Hints,
     plan: &mut [u16],
     symbols: &mut [u8],
 ) -> Progress
-    requires table { Table s table.now }
-    requires cursor_bound { g.cursor < (checks s).n }
-    requires reached { Reached (checks s) s.w plan.old symbols.old g }
-    ensures { Continued (checks s) s.w plan.old symbols.old g plan.new symbols.new result }
+    requires cursor_bound { g.cursor < (checks rows.now.shape).n }
+    requires reached { Reached (checks rows.now.shape) rows.now.shape.w plan.old symbols.old g }
+    ensures { Continued (checks rows.now.shape) rows.now.shape.w plan.old symbols.old g plan.new symbols.new result }
 {
-    let r = next_row(g.fuel, s.layout.m, hints);
-    let h = advance(s, r, g, table, plan, symbols);
+    let r = next_row(g.fuel, rows.shape.layout.m, hints);
+    let h = advance(rows, r, g, plan, symbols);
     if let Some(x) = h.last {
-        hints.close(s.layout, table, x);
+        hints.close(rows, x);
     }
     h
 }
@@ -271,42 +263,28 @@ fn none_missing(states: &[u8]) -> bool
 }
 
 // From where the missing positions are open and nothing is used: settles every one of them by a check row, or puts it off.
-fn peel_open(
-    s: Shape,
-    table: &[u16; TABLE_SIZE],
-    states: &[u8],
-    plan: &mut [u16],
-    symbols: &mut [u8],
-) -> Progress
-    requires table { Table s table.now }
+fn peel_open(rows: &CheckRows, states: &[u8], plan: &mut [u16], symbols: &mut [u8]) -> Progress
     requires opened { Opened (length states.now) states.now plan.old }
-    requires states_len { (length states.now ≡ (checks s).n) × (length symbols.old ≡ (checks s).n * s.w) }
-    ensures { Peeled (checks s) s.w symbols.old states.now plan.new symbols.new result.early result.steps result.pivots }
+    requires states_len { (length states.now ≡ (checks rows.now.shape).n) × (length symbols.old ≡ (checks rows.now.shape).n * rows.now.shape.w) }
+    ensures { Peeled (checks rows.now.shape) rows.now.shape.w symbols.old states.now plan.new symbols.new result.early result.steps result.pivots }
 {
-    let mut hints = Hints::new(s.layout, table, states);
+    let mut hints = Hints::new(rows, states);
     let mut g = Progress::beginning();
     while g.cursor < states.len() {
-        g = turn(s, g, table, &mut hints, plan, symbols);
+        g = turn(rows, g, &mut hints, plan, symbols);
     }
     g
 }
 
 // Settles every missing position by a check row, or puts it off.
-pub fn peel(
-    s: Shape,
-    table: &[u16; TABLE_SIZE],
-    states: &[u8],
-    plan: &mut [u16],
-    symbols: &mut [u8],
-) -> Progress
-    requires table { Table s table.now }
+pub fn peel(rows: &CheckRows, states: &[u8], plan: &mut [u16], symbols: &mut [u8]) -> Progress
     requires plan_value { plan.old ≡ replicate plan_size 0 }
-    requires states_len { (length states.now ≡ (checks s).n) × (length symbols.old ≡ (checks s).n * s.w) }
-    ensures { Peeled (checks s) s.w symbols.old states.now plan.new symbols.new result.early result.steps result.pivots }
+    requires states_len { (length states.now ≡ (checks rows.now.shape).n) × (length symbols.old ≡ (checks rows.now.shape).n * rows.now.shape.w) }
+    ensures { Peeled (checks rows.now.shape) rows.now.shape.w symbols.old states.now plan.new symbols.new result.early result.steps result.pivots }
 {
     open_missing(states, plan);
     if none_missing(states) {
         return Progress::beginning();
     }
-    peel_open(s, table, states, plan, symbols)
+    peel_open(rows, states, plan, symbols)
 }

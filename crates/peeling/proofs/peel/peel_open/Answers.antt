@@ -3,35 +3,29 @@
 use Rattle.std.proofs.Common.{None, ◌≤◌, length, sym, ◌∙◌, arith}
 use mathlib.Core.Path.{subst⁻¹}
 use Rattle.encoder.specs.inner.Positions.{checks}
-use Rattle.peeling.specs.Hints.{Fits}
 use Rattle.peeling.specs.Peel.{State}
-use Rattle.peeling.proofs.HintLaws.{fits_of}
 use Rattle.peeling.proofs.CodeSizes.{few-positions, few-rows}
 use Rattle.peeling.proofs.PeelLaws.{state-start}
 use Rattle.peeling.proofs.peel.peel_open.Goals as goal
 use Rattle.peeling.proofs.peel.peel_open.Goals.{Start}
 
 few : (s : Start) → length s.args.states.now ≤ 3072
-few s = omega (arith, few-positions s.args.s, s.requires.states_len.0)
-
-fits : (s : Start) → Fits s.args.s.layout
-fits s = fits_of _ _ s.requires.table.shaped.known s.requires.table.shaped.given
+few s = omega (arith, few-positions s.args.rows.now.shape, s.requires.states_len.0)
 
 start : (s : Start)
     → let a = s.args in
-    State (checks a.s) a.s.w a.symbols.now a.states.now a.plan.now a.symbols.now (record { steps = 0; pivots = 0; early = 0; cursor = 0; fuel = 32768; last = None })
-start s = state-start _ s.args.s.w _ _ _ _ 32768 None (few-positions s.args.s) (few-rows s.requires.table) s.requires.states_len.1 s.requires.states_len.0 s.requires.opened
+    State (checks a.rows.now.shape) a.rows.now.shape.w a.symbols.now a.states.now a.plan.now a.symbols.now (record { steps = 0; pivots = 0; early = 0; cursor = 0; fuel = 32768; last = None })
+start s = state-start _ s.args.rows.now.shape.w _ _ _ _ 32768 None (few-positions s.args.rows.now.shape) (few-rows s.args.rows.now.laid) s.requires.states_len.1 s.requires.states_len.0 s.requires.opened
 
 pub new-hints-requires : goal.new-hints-requires
-new-hints-requires c =
-    (fits (goal.at.new-hints-requires c).Start, few (goal.at.new-hints-requires c).Start, c.requires.table.laid.size)
+new-hints-requires c = few (goal.at.new-hints-requires c).Start
 
 pub loop-g-init : goal.loop-g-init
-loop-g-init c = subst⁻¹ (State (checks c.args.s) c.args.s.w c.args.symbols.now c.args.states.now c.args.plan.now c.args.symbols.now) c.beginning-g.ensures (start (goal.at.loop-g-init c).Start)
+loop-g-init c = subst⁻¹ (State (checks c.args.rows.now.shape) c.args.rows.now.shape.w c.args.symbols.now c.args.states.now c.args.plan.now c.args.symbols.now) c.beginning-g.ensures (start (goal.at.loop-g-init c).Start)
 
 pub turn-g-requires : goal.turn-g-requires
 turn-g-requires c =
-    record { table = c.requires.table; cursor_bound = omega (arith, c.loop-g-test.true, c.requires.states_len.0); reached = record { block = _; states = _; state = c.loop-g.invariant } }
+    record { cursor_bound = omega (arith, c.loop-g-test.true, c.requires.states_len.0); reached = record { block = _; states = _; state = c.loop-g.invariant } }
 
 pub loop-g-smaller : goal.loop-g-smaller
 loop-g-smaller c = c.turn-g.ensures.less

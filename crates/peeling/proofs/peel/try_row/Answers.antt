@@ -1,6 +1,6 @@
 -- `peeling::peel::try_row` meets its contract: the row is passed over, or its only open position is settled.
 -- Assumes nothing.
-use Rattle.std.proofs.Common.{◌<◌, refl, arith, length-take-le}
+use Rattle.std.proofs.Common.{◌<◌, arith, length-take-le}
 use Rattle.std.proofs.lemmas.List.{get_or-take}
 use Rattle.encoder.specs.inner.Positions.{checks}
 use Rattle.peeling.specs.Peel.{OnlyOpen}
@@ -10,8 +10,8 @@ use Rattle.peeling.proofs.PeelLaws.{state_late, settle_ready, state_settled}
 use Rattle.peeling.proofs.peel.try_row.Goals as goal
 use Rattle.peeling.proofs.peel.try_row.Goals.{Start, In-Some}
 
-row_lt : (s : Start) → s.args.r < (checks s.args.s).m
-row_lt s = omega (arith, s.requires.r_bound.0, row_count s.args.s)
+row_lt : (s : Start) → s.args.r < (checks s.args.rows.now.shape).m
+row_lt s = omega (arith, s.requires.r_bound.0, row_count s.args.rows.now.shape)
 
 -- the row has one open position
 module _ (o : In-Some) where
@@ -19,7 +19,7 @@ module _ (o : In-Some) where
   only = only_taken (omega (arith, o.of_row-n.ensures.few, o.of_row-n.ensures.size)) o.in-Some.ensures
 
 pub of_row-n-requires : goal.of_row-n-requires
-of_row-n-requires c = record { table = c.requires.table; j_bound = c.requires.r_bound.0; xs_len = refl }
+of_row-n-requires c = record { j_bound = c.requires.r_bound.0 }
 
 pub single-requires : goal.single-requires
 single-requires c =
