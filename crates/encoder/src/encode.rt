@@ -27,7 +27,7 @@ fn put_row(
 {
     let j = i * rows.shape.layout.a + r;
     let n = rows.information(i, r, xs);
-    symbol_sums::put_sum(rows.shape.w, j, j, xs, n, info, parity);
+    symbol_sums::put_sum(rows.shape.w, j, j.checked_sub(1), &xs[..n], info, parity);
 }
 
 // Parity symbols i * a to i * a + a - 1.
