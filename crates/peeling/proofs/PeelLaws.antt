@@ -1,6 +1,6 @@
 -- How far peeling has come: what stays as an open position is closed, and what a step and a pivot add.
 -- Assumes nothing.
-use Rattle.std.proofs.Common.{Option, None, ◌≡◌, ℕ, ◌+◌, ◌-◌, ◌*◌, ◌<◌, ◌≤◌, Bool, true, false, cond, eqb, ◌≢◌, ◌⊎◌, List, length, get_or, set, sym, refl, ap, ◌∙◌, subst, inl, inr, arith, eq-eqb, ne_eqb}
+use Rattle.std.proofs.Common.{take, Option, None, ◌≡◌, ℕ, ◌+◌, ◌-◌, ◌*◌, ◌<◌, ◌≤◌, Bool, true, false, cond, eqb, ◌≢◌, ◌⊎◌, List, length, get_or, set, sym, refl, ap, ◌∙◌, subst, inl, inr, arith, eq-eqb, ne_eqb}
 use mathlib.Core.Path.{subst⁻¹}
 use native.Mathlib.Decide.{ℕ_discrete, dec_lt}
 use Rattle.algebra.specs.Sums.{◌⊕◌}
@@ -9,6 +9,7 @@ use Rattle.peeling.specs.States.{is_known}
 use Rattle.algebra.proofs.Sums.{self, sum_cong, sum_ext}
 use Rattle.algebra.proofs.Codeword.{slot}
 use Rattle.symbol_sums.specs.Gather.{gathered, Inside, Replaced}
+use Rattle.symbol_sums.proofs.Fronts.{none_front, restore_front}
 use Rattle.encoder.specs.inner.Positions.{RowOf}
 use Rattle.peeling.specs.Plan.{kind_of, pivot_of, row_of, position_of, used_by, Before, Step, PutOff, Sort}
 use Rattle.peeling.specs.Values.{row_sum, Peeled}
@@ -17,7 +18,7 @@ use Rattle.peeling.specs.declared.peel.Progress.{Progress}
 use Rattle.peeling.proofs.PlanLaws.{Settled, Deferred, settled}
 use Rattle.peeling.proofs.StepLaws.{few-steps}
 use Rattle.peeling.proofs.UnusedRows.{unused_all, unused-same, unused_settled, unused-some}
-use Rattle.peeling.proofs.RowRest.{sum-rest, rest_inside, rest_ne, row_has}
+use Rattle.peeling.proofs.RowRest.{rest_of, sum-rest, rest_few, rest_inside, rest_ne, row_has}
 use Rattle.peeling.proofs.SymbolLaws.{replaced_other}
 
 -- ---- one open position x is closed
@@ -174,8 +175,8 @@ module _ {c : Checks} {w : ℕ} {block states plan symbols : List ℕ} {g : Prog
   abbrev Ready : ℕ → Type 0
   Ready p =
       ((g.steps < 1024) × ((r < 1024) × ((p < 3072) × (length plan ≡ 9216))))
-      × (((p * w + w ≤ length symbols) × Inside (set xs i (get_or xs (n - 1) 0)) (n - 1) w (length symbols))
-      × ((k : ℕ) → k < n - 1 → get_or (set xs i (get_or xs (n - 1) 0)) k 0 ≢ p))
+      × (((p * w + w ≤ length symbols) × Inside (take (n - 1) (rest_of xs n i)) w (length symbols))
+      × ((k : ℕ) → k < length (take (n - 1) (rest_of xs n i)) → get_or (take (n - 1) (rest_of xs n i)) k 0 ≢ p))
 
   ready : Ready (get_or xs i 0)
   ready =
@@ -184,7 +185,7 @@ module _ {c : Checks} {w : ℕ} {block states plan symbols : List ℕ} {g : Prog
         (omega (arith, settle_steps, m.rows), (omega (arith, m.rows), (omega (arith, m.positions), m.size))),
         (
           (omega (arith, slot (get_or xs i 0) c.n w p, S.values.size), rest_inside R i only.below w (length symbols) S.values.size),
-          rest_ne R i only.below settle_alone,
+          none_front (rest_of xs n i) (n - 1) (rest_few R i only.below) (rest_ne R i only.below settle_alone),
         ),
       )
 
@@ -198,7 +199,7 @@ module _ {c : Checks} {w : ℕ} {block states plan symbols : List ℕ} {g : Prog
       only.others k.0 k.1.0 (λ f. d (sym k.1.1 ∙ ap (λ (j : ℕ). get_or xs j 0) f)) (ap (λ (y : ℕ). kind_of plan y) k.1.1 ∙ e)
 
   module _ {plan' symbols' : List ℕ} (T : Settled plan plan' g.steps r (get_or xs i 0))
-      (Q : Replaced (λ b. gathered (byte_at w symbols b) (set xs i (get_or xs (n - 1) 0)) (n - 1)) w (get_or xs i 0) symbols symbols') where
+      (Q : Replaced (λ b. gathered (byte_at w symbols b) (rest_of xs n i) (n - 1)) w (get_or xs i 0) symbols symbols') where
     settle_keeps : Keeps c w g.steps g.pivots (get_or xs i 0) plan symbols plan' symbols'
     settle_keeps =
         let l = settle_steps in
@@ -230,8 +231,8 @@ module _ {c : Checks} {w : ℕ} {block states plan symbols : List ℕ} {g : Prog
     row-holds b h =
         sum-rest R i only.below (byte_at w symbols' b)
         ∙ ap (λ (v : ℕ). v ⊕ byte_at w symbols' b (get_or xs i 0))
-        (sum_ext (λ k. true) (λ k. byte_at w symbols' b (get_or (set xs i (get_or xs (n - 1) 0)) k 0)) (λ k. byte_at w symbols b (get_or (set xs i (get_or xs (n - 1) 0)) k 0)) (n - 1)
-        (λ k l. replaced_other Q (get_or (set xs i (get_or xs (n - 1) 0)) k 0) b (rest_ne R i only.below settle_alone k l) h)
+        (sum_ext (λ k. true) (λ k. byte_at w symbols' b (get_or (rest_of xs n i) k 0)) (λ k. byte_at w symbols b (get_or (rest_of xs n i) k 0)) (n - 1)
+        (λ k l. replaced_other Q (get_or (rest_of xs n i) k 0) b (rest_ne R i only.below settle_alone k l) h)
         ∙ sym (Q.each b h))
         ∙ self (byte_at w symbols' b (get_or xs i 0))
 
@@ -330,14 +331,14 @@ module _ {c : Checks} {w : ℕ} {block states plan symbols : List ℕ} {g : Prog
   -- from what `settle` ensures
   pub state_settled : {plan' symbols' : List ℕ} (p : ℕ) → p ≡ get_or xs i 0 → (early' fuel : ℕ) (last : Option ℕ)
       → plan' ≡ set (set (set (set plan (6144 + g.steps) r) (7168 + g.steps) p) (8192 + r) 1) p (g.steps + 1)
-      → Replaced (λ b. gathered (byte_at w symbols b) (set xs i (get_or xs (n - 1) 0)) (n - 1)) w p symbols symbols'
+      → Replaced (λ b. gathered (byte_at w symbols b) (take (n - 1) (rest_of xs n i)) (length (take (n - 1) (rest_of xs n i)))) w p symbols symbols'
       → early' ≡ cond (eqb g.pivots 0) (g.steps + 1) g.early
       → State c w block states plan' symbols' (record { steps = g.steps + 1; pivots = g.pivots; early = early'; cursor = g.cursor; fuel = fuel; last = last })
   state_settled {plan'} {symbols'} p d early' fuel last e Q f =
       let h = ready.0 in
       let e' = e ∙ ap (λ (x : ℕ). set (set (set (set plan (6144 + g.steps) r) (7168 + g.steps) x) (8192 + r) 1) x (g.steps + 1)) d in
       state_settle (settled plan g.steps r (get_or xs i 0) h.1.1.1 h.0 h.1.0 h.1.1.0 plan' e')
-      (subst (λ (x : ℕ). Replaced (λ b. gathered (byte_at w symbols b) (set xs i (get_or xs (n - 1) 0)) (n - 1)) w x symbols symbols') d Q) early' f fuel last
+      (restore_front (rest_of xs n i) (n - 1) w (rest_few R i only.below) (subst (λ (x : ℕ). Replaced (λ b. gathered (byte_at w symbols b) (take (n - 1) (rest_of xs n i)) (length (take (n - 1) (rest_of xs n i)))) w x symbols symbols') d Q)) early' f fuel last
 
 -- ---- the position under the cursor
 

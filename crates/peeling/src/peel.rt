@@ -91,23 +91,14 @@ fn single(plan: &[u16], xs: &[u16]) -> Option<usize>
 }
 
 // Step t: check row r settles position p.
-fn settle(
-    w: usize,
-    t: usize,
-    r: usize,
-    p: usize,
-    xs: &[u16; MAX_POSITIONS],
-    n: usize,
-    plan: &mut [u16],
-    symbols: &mut [u8],
-)
+fn settle(w: usize, t: usize, r: usize, p: usize, xs: &[u16], plan: &mut [u16], symbols: &mut [u8])
     requires t_lt_max_m { (t < max_m) × ((r < max_m) × ((p < max_n) × (length plan.old ≡ plan_size))) }
-    requires w_in_bounds { (p * w + w ≤ length symbols.old) × Inside xs.now n w (length symbols.old) }
-    requires by_index { (i : ℕ) → i < n → slice_index xs.now i ≢ p }
+    requires w_in_bounds { (p * w + w ≤ length symbols.old) × Inside xs.now w (length symbols.old) }
+    requires by_index { (i : ℕ) → i < length xs.now → slice_index xs.now i ≢ p }
     ensures plan_after { plan.new ≡ slice_set (slice_set (slice_set (slice_set plan.old (6144 + t) r) (7168 + t) p) (8192 + r) 1) p (t + 1) }
-    ensures replaced { Replaced (λ b. gathered (byte_at w symbols.old b) xs.now n) w p symbols.old symbols.new }
+    ensures replaced { Replaced (λ b. gathered (byte_at w symbols.old b) xs.now (length xs.now)) w p symbols.old symbols.new }
 {
-    symbol_sums::restore(w, p, xs, n, symbols);
+    symbol_sums::restore(w, p, xs, symbols);
     plan[STEP_ROWS + t] = r as u16;
     plan[STEP_POSITIONS + t] = p as u16;
     plan[USED + r] = 1;
@@ -141,7 +132,7 @@ fn try_row(
     }
     let p = tables::wide(xs[i]);
     xs[i] = xs[n - 1];
-    settle(rows.shape.w, g.steps, r, p, &xs, n - 1, plan, symbols);
+    settle(rows.shape.w, g.steps, r, p, &xs[..n - 1], plan, symbols);
     Progress {
         steps: g.steps + 1,
         early: g.early_steps(),
