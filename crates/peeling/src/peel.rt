@@ -7,11 +7,10 @@ ghost use Rattle.ccsds.specs.Tables.{code_of};
 ghost use Rattle.ccsds.specs.inner.Layout.{LayoutOf, max_n, max_m};
 ghost use Rattle.encoder.specs.inner.Positions.{checks, Table};
 ghost use Rattle.peeling.specs.Values.{Peeled};
-ghost use Rattle.peeling.specs.Peel.{Opened, AllKnownIs, SingleIs, NextOpen, Reached, Continued};
-ghost use Rattle.peeling.specs.Plan.{plan_size, first_pivot};
+ghost use Rattle.peeling.specs.Peel.{NothingUsed, Opened, AllKnownIs, SingleIs, NextOpen, StepMade, PivotMade, Reached, Continued};
 
 use crate::hints::Hints;
-use crate::plan::{FIRST_PIVOT, OPEN, PIVOTS, STEP_POSITIONS, STEP_ROWS, USED};
+use crate::plan::{FIRST_PIVOT, OPEN, Plan};
 use crate::states::KNOWN;
 use ccsds::tables;
 use encoder::positions;
@@ -66,24 +65,24 @@ fn kind_of(state: u8) -> u16
 }
 
 // Every missing position is open.
-pub fn open_missing(states: &[u8], plan: &mut [u16])
-    requires { (length states.now ≤ max_n) × (plan.old ≡ replicate plan_size 0) }
+pub fn open_missing(states: &[u8], plan: &mut Plan)
+    requires { (length states.now ≤ max_n) × NothingUsed plan.old }
     ensures { Opened (length states.now) states.now plan.new }
 {
     for (x, &state) in states.iter().enumerate() {
-        plan[x] = kind_of(state);
+        plan.kinds[x] = kind_of(state);
     }
 }
 
 // The index of the only open position, if there is just one. Without a branch: what is open can't be foreseen.
-fn single(plan: &[u16], xs: &[u16]) -> Option<usize>
-    requires { (i : ℕ) → i < length xs.now → slice_index xs.now i < length plan.now }
+fn single(plan: &Plan, xs: &[u16]) -> Option<usize>
+    requires { (i : ℕ) → i < length xs.now → slice_index xs.now i < max_n }
     ensures { SingleIs plan.now xs.now result }
 {
     let mut at = 0;
     let mut found: usize = 0;
     for (i, &x) in xs.iter().enumerate() {
-        if plan[tables::wide(x)] == OPEN {
+        if plan.kinds[tables::wide(x)] == OPEN {
             at = i;
             found += 1;
         }
@@ -99,20 +98,20 @@ fn settle(
     p: usize,
     xs: &[u16; MAX_POSITIONS],
     n: usize,
-    plan: &mut [u16],
+    plan: &mut Plan,
     symbols: &mut [u8],
 )
-    requires t_lt_max_m { (t < max_m) × ((r < max_m) × ((p < max_n) × (length plan.old ≡ plan_size))) }
+    requires t_lt_max_m { (t < max_m) × ((r < max_m) × (p < max_n)) }
     requires w_in_bounds { (p * w + w ≤ length symbols.old) × Inside xs.now n w (length symbols.old) }
     requires by_index { (i : ℕ) → i < n → slice_index xs.now i ≢ p }
-    ensures plan_after { plan.new ≡ slice_set (slice_set (slice_set (slice_set plan.old (6144 + t) r) (7168 + t) p) (8192 + r) 1) p (t + 1) }
+    ensures made { StepMade plan.old plan.new t r p }
     ensures replaced { Replaced (λ b. gathered (byte_at w symbols.old b) xs.now n) w p symbols.old symbols.new }
 {
     symbol_sums::restore(w, p, xs, n, symbols);
-    plan[STEP_ROWS + t] = r as u16;
-    plan[STEP_POSITIONS + t] = p as u16;
-    plan[USED + r] = 1;
-    plan[p] = (t + 1) as u16;
+    plan.step_rows[t] = r as u16;
+    plan.step_positions[t] = p as u16;
+    plan.used[r] = true;
+    plan.kinds[p] = (t + 1) as u16;
 }
 
 // Check row r settles a position, if it has just one open one and no step used it.
@@ -121,7 +120,7 @@ fn try_row(
     r: usize,
     g: Progress,
     table: &[u16; TABLE_SIZE],
-    plan: &mut [u16],
+    plan: &mut Plan,
     symbols: &mut [u8],
 ) -> Progress
     requires table { Table s table.now }
@@ -139,7 +138,7 @@ fn try_row(
     let Some(i) = single(plan, &xs[..n]) else {
         return late;
     };
-    if plan[USED + r] != 0 {
+    if plan.used[r] {
         return late;
     }
     let p = tables::wide(xs[i]);
@@ -154,25 +153,25 @@ fn try_row(
 }
 
 // Position x becomes pivot s, with symbol zero.
-fn defer(w: usize, s: usize, x: usize, plan: &mut [u16], symbols: &mut [u8])
-    requires s_lt_max_n { (s < max_n) × ((x < max_n) × (length plan.old ≡ plan_size)) }
+fn defer(w: usize, s: usize, x: usize, plan: &mut Plan, symbols: &mut [u8])
+    requires s_lt_max_n { (s < max_n) × (x < max_n) }
     requires w_in_bounds { x * w + w ≤ length symbols.old }
-    ensures plan_after { plan.new ≡ slice_set (slice_set plan.old (max_n + s) x) x (first_pivot + s) }
+    ensures made { PivotMade plan.old plan.new s x }
     ensures replaced { Replaced (λ b. 0) w x symbols.old symbols.new }
 {
     let at = x * w;
     symbols[at..at + w].fill(0);
-    plan[PIVOTS + s] = x as u16;
-    plan[x] = (FIRST_PIVOT + s) as u16;
+    plan.pivots[s] = x as u16;
+    plan.kinds[x] = (FIRST_PIVOT + s) as u16;
 }
 
 // The first open position from `from` on.
-fn next_open(plan: &[u16], from: usize, n: usize) -> Option<usize>
-    requires { (from ≤ n) × (n ≤ length plan.now) }
+fn next_open(plan: &Plan, from: usize, n: usize) -> Option<usize>
+    requires { (from ≤ n) × (n ≤ max_n) }
     ensures { NextOpen plan.now from n result }
 {
     for x in from..n {
-        if plan[x] == OPEN {
+        if plan.kinds[x] == OPEN {
             return Some(x);
         }
     }
@@ -180,7 +179,7 @@ fn next_open(plan: &[u16], from: usize, n: usize) -> Option<usize>
 }
 
 // The next open position becomes a pivot.
-fn put_off(s: Shape, g: Progress, plan: &mut [u16], symbols: &mut [u8]) -> Progress
+fn put_off(s: Shape, g: Progress, plan: &mut Plan, symbols: &mut [u8]) -> Progress
     requires layout_of { LayoutOf (code_of s.number) s.layout }
     requires cursor_bound { g.cursor < (checks s).n }
     requires reached { Reached (checks s) s.w plan.old symbols.old g }
@@ -219,7 +218,7 @@ fn advance(
     r: Option<usize>,
     g: Progress,
     table: &[u16; TABLE_SIZE],
-    plan: &mut [u16],
+    plan: &mut Plan,
     symbols: &mut [u8],
 ) -> Progress
     requires table { Table s table.now }
@@ -240,7 +239,7 @@ fn turn(
     g: Progress,
     table: &[u16; TABLE_SIZE],
     hints: &mut Hints,
-    plan: &mut [u16],
+    plan: &mut Plan,
     symbols: &mut [u8],
 ) -> Progress
     requires table { Table s table.now }
@@ -275,7 +274,7 @@ fn peel_open(
     s: Shape,
     table: &[u16; TABLE_SIZE],
     states: &[u8],
-    plan: &mut [u16],
+    plan: &mut Plan,
     symbols: &mut [u8],
 ) -> Progress
     requires table { Table s table.now }
@@ -296,11 +295,11 @@ pub fn peel(
     s: Shape,
     table: &[u16; TABLE_SIZE],
     states: &[u8],
-    plan: &mut [u16],
+    plan: &mut Plan,
     symbols: &mut [u8],
 ) -> Progress
     requires table { Table s table.now }
-    requires plan_value { plan.old ≡ replicate plan_size 0 }
+    requires unused { NothingUsed plan.old }
     requires states_len { (length states.now ≡ (checks s).n) × (length symbols.old ≡ (checks s).n * s.w) }
     ensures { Peeled (checks s) s.w symbols.old states.now plan.new symbols.new result.early result.steps result.pivots }
 {
