@@ -1,49 +1,40 @@
 -- Opening the missing positions, and the only open one of some positions.
 -- Assumes nothing.
-use Rattle.std.proofs.Common.{take, length-take-le, ◌≡◌, ℕ, ◌+◌, ◌<◌, ◌≤◌, Bool, cond, eqb, ◌≢◌, List, length, get_or, set, replicate, sym, ap, ◌∙◌, arith, length-set, get_or-set_other, get_or-set_same}
+use Rattle.std.proofs.Common.{false, take, length-take-le, ◌≡◌, ℕ, ◌+◌, ◌<◌, ◌≤◌, Bool, cond, eqb, ◌≢◌, List, length, get_or, set, sym, ap, ◌∙◌, arith, get_or-set_other, get_or-set_same}
 use Rattle.std.proofs.lemmas.List.{get_or-take}
 use mathlib.Core.Path.{subst⁻¹}
 use native.Mathlib.Decide.{ℕ_discrete, dec_lt}
-use lib.ListN.{length-replicate}
 use Rattle.peeling.specs.States.{is_known}
-use Rattle.buffers.proofs.Zeros.{zeros}
-use Rattle.peeling.specs.Plan.{kind_of}
-use Rattle.peeling.specs.Peel.{Opened, OnlyOpen}
+use Rattle.peeling.specs.Plan.{Arrays, kind_of}
+use Rattle.peeling.specs.Peel.{NothingUsed, Opened, OnlyOpen}
 
 -- ---- the first x positions are opened where they are missing
 
-pub record Opening (states plan : List ℕ) (x : ℕ) : Type 0 where
-  pub size : length plan ≡ 9216
+pub record Opening (states : List ℕ) (plan : Arrays) (x : ℕ) : Type 0 where
   pub each : (p : ℕ) → p < x → kind_of plan p ≡ cond (is_known states p) 0 65535
-  pub unused : (k : ℕ) → 8192 ≤ k → get_or plan k 0 ≡ 0
+  pub unused : NothingUsed plan
 
-pub opening-none : (states plan : List ℕ) (n : ℕ) → n ≡ 9216 → plan ≡ replicate n 0 → Opening states plan 0
-opening-none states plan n h e =
-    record {
-      size = ap length e ∙ length-replicate {A = ℕ} n 0 ∙ h;
-      each = λ p l. absurd (omega arith);
-      unused = λ k l. ap (λ (s : List ℕ). get_or s k 0) e ∙ zeros n k;
-    }
+pub opening-none : {states : List ℕ} {plan : Arrays} → NothingUsed plan → Opening states plan 0
+opening-none u = record { each = λ p l. absurd (omega arith); unused = u }
 
-pub opening-more : {states plan : List ℕ} {x : ℕ} (v : ℕ) → Opening states plan x → x < 3072 → v ≡ cond (eqb (get_or states x 0) 1) 0 65535 → Opening states (set plan x v) (x + 1)
+pub opening-more : {states : List ℕ} {plan plan' : Arrays} {x : ℕ} (v : ℕ) → Opening states plan x → x < 3072 → v ≡ cond (eqb (get_or states x 0) 1) 0 65535
+    → plan'.kinds ≡ set plan.kinds x v → plan'.used ≡ plan.used → Opening states plan' (x + 1)
 unfolding is_known
-opening-more {states} {plan} {x} v O h e =
+opening-more {states} {plan} {plan'} {x} v O h e k u =
     record {
-      size = length-set plan x v ∙ O.size;
-      each = λ p l. go p l (ℕ_discrete p x);
-      unused = λ k l. get_or-set_other plan x k v 0 (λ f. omega arith) ∙ O.unused k l;
+      each = λ p l. ap (λ (s : List ℕ). get_or s p 0) k ∙ go p l (ℕ_discrete p x);
+      unused = λ j. ap (λ (s : List Bool). cond (get_or s j false) 1 0) u ∙ O.unused j;
     }
   where
-    go : (p : ℕ) → p < x + 1 → Dec (p ≡ x) → get_or (set plan x v) p 0 ≡ cond (is_known states p) 0 65535
+    go : (p : ℕ) → p < x + 1 → Dec (p ≡ x) → get_or (set plan.kinds x v) p 0 ≡ cond (is_known states p) 0 65535
     go p l (yes d) =
-        ap (λ (k : ℕ). get_or (set plan x v) k 0) d ∙ get_or-set_same plan x v 0 (omega (arith, O.size)) ∙ e
+        ap (λ (k : ℕ). get_or (set plan.kinds x v) k 0) d ∙ get_or-set_same plan.kinds x v 0 (omega (arith, plan.kinds_len)) ∙ e
         ∙ ap (λ (k : ℕ). cond (eqb (get_or states k 0) 1) 0 65535) (sym d)
-    go p l (no d) = get_or-set_other plan x p v 0 d ∙ O.each p (omega arith)
+    go p l (no d) = get_or-set_other plan.kinds x p v 0 d ∙ O.each p (omega arith)
 
-pub opening_all : {states plan : List ℕ} {x : ℕ} (n : ℕ) → Opening states plan x → n ≤ x → Opened n states plan
+pub opening_all : {states : List ℕ} {plan : Arrays} {x : ℕ} (n : ℕ) → Opening states plan x → n ≤ x → Opened n states plan
 opening_all {states} {plan} {x} n O h =
     record {
-      size = O.size;
       known = λ p l e. O.each p (omega arith) ∙ ap (λ (b : Bool). cond b 0 65535) e;
       open_kind = λ p l e. O.each p (omega arith) ∙ ap (λ (b : Bool). cond b 0 65535) e;
       unused = O.unused;
@@ -51,12 +42,12 @@ opening_all {states} {plan} {x} n O h =
 
 -- ---- the open ones of the first i positions of xs: how many, and the last
 
-pub record Seen (plan xs : List ℕ) (i at found : ℕ) : Type 0 where
+pub record Seen (plan : Arrays) (xs : List ℕ) (i at found : ℕ) : Type 0 where
   pub few : found ≤ i
   pub none : found ≡ 0 → (k : ℕ) → k < i → kind_of plan (get_or xs k 0) ≢ 65535
   pub only : found ≡ 1 → (at < i) × ((kind_of plan (get_or xs at 0) ≡ 65535) × ((k : ℕ) → k < i → k ≢ at → kind_of plan (get_or xs k 0) ≢ 65535))
 
-pub seen_none : (plan xs : List ℕ) (at : ℕ) → Seen plan xs 0 at 0
+pub seen_none : (plan : Arrays) (xs : List ℕ) (at : ℕ) → Seen plan xs 0 at 0
 seen_none plan xs at = record { few = omega arith; none = λ e k l. absurd (omega arith); only = λ e. absurd (omega arith) }
 
 -- of each of the first i + 1
@@ -67,7 +58,7 @@ below_next P i below here k h = go (dec_lt k i)
     go (yes l) = below k l
     go (no l) = let d : k ≡ i = omega arith in subst⁻¹ P d here
 
-module _ {plan xs : List ℕ} {i at found : ℕ} (F : Seen plan xs i at found) where
+module _ {plan : Arrays} {xs : List ℕ} {i at found : ℕ} (F : Seen plan xs i at found) where
   pub seen_open : kind_of plan (get_or xs i 0) ≡ 65535 → Seen plan xs (i + 1) i (found + 1)
   seen_open e =
       record {
@@ -93,7 +84,7 @@ module _ {plan xs : List ℕ} {i at found : ℕ} (F : Seen plan xs i at found) w
   seen_only z = let o = F.only z in record { below = o.0; open_kind = o.1.0; others = o.1.1 }
 
 -- of the front of xs, so of xs
-pub only_taken : {plan xs : List ℕ} {n i : ℕ} → n ≤ length xs → OnlyOpen plan (take n xs) (length (take n xs)) i → OnlyOpen plan xs n i
+pub only_taken : {plan : Arrays} {xs : List ℕ} {n i : ℕ} → n ≤ length xs → OnlyOpen plan (take n xs) (length (take n xs)) i → OnlyOpen plan xs n i
 only_taken {plan} {xs} {n} {i} h o =
     let s : length (take n xs) ≡ n = length-take-le n xs h in
     let b : i < n = omega (arith, s, o.below) in

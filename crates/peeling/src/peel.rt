@@ -7,11 +7,10 @@ ghost use Rattle.ccsds.specs.Tables.{code_of};
 ghost use Rattle.ccsds.specs.inner.Layout.{LayoutOf, max_n, max_m};
 ghost use Rattle.encoder.specs.inner.Positions.{checks, Table};
 ghost use Rattle.peeling.specs.Values.{Peeled};
-ghost use Rattle.peeling.specs.Peel.{Opened, AllKnownIs, SingleIs, NextOpen, Reached, Continued};
-ghost use Rattle.peeling.specs.Plan.{plan_size, first_pivot};
+ghost use Rattle.peeling.specs.Peel.{NothingUsed, Opened, AllKnownIs, SingleIs, NextOpen, StepMade, PivotMade, Reached, Continued};
 
 use crate::hints::Hints;
-use crate::plan::{FIRST_PIVOT, OPEN, PIVOTS, STEP_POSITIONS, STEP_ROWS, USED};
+use crate::plan::{FIRST_PIVOT, OPEN, Plan};
 use crate::states::KNOWN;
 use ccsds::tables;
 use encoder::positions::CheckRows;
@@ -65,24 +64,24 @@ fn kind_of(state: u8) -> u16
 }
 
 // Every missing position is open.
-pub fn open_missing(states: &[u8], plan: &mut [u16])
-    requires { (length states.now ≤ max_n) × (plan.old ≡ replicate plan_size 0) }
+pub fn open_missing(states: &[u8], plan: &mut Plan)
+    requires { (length states.now ≤ max_n) × NothingUsed plan.old }
     ensures { Opened (length states.now) states.now plan.new }
 {
     for (x, &state) in states.iter().enumerate() {
-        plan[x] = kind_of(state);
+        plan.kinds[x] = kind_of(state);
     }
 }
 
 // The index of the only open position, if there is just one. Without a branch: what is open can't be foreseen.
-fn single(plan: &[u16], xs: &[u16]) -> Option<usize>
-    requires { (i : ℕ) → i < length xs.now → slice_index xs.now i < length plan.now }
+fn single(plan: &Plan, xs: &[u16]) -> Option<usize>
+    requires { (i : ℕ) → i < length xs.now → slice_index xs.now i < max_n }
     ensures { SingleIs plan.now xs.now result }
 {
     let mut at = 0;
     let mut found: usize = 0;
     for (i, &x) in xs.iter().enumerate() {
-        if plan[tables::wide(x)] == OPEN {
+        if plan.kinds[tables::wide(x)] == OPEN {
             at = i;
             found += 1;
         }
@@ -91,28 +90,22 @@ fn single(plan: &[u16], xs: &[u16]) -> Option<usize>
 }
 
 // Step t: check row r settles position p.
-fn settle(w: usize, t: usize, r: usize, p: usize, xs: &[u16], plan: &mut [u16], symbols: &mut [u8])
-    requires t_lt_max_m { (t < max_m) × ((r < max_m) × ((p < max_n) × (length plan.old ≡ plan_size))) }
+fn settle(w: usize, t: usize, r: usize, p: usize, xs: &[u16], plan: &mut Plan, symbols: &mut [u8])
+    requires t_lt_max_m { (t < max_m) × ((r < max_m) × (p < max_n)) }
     requires w_in_bounds { (p * w + w ≤ length symbols.old) × Inside xs.now w (length symbols.old) }
     requires by_index { (i : ℕ) → i < length xs.now → slice_index xs.now i ≢ p }
-    ensures plan_after { plan.new ≡ slice_set (slice_set (slice_set (slice_set plan.old (6144 + t) r) (7168 + t) p) (8192 + r) 1) p (t + 1) }
+    ensures made { StepMade plan.old plan.new t r p }
     ensures replaced { Replaced (λ b. gathered (byte_at w symbols.old b) xs.now (length xs.now)) w p symbols.old symbols.new }
 {
     symbol_sums::restore(w, p, xs, symbols);
-    plan[STEP_ROWS + t] = r as u16;
-    plan[STEP_POSITIONS + t] = p as u16;
-    plan[USED + r] = 1;
-    plan[p] = (t + 1) as u16;
+    plan.step_rows[t] = r as u16;
+    plan.step_positions[t] = p as u16;
+    plan.used[r] = true;
+    plan.kinds[p] = (t + 1) as u16;
 }
 
 // Check row r settles a position, if it has just one open one and no step used it.
-fn try_row(
-    rows: &CheckRows,
-    r: usize,
-    g: Progress,
-    plan: &mut [u16],
-    symbols: &mut [u8],
-) -> Progress
+fn try_row(rows: &CheckRows, r: usize, g: Progress, plan: &mut Plan, symbols: &mut [u8]) -> Progress
     requires r_bound { (r < (code_of rows.now.shape.number).m) × (0 < g.fuel) }
     requires reached { Reached (checks rows.now.shape) rows.now.shape.w plan.old symbols.old g }
     ensures { Continued (checks rows.now.shape) rows.now.shape.w plan.old symbols.old g plan.new symbols.new result }
@@ -127,7 +120,7 @@ fn try_row(
     let Some(i) = single(plan, &xs[..n]) else {
         return late;
     };
-    if plan[USED + r] != 0 {
+    if plan.used[r] {
         return late;
     }
     let p = tables::wide(xs[i]);
@@ -142,25 +135,25 @@ fn try_row(
 }
 
 // Position x becomes pivot s, with symbol zero.
-fn defer(w: usize, s: usize, x: usize, plan: &mut [u16], symbols: &mut [u8])
-    requires s_lt_max_n { (s < max_n) × ((x < max_n) × (length plan.old ≡ plan_size)) }
+fn defer(w: usize, s: usize, x: usize, plan: &mut Plan, symbols: &mut [u8])
+    requires s_lt_max_n { (s < max_n) × (x < max_n) }
     requires w_in_bounds { x * w + w ≤ length symbols.old }
-    ensures plan_after { plan.new ≡ slice_set (slice_set plan.old (max_n + s) x) x (first_pivot + s) }
+    ensures made { PivotMade plan.old plan.new s x }
     ensures replaced { Replaced (λ b. 0) w x symbols.old symbols.new }
 {
     let at = x * w;
     symbols[at..at + w].fill(0);
-    plan[PIVOTS + s] = x as u16;
-    plan[x] = (FIRST_PIVOT + s) as u16;
+    plan.pivots[s] = x as u16;
+    plan.kinds[x] = (FIRST_PIVOT + s) as u16;
 }
 
 // The first open position from `from` on.
-fn next_open(plan: &[u16], from: usize, n: usize) -> Option<usize>
-    requires { (from ≤ n) × (n ≤ length plan.now) }
+fn next_open(plan: &Plan, from: usize, n: usize) -> Option<usize>
+    requires { (from ≤ n) × (n ≤ max_n) }
     ensures { NextOpen plan.now from n result }
 {
     for x in from..n {
-        if plan[x] == OPEN {
+        if plan.kinds[x] == OPEN {
             return Some(x);
         }
     }
@@ -168,7 +161,7 @@ fn next_open(plan: &[u16], from: usize, n: usize) -> Option<usize>
 }
 
 // The next open position becomes a pivot.
-fn put_off(rows: &CheckRows, g: Progress, plan: &mut [u16], symbols: &mut [u8]) -> Progress
+fn put_off(rows: &CheckRows, g: Progress, plan: &mut Plan, symbols: &mut [u8]) -> Progress
     requires cursor_bound { g.cursor < (checks rows.now.shape).n }
     requires reached { Reached (checks rows.now.shape) rows.now.shape.w plan.old symbols.old g }
     ensures { Continued (checks rows.now.shape) rows.now.shape.w plan.old symbols.old g plan.new symbols.new result }
@@ -205,7 +198,7 @@ fn advance(
     rows: &CheckRows,
     r: Option<usize>,
     g: Progress,
-    plan: &mut [u16],
+    plan: &mut Plan,
     symbols: &mut [u8],
 ) -> Progress
     requires row { IfSome r (λ j. (j < rows.now.shape.layout.m) × (0 < g.fuel)) }
@@ -224,7 +217,7 @@ fn turn(
     rows: &CheckRows,
     g: Progress,
     hints: &mut Hints,
-    plan: &mut [u16],
+    plan: &mut Plan,
     symbols: &mut [u8],
 ) -> Progress
     requires cursor_bound { g.cursor < (checks rows.now.shape).n }
@@ -254,7 +247,7 @@ fn none_missing(states: &[u8]) -> bool
 }
 
 // From where the missing positions are open and nothing is used: settles every one of them by a check row, or puts it off.
-fn peel_open(rows: &CheckRows, states: &[u8], plan: &mut [u16], symbols: &mut [u8]) -> Progress
+fn peel_open(rows: &CheckRows, states: &[u8], plan: &mut Plan, symbols: &mut [u8]) -> Progress
     requires opened { Opened (length states.now) states.now plan.old }
     requires states_len { (length states.now ≡ (checks rows.now.shape).n) × (length symbols.old ≡ (checks rows.now.shape).n * rows.now.shape.w) }
     ensures { Peeled (checks rows.now.shape) rows.now.shape.w symbols.old states.now plan.new symbols.new result.early result.steps result.pivots }
@@ -268,8 +261,8 @@ fn peel_open(rows: &CheckRows, states: &[u8], plan: &mut [u16], symbols: &mut [u
 }
 
 // Settles every missing position by a check row, or puts it off.
-pub fn peel(rows: &CheckRows, states: &[u8], plan: &mut [u16], symbols: &mut [u8]) -> Progress
-    requires plan_value { plan.old ≡ replicate plan_size 0 }
+pub fn peel(rows: &CheckRows, states: &[u8], plan: &mut Plan, symbols: &mut [u8]) -> Progress
+    requires unused { NothingUsed plan.old }
     requires states_len { (length states.now ≡ (checks rows.now.shape).n) × (length symbols.old ≡ (checks rows.now.shape).n * rows.now.shape.w) }
     ensures { Peeled (checks rows.now.shape) rows.now.shape.w symbols.old states.now plan.new symbols.new result.early result.steps result.pivots }
 {

@@ -15,7 +15,7 @@ few : (s : Start) → length s.args.states.now ≤ 3072
 few s = omega (arith, few-positions s.args.rows.now.shape, s.requires.states_len.0)
 
 pub open_missing-requires : goal.open_missing-requires
-open_missing-requires c = (few (goal.at.open_missing-requires c).Start, c.requires.plan_value)
+open_missing-requires c = (few (goal.at.open_missing-requires c).Start, c.requires.unused)
 
 pub none_missing-requires : goal.none_missing-requires
 none_missing-requires c = few (goal.at.none_missing-requires c).Start

@@ -33,9 +33,6 @@ loop-g-smaller c = c.turn-g.ensures.less
 pub loop-g-preserved : goal.loop-g-preserved
 loop-g-preserved c = c.turn-g.ensures.state _ _ c.loop-g.invariant
 
-pub shape_of-plan : goal.shape_of-plan
-shape_of-plan c = c.loop-g.invariant.made.size ∙ sym c.requires.opened.size
-
 pub shape_of-symbols : goal.shape_of-symbols
 shape_of-symbols c = c.loop-g.invariant.values.size ∙ sym c.requires.states_len.1
 

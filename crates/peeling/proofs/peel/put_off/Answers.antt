@@ -1,6 +1,6 @@
 -- `peeling::peel::put_off` meets its contract: the cursor passes over closed positions, and the open one after them is put off.
 -- Assumes nothing.
-use Rattle.std.proofs.Common.{◌≡◌, ℕ, ◌+◌, ◌<◌, None, List, length, arith}
+use Rattle.std.proofs.Common.{ℕ, ◌+◌, ◌<◌, None, List, arith}
 use Rattle.algebra.proofs.Codeword.{slot}
 use Rattle.encoder.specs.inner.Positions.{checks}
 use Rattle.peeling.specs.Peel.{FirstOpen, State}
@@ -27,13 +27,13 @@ module _ (o : In-Some) where
       (record { steps = g.steps; pivots = g.pivots; early = g.early; cursor = o.in-Some.x; fuel = g.fuel; last = None })
   passed S = state_pass S None first.after (omega (arith, below)) first.passed
 
-  few : let a = o.args in (a.g.pivots < 3072) × ((o.in-Some.x < 3072) × (length a.plan.now ≡ 9216))
-  few = let S = passed o.requires.reached.state in (omega (arith, below, S.pivots_below, S.made.positions), (omega (arith, below, S.made.positions), S.made.size))
+  few : (o.args.g.pivots < 3072) × (o.in-Some.x < 3072)
+  few = let S = passed o.requires.reached.state in (omega (arith, below, S.pivots_below, S.made.positions), omega (arith, below, S.made.positions))
 
 pub next_open-requires : goal.next_open-requires
 next_open-requires c =
     let m = c.requires.reached.state.made in
-    (omega (arith, symbols_of c.args.rows.now.shape c.args.rows.now.laid.shaped.given, c.requires.cursor_bound), omega (arith, symbols_of c.args.rows.now.shape c.args.rows.now.laid.shaped.given, m.positions, m.size))
+    (omega (arith, symbols_of c.args.rows.now.shape c.args.rows.now.laid.shaped.given, c.requires.cursor_bound), omega (arith, symbols_of c.args.rows.now.shape c.args.rows.now.laid.shaped.given, m.positions))
 
 pub returns-in_default : goal.returns-in_default
 returns-in_default c =
@@ -50,7 +50,7 @@ returns c =
     let o = (goal.at.returns c).In-Some in
     let f = few o in
     record {
-      state = λ block states S. state_defer (passed o S) (below o) (first o).found (deferred _ _ _ f.1.1 f.0 f.1.0 _ c.defer.ensures.plan_after) c.defer.ensures.replaced _;
+      state = λ block states S. state_defer (passed o S) (below o) (first o).found (deferred f.0 f.1 c.defer.ensures.made) c.defer.ensures.replaced _;
       less = omega (arith, below o, (first o).after);
       last = below o;
     }

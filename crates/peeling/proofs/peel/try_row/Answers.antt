@@ -1,11 +1,12 @@
 -- `peeling::peel::try_row` meets its contract: the row is passed over, or its only open position is settled.
 -- Assumes nothing.
-use Rattle.std.proofs.Common.{◌<◌, arith, length-take-le}
+use Rattle.std.proofs.Common.{false, ◌<◌, arith, length-take-le}
 use Rattle.std.proofs.lemmas.List.{get_or-take}
 use Rattle.encoder.specs.inner.Positions.{checks}
 use Rattle.peeling.specs.Peel.{OnlyOpen}
 use Rattle.peeling.proofs.CodeSizes.{row_count}
 use Rattle.peeling.proofs.OpenLaws.{only_taken}
+use Rattle.peeling.proofs.PlanLaws.{used_as}
 use Rattle.peeling.proofs.PeelLaws.{state_late, settle_ready, state_settled}
 use Rattle.peeling.proofs.peel.try_row.Goals as goal
 use Rattle.peeling.proofs.peel.try_row.Goals.{Start, In-Some}
@@ -27,7 +28,7 @@ single-requires c =
     let R = c.of_row-n.ensures in
     λ i h.
     let b : i < c.of_row-n.result = omega (arith, length-take-le c.of_row-n.result c.of_row-n.new.xs (omega (arith, R.few, R.size))) in
-    omega (arith, R.below i b, get_or-take c.of_row-n.result c.of_row-n.new.xs i 0 b, m.positions, m.size)
+    omega (arith, R.below i b, get_or-take c.of_row-n.result c.of_row-n.new.xs i 0 b, m.positions)
 
 pub returns-in_default : goal.returns-in_default
 returns-in_default c = record { state = λ block states S. state_late S _ _; less = omega (arith, c.requires.r_bound.1); last = tt }
@@ -35,27 +36,27 @@ returns-in_default c = record { state = λ block states S. state_late S _ _; les
 pub bounds-plan-r : goal.bounds-plan-r
 bounds-plan-r c =
     let m = c.requires.reached.state.made in
-    omega (arith, row_lt (goal.at.bounds-plan-r c).Start, m.rows, m.size)
+    omega (arith, row_lt (goal.at.bounds-plan-r c).Start, m.rows)
 
-pub returns-then-plan-r-ne0 : goal.returns-then-plan-r-ne0
-returns-then-plan-r-ne0 c = record { state = λ block states S. state_late S _ _; less = omega (arith, c.requires.r_bound.1); last = tt }
+pub returns-then-plan-r : goal.returns-then-plan-r
+returns-then-plan-r c = record { state = λ block states S. state_late S _ _; less = omega (arith, c.requires.r_bound.1); last = tt }
 
 pub settle-requires : goal.settle-requires
 settle-requires c =
     let p = goal.at.settle-requires c in
-    let q = settle_ready c.requires.reached.state c.of_row-n.ensures (row_lt p.Start) (only p.In-Some) c.if-plan-r-ne0.false _ c.wide-p.ensures.0 in
+    let q = settle_ready c.requires.reached.state c.of_row-n.ensures (row_lt p.Start) (only p.In-Some) (used_as c.args.plan.now c.args.r false c.if-plan-r.false) _ c.wide-p.ensures.0 in
     record { t_lt_max_m = q.0; w_in_bounds = q.1.0; by_index = q.1.1 }
 
 pub early_steps-requires : goal.early_steps-requires
 early_steps-requires c =
     let p = goal.at.early_steps-requires c in
-    (settle_ready c.requires.reached.state c.of_row-n.ensures (row_lt p.Start) (only p.In-Some) c.if-plan-r-ne0.false _ c.wide-p.ensures.0).0.0
+    (settle_ready c.requires.reached.state c.of_row-n.ensures (row_lt p.Start) (only p.In-Some) (used_as c.args.plan.now c.args.r false c.if-plan-r.false) _ c.wide-p.ensures.0).0.0
 
 pub returns : goal.returns
 returns c =
     let p = goal.at.returns c in
     record {
-      state = λ block states S. state_settled S c.of_row-n.ensures (row_lt p.Start) (only p.In-Some) c.if-plan-r-ne0.false _ c.wide-p.ensures.0 _ _ _ c.settle.ensures.plan_after c.settle.ensures.replaced
+      state = λ block states S. state_settled S c.of_row-n.ensures (row_lt p.Start) (only p.In-Some) (used_as c.args.plan.now c.args.r false c.if-plan-r.false) _ c.wide-p.ensures.0 _ _ _ c.settle.ensures.made c.settle.ensures.replaced
           c.early_steps.ensures;
       less = omega (arith, c.requires.r_bound.1);
       last = omega (arith, c.of_row-n.ensures.below _ (only p.In-Some).below, c.wide-p.ensures.0);
