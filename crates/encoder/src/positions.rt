@@ -73,7 +73,7 @@ impl CheckRows<'_> {
         requires r_bound { (r < (code_of self.now.shape.number).a) × (i < (code_of self.now.shape.number).q) }
         ensures { Entries (code_of self.now.shape.number) self.now.shape.rows (i * (code_of self.now.shape.number).a + r) result xs.new }
     {
-        let n = tables::wide(self.table.counts[r]);
+        let n = usize::from(self.table.counts[r]);
         let full = (n + 15) / 16 * 16;
         let q = self.shape.layout.q as u16;
         for e in 0..full {
@@ -94,7 +94,7 @@ impl CheckRows<'_> {
         ensures { Information (code_of self.now.shape.number) self.now.shape.fill (i * (code_of self.now.shape.number).a + r) result xs.new }
     {
         let n = self.entries(i, r, xs);
-        keep_sent(self.shape.fill, tables::wide(self.table.whole[r]), n, xs)
+        keep_sent(self.shape.fill, usize::from(self.table.whole[r]), n, xs)
     }
 
     // The same for the encoder. Where the fill ends with a table row nothing is idle: a test that is the same for all check rows, so that the
@@ -117,7 +117,8 @@ impl CheckRows<'_> {
         ensures { RowOf (checks self.now.shape) j result xs.new }
     {
         let l = self.shape.layout;
-        let n = self.sent(quotient(j, l.a), remainder(j, l.a), xs);
+        let (i, r) = divided(j, l.a);
+        let n = self.sent(i, r, xs);
         xs[n] = (l.k + j) as u16;
         if j == 0 {
             return n + 1;
@@ -136,26 +137,16 @@ fn rows_to(fill: usize, q: usize) -> usize
 }
 
 // y / a and y % a. Every code has a = MAX_CLASSES, and a division by a constant is a shift.
-fn quotient(y: usize, a: usize) -> usize
+fn divided(y: usize, a: usize) -> (usize, usize)
     requires { 0 < a }
-    ensures { result ≡ y / a }
+    ensures quotient { result.0 ≡ y / a }
+    ensures remainder { result.1 ≡ y % a }
+    ensures below { result.1 < a }
 {
     if a == MAX_CLASSES {
-        y / MAX_CLASSES
+        (y / MAX_CLASSES, y % MAX_CLASSES)
     } else {
-        y / a
-    }
-}
-
-fn remainder(y: usize, a: usize) -> usize
-    requires { 0 < a }
-    ensures is { result ≡ y % a }
-    ensures below { result < a }
-{
-    if a == MAX_CLASSES {
-        y % MAX_CLASSES
-    } else {
-        y % a
+        (y / a, y % a)
     }
 }
 
@@ -165,10 +156,9 @@ fn enter(q: usize, a: usize, row: usize, i: usize, y: usize, table: &mut ClassTa
     requires row_lt_max_rows { (row < max_rows) × (i < max_degree) }
     ensures { table.new ≡ entered q a row i y table.old }
 {
-    let r = remainder(y, a);
-    let d = quotient(y, a);
+    let (d, r) = divided(y, a);
     table.addresses[row * MAX_DEGREE + i] = y as u16;
-    let n = tables::wide(table.counts[r]);
+    let n = usize::from(table.counts[r]);
     if n >= MAX_POSITIONS {
         return;
     }
@@ -209,7 +199,7 @@ fn before_last_row(fill: usize, ends: &[u16; MAX_ENTRIES], r: usize, n: usize) -
     ensures { Whole fill r n ends.now result }
 {
     for e in (0..n).rev() {
-        if tables::wide(ends[r * MAX_POSITIONS + e]) <= fill {
+        if usize::from(ends[r * MAX_POSITIONS + e]) <= fill {
             return e + 1;
         }
     }
@@ -221,7 +211,7 @@ fn count_whole(s: Shape, r: usize, table: &mut ClassTable)
     requires { Counted s r table.old × (r < (code_of s.number).a) }
     ensures { Counted s (r + 1) table.new }
 {
-    let n = tables::wide(table.counts[r]);
+    let n = usize::from(table.counts[r]);
     let e = before_last_row(s.fill, &table.ends, r, n);
     table.whole[r] = e as u16;
 }
