@@ -12,8 +12,7 @@ use native.Mathlib.Omega.{arith}
 use lib.Bits.{bit_xor}
 use Rattle.std.proofs.Math.Path.{fun_ext}
 use Rattle.std.proofs.Math.Nat.{suc-mul, le-div_iff_mul-le}
-use lib.ListN.{length, get_or, set, length-set, replicate, length-replicate}
-use lib.Seq.{get_or-set_same, get_or-set_other}
+use lib.ListN.{length, get_or}
 use Rattle.std.specs.Prelude.{Some, None, IfSome}
 use Rattle.std.specs.declared.option.Option.{Option}
 use Rattle.algebra.specs.Sums.{◌⊕◌, sum}
@@ -22,9 +21,8 @@ use Rattle.algebra.proofs.Sums as sums
 use Rattle.algebra.proofs.Codeword.{slot}
 use Rattle.buffers.specs.Parts.{put, Sum}
 use Rattle.symbol_sums.specs.declared.chunk.Chunk64.{Chunk64}
-use Rattle.symbol_sums.specs.Gather.{gathered, Inside, Replaced, summed, byte_before, Chunk16Is, Written, SumWritten}
+use Rattle.symbol_sums.specs.Gather.{gathered, Replaced, summed, byte_before, Chunk16Is, Written, SumWritten}
 use Rattle.symbol_sums.specs.Chunks.{Chunk64Is, PlusBytes}
-use Rattle.buffers.proofs.Zeros.{zeros}
 use Rattle.buffers.proofs.Put.{put-length, put_out, put_in, from_zero}
 
 -- ---- one position after the other
@@ -50,10 +48,6 @@ module _ (f : ℕ → ℕ) (w : ℕ) (src xs : List ℕ) where
   }
 
 -- ---- chunks
-
--- 16 zeros
-pub chunk16_zero : {c : ℕ} → Chunk16Is (λ b. 0) c (replicate 16 0)
-chunk16_zero = record { size = length-replicate {A = ℕ} 16 0; each = λ b g. zeros 16 b }
 
 -- 16 sums
 pub chunk16_plus : {f g : ℕ → ℕ} {c : ℕ} {src t t' : List ℕ} {from : ℕ} → Chunk16Is f c t → PlusBytes f g c 16 src from → Sum t 0 src from 16 t' → Chunk16Is g c t'
@@ -112,19 +106,6 @@ put_written {f} {at} {c} {p} {p'} {t} h l e = record {
     apart : (i b : ℕ) → b < 16 → i ≡ at + c + b → (i < at + c) ⊎ (at + (c + 16) ≤ i) → ⊥
     apart i b k q (inl o) = omega arith
     apart i b k q (inr o) = omega arith
-
-pub set_written : {f : ℕ → ℕ} {at c v : ℕ} {p p' : List ℕ} → v ≡ f c → at + c < length p → p' ≡ set p (at + c) v → Written f at c 1 p p'
-set_written {f} {at} {c} {v} {p} {p'} h l e = record {
-  size = ap length e ∙ length-set p (at + c) v;
-  outside = λ i o. ap (λ (x : List ℕ). get_or x i 0) e ∙ get_or-set_other p (at + c) i v 0 (λ q. apart i q o);
-  each = λ b g.
-      let z : c + b ≡ c = omega arith in
-      ap₂ (λ (x : List ℕ) (k : ℕ). get_or x (at + k) 0) e z ∙ get_or-set_same p (at + c) v 0 l ∙ h ∙ ap f (sym z);
-}
-  where
-    apart : (i : ℕ) → i ≡ at + c → (i < at + c) ⊎ (at + (c + 1) ≤ i) → ⊥
-    apart i q (inl o) = omega arith
-    apart i q (inr o) = omega arith
 
 -- n bytes from byte c on were written, and then k from byte i on, some of them perhaps again
 written_join : {f g : ℕ → ℕ} {at c n i k : ℕ} {p p' p'' : List ℕ} → Written f at c n p p' → Written g at i k p' p'' → ((b : ℕ) → b < i + k → g b ≡ f b)
@@ -239,10 +220,6 @@ pub restore_join : (w j : ℕ) (xs : List ℕ) (n : ℕ) {p p' p'' : List ℕ} {
     → SumWritten w j None p xs n 0 c p p' → SumWritten w j None p' xs n i k p' p'' → i ≤ c → c ≤ i + k → i + k ≤ w → SumWritten w j None p xs n 0 (i + k) p p''
 restore_join w j xs n {p} {p'} ne h g l₁ l₂ l₃ =
     symbol-join w j None p p' xs n tt (λ x b r q. other h (omega arith) (get_or xs x 0) b q (ne x r)) h g l₁ l₂ l₃
-
--- positions within a buffer are within each of its length
-pub inside_kept : {xs : List ℕ} {w m m' : ℕ} → Inside xs w m → m' ≡ m → Inside xs w m'
-inside_kept {xs} {w} h e = subst (λ (k : ℕ). Inside xs w k) (sym e) h
 
 -- ---- chunk after chunk
 
