@@ -8,6 +8,9 @@ use native.Mathlib.Nat.{mul_comm, mul-sub, mul-le-mul_right}
 use native.Mathlib.Decide.{dec_lt}
 use native.Mathlib.Omega.{arith}
 use lib.ListN.{length, get_or, take, drop, replicate, length-append, length-drop, length-replicate, get_or-replicate, get_or-append}
+use borrow.Rule.Slice.PartMut.{put_mid}
+use Rattle.std.proofs.Common.{append_assoc}
+use lib.Seq.{drop-drop}
 use lib.Seq.{length-take-le, get_or-take, get_or-drop, get_or-append-add, ext_get_or}
 use Rattle.algebra.specs.Codeword.{byte_at}
 use Rattle.algebra.proofs.Codeword.{slot}
@@ -92,6 +95,16 @@ module _ (l : List ℕ) (f k v : ℕ) (h : f ≤ k) (room : k ≤ length l) wher
       go (no a) (no c) =
           past (take f l ++ replicate (k - f) v) (drop k l) k i both (omega arith) ∙ get_or-drop k l (i - k) 0
           ∙ ap (λ (n : ℕ). get_or l n 0) (omega arith) ∙ by false (idle-not_above k f i (omega arith))
+
+  pub part_is : PartSet f k v l (part_set l f k v)
+  part_is = record { size = part_length; each = λ i q. part_at i }
+
+  -- as the code sets it
+  pub put_is : {y : List ℕ} → y ≡ replicate (k - f) v → PartSet f k v l (put_mid f (k - f) l y)
+  put_is {y} e =
+      subst (PartSet f k v l)
+      (sym (ap (put_mid f (k - f) l) e ∙ ap (λ (t : List ℕ). take f l ++ (replicate (k - f) v ++ t)) (drop-drop (k - f) f l ∙ ap (λ (n : ℕ). drop n l) (omega arith)) ∙ sym (append_assoc (take f l) (replicate (k - f) v) (drop k l))))
+      part_is
 
   pub set_is : {l' : List ℕ} → PartSet f k v l l' → l' ≡ part_set l f k v
   set_is {l'} P =

@@ -40,20 +40,13 @@ pub enum Closed {
     Refused(u8),
 }
 
-// 11, mark. The highest mark is sought without a way out of the loop, which so is compiled to vector instructions.
+// 11, mark. With no way out at the first wrong one, so that it is compiled to vector instructions.
 fn wrong_marks(marks: &[u8]) -> bool
     ensures { result ≡ wrong_marks marks.now }
 {
-    let mut top: u8 = 0;
-    let mut i = 0;
-    while i < marks.len() {
-        let mark = marks[i];
-        if mark > top {
-            top = mark;
-        }
-        i += 1;
-    }
-    status::wrong(top)
+    marks
+        .iter()
+        .fold(false, |wrong, mark| wrong | status::wrong(*mark))
 }
 
 // The number of close's refusal, or 0.
@@ -92,19 +85,18 @@ fn count_marks(marks: &[u8]) -> Counts
 {
     let mut heard: u16 = 0;
     let mut filled: u16 = 0;
-    let mut i = 0;
-    while i < marks.len() {
-        if marks[i] == status::HEARD {
+    for mark in marks {
+        if *mark == status::HEARD {
             heard += 1;
         }
-        if marks[i] == status::FILLED {
+        if *mark == status::FILLED {
             filled += 1;
         }
-        i += 1;
     }
-    let heard = heard as usize;
-    let filled = filled as usize;
-    Counts { heard, filled }
+    Counts {
+        heard: usize::from(heard),
+        filled: usize::from(filled),
+    }
 }
 
 // The verdict, by whether some codeword agrees and by how many positions are left.

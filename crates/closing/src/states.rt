@@ -24,11 +24,7 @@ pub fn set_part(buf: &mut [u8], from: usize, to: usize, value: u8)
     requires { (from ≤ to) × (to ≤ length buf.old) }
     ensures { PartSet from to value buf.old buf.new }
 {
-    let mut i = from;
-    while i < to {
-        buf[i] = value;
-        i += 1;
-    }
+    buf[from..to].fill(value);
 }
 
 // What the decoder is told of each position: idle ones are known. Of k information positions.
@@ -36,10 +32,8 @@ pub fn put_states(b: Block, k: usize, marks: &[u8], states: &mut [u8])
     requires { IdleIn b k (length marks.now) × (length states.old ≡ length marks.now) }
     ensures { StatesAre b marks.now states.new }
 {
-    let mut i = 0;
-    while i < marks.len() {
-        states[i] = state(marks[i]);
-        i += 1;
+    for (i, mark) in marks.iter().enumerate() {
+        states[i] = state(*mark);
     }
     set_part(states, b.fill, k, KNOWN);
 }
@@ -59,10 +53,8 @@ pub fn set_marks(b: Block, k: usize, states: &[u8], marks: &mut [u8])
     requires { IdleIn b k (length marks.old) × (length states.now ≡ length marks.old) }
     ensures { MarksAre b marks.old states.now marks.new }
 {
-    let mut i = 0;
-    while i < marks.len() {
-        marks[i] = after(marks[i], states[i]);
-        i += 1;
+    for (i, mark) in marks.iter_mut().enumerate() {
+        *mark = after(*mark, states[i]);
     }
     set_part(marks, b.fill, k, MISSING);
 }

@@ -9,22 +9,22 @@ use Rattle.closing.proofs.Idle.{by-status}
 use Rattle.closing.proofs.states.put_states.Goals as goal
 
 pub loop-i-init : goal.loop-i-init
-loop-i-init c = (omega arith, filled_none c.requires.1)
+loop-i-init c = filled_none c.requires.1
 
 pub loop-i-preserved : goal.loop-i-preserved
-loop-i-preserved c = let l = c.loop-i in (omega arith, filled_more l.invariant.1 (omega arith) c.state.ensures)
+loop-i-preserved c = let l = c.loop-i in filled_more l.invariant (omega arith) c.state.ensures
 
 pub set_part-requires : goal.set_part-requires
-set_part-requires c = (c.requires.0.fill, omega (arith, c.requires.0.within, c.loop-i.invariant.1.size))
+set_part-requires c = (c.requires.0.fill, omega (arith, c.requires.0.within, c.loop-i.invariant.size))
 
 pub shape_of-states : goal.shape_of-states
-shape_of-states c = c.set_part.ensures.size ∙ c.loop-i.invariant.1.size ∙ sym c.requires.1
+shape_of-states c = c.set_part.ensures.size ∙ c.loop-i.invariant.size ∙ sym c.requires.1
 
 pub returns : goal.returns
 returns c =
     let l = c.loop-i in
     let P = c.set_part.ensures in
     record {
-      size = P.size ∙ l.invariant.1.size;
-      each = by-status c.requires.0 (λ i x. cond (is_known x) 1 0) 1 (λ i. refl) c.args.marks.now l.invariant.1.size (λ i h. l.invariant.1.each i (omega arith)) P;
+      size = P.size ∙ l.invariant.size;
+      each = by-status c.requires.0 (λ i x. cond (is_known x) 1 0) 1 (λ i. refl) c.args.marks.now l.invariant.size (λ i h. l.invariant.each i (omega arith)) P;
     }

@@ -12,28 +12,26 @@ use Rattle.closing.proofs.Idle.{by-status}
 use Rattle.closing.proofs.states.set_marks.Goals as goal
 
 pub loop-i-init : goal.loop-i-init
-loop-i-init c = (omega arith, changed_none _ _)
+loop-i-init c = changed_none _ _
 
 pub loop-i-preserved : goal.loop-i-preserved
 loop-i-preserved c =
     let l = c.loop-i in
-    let states = c.args.states.now in (
-      omega arith,
-      changed_more _ l.invariant.1 (omega arith)
-          (c.after.ensures ∙ ap (λ (v : ℕ). mark_after (status_by v) (eqb (get_or states l.i 0) 2)) (l.invariant.1.rest l.i (omega arith))),
-    )
+    let states = c.args.states.now in
+    changed_more _ l.invariant (omega arith)
+    (c.after.ensures ∙ ap (λ (v : ℕ). mark_after (status_by v) (eqb (get_or states l.i 0) 2)) (l.invariant.rest l.i (omega arith)))
 
 pub set_part-requires : goal.set_part-requires
-set_part-requires c = (c.requires.0.fill, omega (arith, c.requires.0.within, c.loop-i.invariant.1.size))
+set_part-requires c = (c.requires.0.fill, omega (arith, c.requires.0.within, c.loop-i.invariant.size))
 
 pub shape_of-marks : goal.shape_of-marks
-shape_of-marks c = c.set_part.ensures.size ∙ c.loop-i.invariant.1.size
+shape_of-marks c = c.set_part.ensures.size ∙ c.loop-i.invariant.size
 
 pub returns : goal.returns
 returns c =
     let l = c.loop-i in
     let P = c.set_part.ensures in
     record {
-      size = P.size ∙ l.invariant.1.size;
-      each = by-status c.requires.0 (λ i x. mark_after x (eqb (get_or c.args.states.now i 0) 2)) 0 (λ i. refl) c.args.marks.now l.invariant.1.size (λ i h. l.invariant.1.done i (omega arith)) P;
+      size = P.size ∙ l.invariant.size;
+      each = by-status c.requires.0 (λ i x. mark_after x (eqb (get_or c.args.states.now i 0) 2)) 0 (λ i. refl) c.args.marks.now l.invariant.size (λ i h. l.invariant.done i (omega arith)) P;
     }
