@@ -9,13 +9,13 @@ ghost use Rattle.algebra.specs.Agreeing.{verdict_of};
 ghost use Rattle.decoder.specs.Outcome.{verdict_by};
 ghost use Rattle.block.specs.Status.{missing_mark, heard_mark, filled_mark};
 ghost use Rattle.closing.specs.Close.{wrong_marks, sent_marks, report_of, agreeing_words, symbols_after, marks_after, close_refusal, close_of, verdict_as, report_as, closed_as};
-ghost use Rattle.closing.specs.inner.Idle.{IdleIn};
 ghost use Rattle.closing.specs.inner.Ready.{Ready};
 ghost use Rattle.ccsds.specs.inner.Layout.{max_n};
 
 use block::{Block, checks, status};
 use ccsds::code::Code;
 use ccsds::{refusal, tables};
+use states::Filled;
 
 #[derive(Clone, Copy)]
 pub enum Verdict {
@@ -103,63 +103,62 @@ fn count_marks(marks: &[u8]) -> Counts
 fn verdict_by(ok: bool, left: usize) -> Verdict
     ensures { verdict_as result ≡ verdict_by ok left }
 {
-    if !ok {
-        return Verdict::Inconsistent;
-    }
-    if left == 0 {
-        return Verdict::Whole;
-    }
-    Verdict::Ambiguous
-}
-
-// The report, from the marks afterwards: idle positions, below k, are not counted.
-fn make_report(b: Block, k: usize, ok: bool, marks: &[u8]) -> Report
-    requires { IdleIn b k (length marks.now) × (length marks.now ≤ max_n) × ((i : ℕ) → i < length marks.now → get_or marks.now i 0 ≤ 2) }
-    ensures { report_as result ≡ report_of b (verdict_by ok (count missing_mark (sent_marks b marks.now))) marks.now }
-{
-    let fill = b.fill;
-    let information = count_marks(&marks[..fill]);
-    let parity = count_marks(&marks[k..]);
-    let heard = information.heard + parity.heard;
-    let filled = information.filled + parity.filled;
-    let left = fill + (marks.len() - k) - heard - filled;
-    let verdict = verdict_by(ok, left);
-    Report {
-        verdict,
-        heard,
-        filled,
-        left,
+    match (ok, left) {
+        (false, _) => Verdict::Inconsistent,
+        (true, 0) => Verdict::Whole,
+        (true, _) => Verdict::Ambiguous,
     }
 }
 
-// The symbols and marks of a block after the verdict, of k information positions; false where no codeword agrees with the heard symbols.
-fn decode(
-    b: Block,
-    k: usize,
-    symbols: &mut [u8],
-    marks: &mut [u8],
-    states: &mut [u8],
-    work_words: &mut [u64],
-    work_bytes: &mut [u8],
-) -> bool
-    requires ready { Ready b (length symbols.old) (length marks.old) (length work_words.old) (length work_bytes.old) }
-    requires idle_in { IdleIn b k (length marks.old) × (length states.old ≡ length marks.old) }
-    ensures symbols_after { symbols.new ≡ symbols_after b symbols.old marks.old }
-    ensures marks_after { marks.new ≡ marks_after b symbols.old marks.old }
-    ensures verdict { verdict_by result (count missing_mark (sent_marks b marks.new)) ≡ verdict_of (agreeing_words b symbols.old marks.old) }
-{
-    states::set_part(symbols, b.fill * b.w, k * b.w, 0);
-    states::put_states(b, k, marks, states);
-    let ok = decoder::solve::solve(b.code, b.w, b.fill, symbols, states, work_words, work_bytes);
-    states::set_marks(b, k, states, marks);
-    ok
-}
+impl Filled {
+    // The report, from the marks afterwards: idle positions are not counted.
+    fn make_report(self, ok: bool, marks: &[u8]) -> Report
+        requires within { self.k ≤ length marks.now }
+        requires marks_right { (length marks.now ≤ max_n) × ((i : ℕ) → i < length marks.now → get_or marks.now i 0 ≤ 2) }
+        ensures { report_as result ≡ report_of self.block (verdict_by ok (count missing_mark (sent_marks self.block marks.now))) marks.now }
+    {
+        let fill = self.block.fill;
+        let information = count_marks(&marks[..fill]);
+        let parity = count_marks(&marks[self.k..]);
+        let heard = information.heard + parity.heard;
+        let filled = information.filled + parity.filled;
+        let left = fill + (marks.len() - self.k) - heard - filled;
+        let verdict = verdict_by(ok, left);
+        Report {
+            verdict,
+            heard,
+            filled,
+            left,
+        }
+    }
 
-// What the decoder is told of each position, before anything is told.
-fn blank() -> [u8; Code::MAX_N]
-    ensures { length result ≡ max_n }
-{
-    [0u8; Code::MAX_N]
+    // The symbols and marks of a block after the verdict; false where no codeword agrees with the heard symbols.
+    fn decode(
+        self,
+        symbols: &mut [u8],
+        marks: &mut [u8],
+        states: &mut [u8],
+        work_words: &mut [u64],
+        work_bytes: &mut [u8],
+    ) -> bool
+        requires ready { Ready self.block (length symbols.old) (length marks.old) (length work_words.old) (length work_bytes.old) }
+        requires within { self.k ≤ length marks.old }
+        requires states_len { length states.old ≡ length marks.old }
+        ensures symbols_after { symbols.new ≡ symbols_after self.block symbols.old marks.old }
+        ensures marks_after { marks.new ≡ marks_after self.block symbols.old marks.old }
+        ensures verdict { verdict_by result (count missing_mark (sent_marks self.block marks.new)) ≡ verdict_of (agreeing_words self.block symbols.old marks.old) }
+    {
+        let b = self.block;
+        let from = b.fill * b.w;
+        let to = self.k * b.w;
+        states::set_part(symbols, from, to, 0);
+        self.put_states(marks, states);
+        let ok = decoder::solve::solve(
+            b.code, b.w, b.fill, symbols, states, work_words, work_bytes,
+        );
+        self.set_marks(states, marks);
+        ok
+    }
 }
 
 // Closes the block: the verdict with its counts, or a refusal, which changes nothing. The work buffers may hold anything.
@@ -181,19 +180,14 @@ pub fn close(
         return Closed::Refused(refusal);
     }
     let code = Code { number: b.code };
-    let k = code.k();
+    let filled = Filled {
+        block: b,
+        k: code.k(),
+    };
     let n = marks.len();
-    let mut states = blank();
-    let ok = decode(
-        b,
-        k,
-        symbols,
-        marks,
-        &mut states[..n],
-        work_words,
-        work_bytes,
-    );
+    let mut states = [0u8; Code::MAX_N];
+    let ok = filled.decode(symbols, marks, &mut states[..n], work_words, work_bytes);
     buffers::clear_words(work_words);
     buffers::clear(work_bytes);
-    Closed::Reported(make_report(b, k, ok, marks))
+    Closed::Reported(filled.make_report(ok, marks))
 }
