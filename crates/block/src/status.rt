@@ -27,7 +27,8 @@ pub fn of(mark: u8) -> Status
     ensures { status_as result ≡ status_by mark }
 {
     if mark == HEARD {
-        return Status::Heard;
+        Status::Heard
+    } else {
+        Status::Missing
     }
-    Status::Missing
 }

@@ -8,16 +8,19 @@ ghost use Rattle.algebra.specs.Lists.{count};
 ghost use Rattle.algebra.specs.Agreeing.{verdict_of};
 ghost use Rattle.decoder.specs.Outcome.{verdict_by};
 ghost use Rattle.block.specs.Status.{missing_mark, heard_mark, filled_mark};
+ghost use Rattle.ccsds.specs.Refusals.{checked_as};
 ghost use Rattle.closing.specs.Close.{wrong_marks, sent_marks, report_of, agreeing_words, symbols_after, marks_after, close_refusal, close_of, verdict_as, report_as, closed_as};
 ghost use Rattle.closing.specs.inner.Ready.{Ready};
 ghost use Rattle.ccsds.specs.inner.Layout.{max_n};
 
-use block::{Block, checks, status};
+use block::checks::BlockLayout;
+use block::{Block, status};
 use ccsds::code::Code;
-use ccsds::{refusal, tables};
+use ccsds::refusal::Refusal;
+use ccsds::tables;
 use states::Filled;
 
-#[derive(Clone, Copy)]
+#[derive(Clone, Copy, Debug, PartialEq, Eq)]
 pub enum Verdict {
     Whole,
     Ambiguous,
@@ -25,19 +28,12 @@ pub enum Verdict {
 }
 
 // A verdict, and how many positions are heard, filled and left.
-#[derive(Clone, Copy)]
+#[derive(Clone, Copy, Debug, PartialEq, Eq)]
 pub struct Report {
     pub verdict: Verdict,
     pub heard: usize,
     pub filled: usize,
     pub left: usize,
-}
-
-// What close answers: the report, or the number of the refusal.
-#[derive(Clone, Copy)]
-pub enum Closed {
-    Reported(Report),
-    Refused(u8),
 }
 
 // 11, mark. With no way out at the first wrong one, so that it is compiled to vector instructions.
@@ -49,26 +45,26 @@ fn wrong_marks(marks: &[u8]) -> bool
         .fold(false, |wrong, mark| wrong | status::wrong(*mark))
 }
 
-// The number of close's refusal, or 0.
-fn check_close(b: Block, symbols: &[u8], marks: &[u8], work_words: &[u64], work_bytes: &[u8]) -> u8
-    ensures { result ≡ close_refusal b symbols.now marks.now work_words.now work_bytes.now }
+// 1 to 4, 13 or 11: of the record, the lengths of the buffers, and the marks.
+fn check_close(b: Block, symbols: &[u8], marks: &[u8], work_words: &[u64], work_bytes: &[u8]) -> Result<(), Refusal>
+    ensures { checked_as result ≡ close_refusal b symbols.now marks.now work_words.now work_bytes.now }
 {
     let code = Code { number: b.code };
-    let l = tables::layout_of(b.code);
-    let earlier = checks::check_block(b, l, symbols.len(), marks.len());
-    if earlier != 0 {
-        return earlier;
-    }
+    let l = BlockLayout {
+        block: b,
+        layout: tables::layout_of(b.code),
+    };
+    l.check_block(symbols.len(), marks.len())?;
     if work_words.len() != code.work_words() {
-        return refusal::LENGTH;
+        return Err(Refusal::Length);
     }
     if work_bytes.len() != code.parity_bytes(b.w) {
-        return refusal::LENGTH;
+        return Err(Refusal::Length);
     }
     if wrong_marks(marks) {
-        return refusal::MARK;
+        return Err(Refusal::Mark);
     }
-    0
+    Ok(())
 }
 
 // How many positions are heard, and how many are filled.
@@ -168,17 +164,14 @@ pub fn close(
     marks: &mut [u8],
     work_words: &mut [u64],
     work_bytes: &mut [u8],
-) -> Closed
+) -> Result<Report, Refusal>
     ensures answer { closed_as result ≡ (close_of b symbols.old marks.old work_words.old work_bytes.old).answer }
     ensures symbols { symbols.new ≡ (close_of b symbols.old marks.old work_words.old work_bytes.old).symbols }
     ensures marks { marks.new ≡ (close_of b symbols.old marks.old work_words.old work_bytes.old).marks }
     ensures work_words { work_words.new ≡ (close_of b symbols.old marks.old work_words.old work_bytes.old).work_words }
     ensures work_bytes { work_bytes.new ≡ (close_of b symbols.old marks.old work_words.old work_bytes.old).work_bytes }
 {
-    let refusal = check_close(b, symbols, marks, work_words, work_bytes);
-    if refusal != 0 {
-        return Closed::Refused(refusal);
-    }
+    check_close(b, symbols, marks, work_words, work_bytes)?;
     let code = Code { number: b.code };
     let filled = Filled {
         block: b,
@@ -187,7 +180,7 @@ pub fn close(
     let n = marks.len();
     let mut states = [0u8; Code::MAX_N];
     let ok = filled.decode(symbols, marks, &mut states[..n], work_words, work_bytes);
-    buffers::clear_words(work_words);
-    buffers::clear(work_bytes);
-    Closed::Reported(filled.make_report(ok, marks))
+    work_words.fill(0);
+    work_bytes.fill(0);
+    Ok(filled.make_report(ok, marks))
 }

@@ -1,0 +1,32 @@
+-- `block::checks::BlockLayout::admit_parts` meets its contract.
+-- Assumes nothing.
+use mathlib.Core.Path.{refl, sym}
+use Rattle.std.proofs.lemmas.Result.{err_from_is_err_and}
+use Rattle.ccsds.proofs.RefusalOrder.{numbered}
+use native.Mathlib.Omega.{arith}
+use lib.ListN.{length}
+use Rattle.unit_reader.proofs.ReaderLaws.{symbol-within}
+use Rattle.block.specs.inner.Steps.{parts_as}
+use Rattle.block.proofs.Taking.{Fitting, fitting, turned_down, admitted}
+use Rattle.block.proofs.checks.BlockLayout.admit_parts.Goals as goal
+use Rattle.block.proofs.checks.BlockLayout.admit_parts.Goals.{In_ok-check_unit}
+
+fits : (c : In_ok-check_unit) → let a = c.args in Fitting a.self.block (parts_as a.p) (length a.unit.now)
+fits c = fitting _ _ _ (sym c.in_ok-check_unit.ensures)
+
+pub check_unit-requires : goal.check_unit-requires
+check_unit-requires c = symbol-within _ c.requires
+
+pub returns-in_err-check_unit : goal.returns-in_err-check_unit
+returns-in_err-check_unit c =
+    let p = err_from_is_err_and c.from_residual.result c.from_residual.ensures.1 in
+    rw (p.1, p.2) (turned_down _ _ _ _ c.requires c.in_err-check_unit.ensures (numbered _))
+
+pub overflow_sub-position : goal.overflow_sub-position
+overflow_sub-position c = omega (arith, (fits (goal.at.overflow_sub-position c).In_ok-check_unit).above)
+
+pub overflow_sub-start : goal.overflow_sub-start
+overflow_sub-start c = omega (arith, (fits (goal.at.overflow_sub-start c).In_ok-check_unit).symbol)
+
+pub returns : goal.returns
+returns c = admitted _ _ _ _ c.requires c.in_ok-check_unit.ensures refl
