@@ -29,6 +29,7 @@ struct Admitted {
 }
 
 // 8, foreign.
+#[tactic(auto, unfolding(crate::specs::Take::foreign))]
 fn is_foreign(b: Block, p: UnitParts) -> bool
     ensures { result ≡ foreign b (parts_as p) }
 {
@@ -37,6 +38,7 @@ fn is_foreign(b: Block, p: UnitParts) -> bool
 
 impl BlockLayout {
     // 7, parameters.
+    #[tactic(auto, unfolding(crate::specs::Take::wrong_parameters))]
     fn wrong_parameters(self, x: Option<Parameters>) -> bool
         ensures { result ≡ wrong_parameters self.block (extension_as x) }
     {

@@ -1,6 +1,8 @@
 -- `block::open::open` meets its contract.
 -- Assumes nothing.
-use mathlib.Core.Path.{refl, ◌∙◌}
+use mathlib.Core.Path.{◌≡◌, refl, ◌∙◌}
+use lib.ListN.{length, replicate}
+use Rattle.std.proofs.Common.{rules}
 use Rattle.std.proofs.lemmas.Result.{err_from_is_err_and}
 use Rattle.ccsds.proofs.RefusalOrder.{numbered}
 use Rattle.ccsds.proofs.Refusals.{refused-by, kept_by, answered-by, changed_by}
@@ -18,5 +20,8 @@ returns-in_err-check_block c =
 pub returns : goal.returns
 unfolding open_of
 returns c =
+    let a = c.args in
     let e = c.in_ok-check_block.ensures in
-    record { answer = answered-by _ _ e refl _; symbols = ? ; marks = ? }
+    let s : c.fill.new.self ≡ replicate (length a.symbols.now) 0 = search rules in
+    let m : c.fill-2.new.self ≡ replicate (length a.marks.now) 0 = search rules in
+    record { answer = answered-by _ _ e refl _; symbols = s ∙ changed_by _ _ e refl _ _; marks = m ∙ changed_by _ _ e refl _ _ }

@@ -49,6 +49,9 @@ module _ (b : Block) (symbols marks unit : List ℕ) (position start : ℕ) (z :
       (ap (λ (y : List ℕ). take_symbol b symbols marks (record { position = position; symbol = y })) rest
       ∙ sym (take_by_lem b symbols marks unit (answered (record { position = position; symbol = drop start unit })) z e)) q
 
+within_of : (c : In_ok-x) → c.in_ok-x.x.start ≤ length c.args.unit.now
+within_of c = let a = c.args in within a.b a.symbols.now a.marks.now a.unit.now _ _ (sym c.in_ok-check_block.ensures) (sym c.in_ok-x.ensures)
+
 room_of : (c : In_ok-x) → let a = c.args in
     ((c.in_ok-x.x.position < length a.marks.now) × (idle_at a.b c.in_ok-x.x.position ≡ false))
     × ((c.in_ok-x.x.position * a.b.w + a.b.w ≤ length a.symbols.now) × (length (take (length a.unit.now - c.in_ok-x.x.start) (drop c.in_ok-x.x.start a.unit.now)) ≡ a.b.w))
@@ -61,8 +64,8 @@ returns-in_err-check_block c =
     let r = apart (take-refused a.b a.symbols.now a.marks.now a.unit.now _ c.in_err-check_block.ensures (numbered _)) in
     record { answer = rw (p.1, p.2) r.0; symbols = r.1.0; marks = r.1.1 }
 
-pub admit-x-requires : goal.admit-x-requires
-admit-x-requires c =
+pub admit-requires : goal.admit-requires
+admit-requires c =
     let g = c.layout_of.ensures in
     let r = (block_right _ _ _ (sym c.in_ok-check_block.ensures)).0 in
     (compact_of _ _ g (code-known _ r.code) (width_right _ r.width).1, (label_right _ _ r.label).1)
@@ -70,9 +73,15 @@ admit-x-requires c =
 pub returns-in_err-x : goal.returns-in_err-x
 returns-in_err-x c =
     let a = c.args in
-    let p = err_from_is_err_and c.from_residual.result c.from_residual.ensures.1 in
+    let p = err_from_is_err_and c.from_residual-in_err-x.result c.from_residual-in_err-x.ensures.1 in
     let r = apart (take_by_lem a.b a.symbols.now a.marks.now a.unit.now _ (sym c.in_ok-check_block.ensures) (sym c.in_err-x.ensures)) in
     record { answer = rw (p.1, p.2) r.0; symbols = r.1.0; marks = r.1.1 }
+
+pub slice_bounds-take_symbol-start : goal.slice_bounds-take_symbol-start
+slice_bounds-take_symbol-start c = within_of (goal.at.slice_bounds-take_symbol-start c).In_ok-x
+
+pub slice_bounds-take_symbol-count : goal.slice_bounds-take_symbol-count
+slice_bounds-take_symbol-count c = within_of (goal.at.slice_bounds-take_symbol-count c).In_ok-x
 
 pub take_symbol-requires : goal.take_symbol-requires
 take_symbol-requires c =

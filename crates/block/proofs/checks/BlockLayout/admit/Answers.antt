@@ -5,7 +5,7 @@ use Rattle.std.proofs.lemmas.Result.{err_from_is_err_and}
 use Rattle.block.proofs.Taking.{unread}
 use Rattle.block.proofs.checks.BlockLayout.admit.Goals as goal
 
-pub returns-in_err-read_unit : goal.returns-in_err-read_unit
-returns-in_err-read_unit c =
+pub returns-in_err-p : goal.returns-in_err-p
+returns-in_err-p c =
     let p = err_from_is_err_and c.from_residual.result c.from_residual.ensures.1 in
-    rw (p.1, p.2) (unread _ _ _ (sym c.in_err-read_unit.ensures))
+    rw (p.1, p.2) (unread _ _ _ (sym c.in_err-p.ensures))

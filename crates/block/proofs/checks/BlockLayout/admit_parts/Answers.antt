@@ -22,11 +22,11 @@ returns-in_err-check_unit c =
     let p = err_from_is_err_and c.from_residual.result c.from_residual.ensures.1 in
     rw (p.1, p.2) (turned_down _ _ _ _ c.requires c.in_err-check_unit.ensures (numbered _))
 
-pub overflow_sub-position : goal.overflow_sub-position
-overflow_sub-position c = omega (arith, (fits (goal.at.overflow_sub-position c).In_ok-check_unit).above)
+pub overflow_sub-result : goal.overflow_sub-result
+overflow_sub-result c = omega (arith, (fits (goal.at.overflow_sub-result c).In_ok-check_unit).above)
 
-pub overflow_sub-start : goal.overflow_sub-start
-overflow_sub-start c = omega (arith, (fits (goal.at.overflow_sub-start c).In_ok-check_unit).symbol)
+pub overflow_sub-result-2 : goal.overflow_sub-result-2
+overflow_sub-result-2 c = omega (arith, (fits (goal.at.overflow_sub-result-2 c).In_ok-check_unit).symbol)
 
 pub returns : goal.returns
 returns c = admitted _ _ _ _ c.requires c.in_ok-check_unit.ensures refl
