@@ -100,7 +100,10 @@ module _ (b : Block) (symbols marks : List ℕ) where
   take_of unit = take_by unit (block_refusal b (length symbols) (length marks))
 
 -- the cases of take's answer in the paper's words
+abbrev pub result_as : Taken → TakeResult
+result_as Kept = kept
+result_as Repeated = repeated
+
 abbrev pub taken_as : Result Taken Refusal → Outcome TakeResult
-taken_as (Ok Kept) = answered kept
-taken_as (Ok Repeated) = answered repeated
+taken_as (Ok t) = answered (result_as t)
 taken_as (Err r) = refused (refusal_number r)

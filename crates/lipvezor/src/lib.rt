@@ -12,7 +12,8 @@ ghost use Rattle.ccsds.specs.Units.{unit_bytes};
 ghost use Rattle.unit_reader.specs.Reader.{read_unit};
 ghost use Rattle.tiles.specs.Pack.{rows_told};
 ghost use Rattle.block.specs.inner.Steps.{parts_as};
-ghost use Rattle.closing.specs.Close.{verdict_as};
+ghost use Rattle.block.specs.Take.{result_as};
+ghost use Rattle.closing.specs.Close.{verdict_as, report_as};
 ghost use Rattle.lipvezor.specs.Numbers.{version, block_of, number_of, record_after, parts_values, result_values, verdict_number, report_values};
 ghost use Rattle.lipvezor.specs.Sending.{packing, copy_refusal, showing, writing};
 ghost use Rattle.lipvezor.specs.Lent.{codeword_after, buffers_after, work_after, encoding_lent, opening, taking, closing};
@@ -21,7 +22,7 @@ use block::Block;
 use block::take::Taken;
 use ccsds::code::Code;
 use ccsds::refusal::Refusal;
-use closing::Verdict;
+use closing::{Report, Verdict};
 use unit_reader::UnitParts;
 
 // A block's buffers on board: the information symbols, and the parity symbols that encode makes of them. In C, lipvezor_codeword.
@@ -153,7 +154,7 @@ pub extern "C" fn lipvezor_rows_needed(w: usize, lengths: &[usize]) -> usize
     tiles::lengths::rows_needed(w, lengths)
 }
 
-// The block of a record.
+// The block of a record. No From: neither type is this crate's.
 fn block_of(numbers: &[usize; 5]) -> Block
     ensures { result ≡ block_of numbers.now }
 {
@@ -321,6 +322,16 @@ pub extern "C" fn lipvezor_open(numbers: &[usize; 5], buffers: &mut Buffers) -> 
     number_of(&block::open::open(b, &mut *buffers.symbols, &mut *buffers.marks))
 }
 
+// What take did, as the value of its record.
+fn taken_values(t: Taken) -> [usize; 1]
+    ensures { result ≡ result_values (result_as t) }
+{
+    match t {
+        Taken::Kept => [1],
+        Taken::Repeated => [2],
+    }
+}
+
 // Take, with what it did in the lent record (lipvezor_taken).
 #[unsafe(no_mangle)]
 pub extern "C" fn lipvezor_take(
@@ -335,19 +346,15 @@ pub extern "C" fn lipvezor_take(
 {
     let b = block_of(numbers);
     match block::take::take(b, &mut *buffers.symbols, &mut *buffers.marks, unit) {
-        Ok(Taken::Kept) => {
-            *taken = [1];
-            0
-        }
-        Ok(Taken::Repeated) => {
-            *taken = [2];
+        Ok(t) => {
+            *taken = taken_values(t);
             0
         }
         Err(refusal) => refusal.number(),
     }
 }
 
-// A verdict's number, of the C interface.
+// A verdict's number. No From: neither type is this crate's.
 fn verdict_number(v: Verdict) -> usize
     ensures { result ≡ verdict_number (verdict_as v) }
 {
@@ -356,6 +363,13 @@ fn verdict_number(v: Verdict) -> usize
         Verdict::Ambiguous => 2,
         Verdict::Inconsistent => 3,
     }
+}
+
+// A report as the values of its record.
+fn report_values(r: Report) -> [usize; 4]
+    ensures { result ≡ report_values (report_as r) }
+{
+    [verdict_number(r.verdict), r.heard, r.filled, r.left]
 }
 
 // Close, with the verdict and the counts of heard, filled and left positions in the lent record (lipvezor_report).
@@ -381,7 +395,7 @@ pub extern "C" fn lipvezor_close(
     );
     match told {
         Ok(r) => {
-            *report = [verdict_number(r.verdict), r.heard, r.filled, r.left];
+            *report = report_values(r);
             0
         }
         Err(refusal) => refusal.number(),

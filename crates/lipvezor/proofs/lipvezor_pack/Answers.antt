@@ -1,16 +1,10 @@
--- `lipvezor::lipvezor_pack` meets its contract: each case of the answer has its number.
+-- `lipvezor::lipvezor_pack` meets its contract.
 -- Assumes nothing.
-use Rattle.tiles.specs.Pack.{packed_as}
+use mathlib.Core.Path.{ap, ◌∙◌}
 use Rattle.lipvezor.specs.Numbers.{number_of}
-use Rattle.lipvezor.proofs.Answers.{by-case}
 use Rattle.lipvezor.proofs.lipvezor_pack.Goals as goal
 
-pub returns-in-Done : goal.returns-in-Done
-returns-in-Done c =
+pub returns : goal.returns
+returns c =
     let e = c.pack.ensures in
-    record { answer = rw (← c.block_of-b.ensures) (by-case packed_as number_of e.answer c.in-Done.is); output = rw (← c.block_of-b.ensures) e.output }
-
-pub returns-in-Refused : goal.returns-in-Refused
-returns-in-Refused c =
-    let e = c.pack.ensures in
-    record { answer = rw (← c.block_of-b.ensures) (by-case packed_as number_of e.answer c.in-Refused.is); output = rw (← c.block_of-b.ensures) e.output }
+    record { answer = rw (← c.block_of-b.ensures) (c.number_of.ensures ∙ ap number_of e.answer); output = rw (← c.block_of-b.ensures) e.output }

@@ -1,0 +1,25 @@
+-- `lipvezor::lipvezor_close` meets its contract: each case of the answer has its number, a verdict its values in the lent record.
+-- Assumes nothing.
+use mathlib.Core.Path.{ap₂, ◌∙◌}
+use Rattle.lipvezor.specs.Lent.{buffers_after, work_after}
+use Rattle.lipvezor.proofs.lipvezor_close.Goals as goal
+
+pub returns-in-Ok : goal.returns-in-Ok
+returns-in-Ok c =
+    let e = c.in-Ok.ensures in
+    record {
+      answer = rw (← c.block_of-b.ensures, ← e.answer);
+      buffers = rw (← c.block_of-b.ensures) (ap₂ (buffers_after c.args.buffers.now) e.symbols e.marks);
+      work = rw (← c.block_of-b.ensures) (ap₂ (work_after c.args.work.now) e.work_words e.work_bytes);
+      report = rw (← c.block_of-b.ensures, ← e.answer) c.report_values.ensures;
+    }
+
+pub returns-in-Err : goal.returns-in-Err
+returns-in-Err c =
+    let e = c.in-Err.ensures in
+    record {
+      answer = rw (← c.block_of-b.ensures, ← e.answer) c.number.ensures;
+      buffers = rw (← c.block_of-b.ensures) (ap₂ (buffers_after c.args.buffers.now) e.symbols e.marks);
+      work = rw (← c.block_of-b.ensures) (ap₂ (work_after c.args.work.now) e.work_words e.work_bytes);
+      report = rw (← c.block_of-b.ensures, ← e.answer);
+    }
