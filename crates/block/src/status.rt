@@ -16,6 +16,7 @@ pub enum Status {
 }
 
 // 11, mark: above every mark there is.
+#[tactic(auto, unfolding(crate::specs::Status::wrong_mark))]
 pub fn wrong(mark: u8) -> bool
     ensures { result ≡ wrong_mark mark }
 {

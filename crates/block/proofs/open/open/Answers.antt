@@ -3,10 +3,10 @@
 use mathlib.Core.Path.{◌≡◌, refl, ◌∙◌}
 use lib.ListN.{length, replicate}
 use Rattle.std.proofs.Common.{rules}
-use Rattle.std.proofs.lemmas.Result.{err_from_is_err_and}
 use Rattle.ccsds.proofs.RefusalOrder.{numbered}
 use Rattle.ccsds.proofs.Refusals.{refused-by, kept_by, answered-by, changed_by}
-use Rattle.block.specs.Open.{open_of}
+use Rattle.block.proofs.Exits.{passed_on}
+use Rattle.block.specs.Open.{open_of, opened_as}
 use Rattle.block.proofs.open.open.Goals as goal
 
 pub returns-in_err-check_block : goal.returns-in_err-check_block
@@ -14,8 +14,7 @@ unfolding open_of
 returns-in_err-check_block c =
     let e = c.in_err-check_block.ensures in
     let h = numbered _ in
-    let p = err_from_is_err_and c.from_residual.result c.from_residual.ensures.1 in
-    record { answer = rw (p.1, p.2) (refused-by _ _ e h _); symbols = kept_by _ _ e h _ _; marks = kept_by _ _ e h _ _ }
+    record { answer = passed_on opened_as c.from_residual.ensures.1 (refused-by _ _ e h _); symbols = kept_by _ _ e h _ _; marks = kept_by _ _ e h _ _ }
 
 pub returns : goal.returns
 unfolding open_of

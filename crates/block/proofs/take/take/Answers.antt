@@ -7,15 +7,15 @@ use Prim.Native.Nat.{ℕ, ◌+◌, ◌-◌, ◌*◌, ◌≤◌, ◌<◌}
 use native.Mathlib.Omega.{arith}
 use lib.ListN.{length, take, drop, length-drop}
 use lib.Seq.{take_all}
-use Rattle.std.proofs.lemmas.Result.{err_from_is_err_and}
 use Rattle.algebra.proofs.Codeword.{slot}
 use Rattle.ccsds.specs.Refusals.{Outcome, answered}
 use Rattle.ccsds.proofs.RefusalOrder.{numbered}
 use Rattle.ccsds.proofs.Refusals.{code-known, width_right, label_right}
 use Rattle.ccsds.proofs.UnitLaws.{compact_of}
 use Rattle.block.specs.Block.{checks, idle_at, block_refusal}
-use Rattle.block.specs.Take.{TakeResult, Take, admission, take_symbol, take_of}
+use Rattle.block.specs.Take.{TakeResult, Take, admission, take_symbol, take_of, taken_as}
 use Rattle.block.specs.declared.Block.{Block}
+use Rattle.block.proofs.Exits.{passed_on}
 use Rattle.block.proofs.BlockRefusal.{block_right}
 use Rattle.block.proofs.Taking.{Inside, admitted_inside, take-refused, take_by_lem, apart}
 use Rattle.block.proofs.take.take.Goals as goal
@@ -60,9 +60,8 @@ room_of c = let a = c.args in room a.b a.symbols.now a.marks.now a.unit.now _ _ 
 pub returns-in_err-check_block : goal.returns-in_err-check_block
 returns-in_err-check_block c =
     let a = c.args in
-    let p = err_from_is_err_and c.from_residual.result c.from_residual.ensures.1 in
     let r = apart (take-refused a.b a.symbols.now a.marks.now a.unit.now _ c.in_err-check_block.ensures (numbered _)) in
-    record { answer = rw (p.1, p.2) r.0; symbols = r.1.0; marks = r.1.1 }
+    record { answer = passed_on taken_as c.from_residual.ensures.1 r.0; symbols = r.1.0; marks = r.1.1 }
 
 pub admit-requires : goal.admit-requires
 admit-requires c =
@@ -73,9 +72,8 @@ admit-requires c =
 pub returns-in_err-x : goal.returns-in_err-x
 returns-in_err-x c =
     let a = c.args in
-    let p = err_from_is_err_and c.from_residual-in_err-x.result c.from_residual-in_err-x.ensures.1 in
     let r = apart (take_by_lem a.b a.symbols.now a.marks.now a.unit.now _ (sym c.in_ok-check_block.ensures) (sym c.in_err-x.ensures)) in
-    record { answer = rw (p.1, p.2) r.0; symbols = r.1.0; marks = r.1.1 }
+    record { answer = passed_on taken_as c.from_residual-in_err-x.ensures.1 r.0; symbols = r.1.0; marks = r.1.1 }
 
 pub slice_bounds-take_symbol-start : goal.slice_bounds-take_symbol-start
 slice_bounds-take_symbol-start c = within_of (goal.at.slice_bounds-take_symbol-start c).In_ok-x
