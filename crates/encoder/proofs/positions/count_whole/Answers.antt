@@ -8,9 +8,6 @@ use Rattle.encoder.proofs.positions.count_whole.Goals as goal
 pub before_last_row-e-requires : goal.before_last_row-e-requires
 before_last_row-e-requires c = let r = class_room c.requires.0.laid c.requires.1 in (r.0, omega (arith, c.wide-n.ensures.0, r.1))
 
-pub overflow_cast-table : goal.overflow_cast-table
-overflow_cast-table c = omega (arith, c.wide-n.ensures.1, c.before_last_row-e.ensures.few)
-
 pub returns : goal.returns
 returns c =
     let l = c.requires.0.laid in

@@ -10,10 +10,6 @@ pub loop-row-init : goal.loop-row-init
 unfolding table_entered
 loop-row-init c = refl
 
-pub enter_row-requires : goal.enter_row-requires
-enter_row-requires c =
-    record { shaped = (c.requires.shaped.0, c.put_addresses.ensures); row_in_bounds = omega (arith, c.requires.shaped.0.within) }
-
 pub loop-row-preserved : goal.loop-row-preserved
 loop-row-preserved c = row_more _ _ _ c.loop-row.invariant c.enter_row.ensures
 

@@ -4,9 +4,6 @@ use Rattle.std.proofs.Common.{arith}
 use Rattle.encoder.proofs.CheckRow.{class-lt, narrow, few, entries-more, position, all_entries}
 use Rattle.encoder.proofs.positions.CheckRows.entries.Goals as goal
 
-pub loop-e-init : goal.loop-e-init
-loop-e-init c = record { size = omega arith; each = λ k h g. absurd (omega arith) }
-
 pub overflow_cast-q : goal.overflow_cast-q
 overflow_cast-q c = omega (arith, narrow c.args.self.now.laid c.requires.r_bound.0)
 
