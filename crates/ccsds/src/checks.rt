@@ -13,33 +13,21 @@ use crate::tables::Layout;
 pub fn wrong_label(protocol: usize, lsc: usize) -> bool
     ensures { result ≡ wrong_label protocol lsc }
 {
-    if lsc == 0 {
-        return true;
-    }
-    if lsc > 65534 {
-        return true;
-    }
-    protocol > 7
+    lsc == 0 || lsc > 65534 || protocol > 7
 }
 
 // Of k.
 pub fn wrong_fill(k: usize, fill: usize) -> bool
     ensures { result ≡ wrong_fill k fill }
 {
-    if fill == 0 {
-        return true;
-    }
-    fill > k
+    fill == 0 || fill > k
 }
 
 // Of n.
 pub fn wrong_position(n: usize, lwc: usize) -> bool
     ensures { result ≡ wrong_position n lwc }
 {
-    if lwc == 0 {
-        return true;
-    }
-    lwc > n
+    lwc == 0 || lwc > n
 }
 
 // Of k: LWC fill + 1 to k.
