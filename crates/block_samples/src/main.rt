@@ -8,6 +8,7 @@ use ccsds::code::Code;
 use std::io;
 
 // A sample: what it is, its block, the position of which its line tells whether it is filled, and which positions are heard.
+#[derive(Drop)]
 struct Sample<'a, F> {
     name: &'a str,
     block: Block,
@@ -59,12 +60,12 @@ fn filled(mark: u8) -> &'static str {
 // Opens the block, takes the units that are heard, closes, and prints.
 fn run<F: Fn(usize) -> bool>(
     rt: &impl Print,
-    sample: Sample<'_, F>,
+    sample: &Sample<'_, F>,
     units: &[u8],
     symbols: &mut [u8],
     marks: &mut [u8],
 ) -> io::Result<()>
-    requires { F.IsAlwaysCallable sample.hears }
+    requires { F.IsAlwaysCallable sample.now.hears }
 {
     let b = sample.block;
     print!(rt; "{}: ", sample.name)?;
@@ -92,12 +93,12 @@ fn run<F: Fn(usize) -> bool>(
 // used, and there are as many marks as positions.
 fn print_line<F: Fn(usize) -> bool>(
     rt: &impl Print,
-    sample: Sample<'_, F>,
+    sample: &Sample<'_, F>,
     info: &[u8],
     parity: &[u8],
     compare: bool,
 ) -> io::Result<()>
-    requires { F.IsAlwaysCallable sample.hears }
+    requires { F.IsAlwaysCallable sample.now.hears }
 {
     let code = Code {
         number: sample.block.code,
@@ -116,8 +117,8 @@ fn print_line<F: Fn(usize) -> bool>(
 }
 
 // The information is a pattern.
-fn pattern_sample<F: Fn(usize) -> bool>(rt: &impl Print, sample: Sample<'_, F>) -> io::Result<()>
-    requires { F.IsAlwaysCallable sample.hears }
+fn pattern_sample<F: Fn(usize) -> bool>(rt: &impl Print, sample: &Sample<'_, F>) -> io::Result<()>
+    requires { F.IsAlwaysCallable sample.now.hears }
 {
     let b = sample.block;
     let code = Code { number: b.code };
@@ -134,11 +135,11 @@ fn pattern_sample<F: Fn(usize) -> bool>(rt: &impl Print, sample: Sample<'_, F>) 
 // All is zero but the parity's byte `at`, which is `value`.
 fn zero_sample<F: Fn(usize) -> bool>(
     rt: &impl Print,
-    sample: Sample<'_, F>,
+    sample: &Sample<'_, F>,
     at: usize,
     value: u8,
 ) -> io::Result<()>
-    requires { F.IsAlwaysCallable sample.hears }
+    requires { F.IsAlwaysCallable sample.now.hears }
 {
     let b = sample.block;
     let code = Code { number: b.code };
@@ -161,35 +162,35 @@ fn full_blocks(rt: &impl Print) -> io::Result<()> {
         told: 0,
         hears: |p| matches!(p, 1..=511 | 767),
     };
-    pattern_sample(rt, heard)?;
+    pattern_sample(rt, &heard)?;
     let missed = Sample {
         name: "C1, all zero, u_0 and 79 parity symbols missing",
         block: c1(Code::C1_K),
         told: 0,
         hears: |p| !missing(p),
     };
-    zero_sample(rt, missed, 0, 0)?;
+    zero_sample(rt, &missed, 0, 0)?;
     let p_60 = Sample {
         name: "C1, the same with p_60 missing too",
         block: c1(Code::C1_K),
         told: 572,
         hears: |p| p != 572 && !missing(p),
     };
-    zero_sample(rt, p_60, 0, 0)?;
+    zero_sample(rt, &p_60, 0, 0)?;
     let nothing = Sample {
         name: "C2, nothing heard",
         block: c2(),
         told: Code::C2_N - 1,
         hears: |_| false,
     };
-    zero_sample(rt, nothing, 0, 0)?;
+    zero_sample(rt, &nothing, 0, 0)?;
     let last = Sample {
         name: "C2, only LWC 3072 heard, byte 01",
         block: c2(),
         told: Code::C2_N - 1,
         hears: |p| p == Code::C2_N - 1,
     };
-    zero_sample(rt, last, Code::C2_M - 1, 1)
+    zero_sample(rt, &last, Code::C2_M - 1, 1)
 }
 
 fn short_blocks(rt: &impl Print) -> io::Result<()> {
@@ -199,21 +200,21 @@ fn short_blocks(rt: &impl Print) -> io::Result<()> {
         told: Code::C1_K,
         hears: |_| false,
     };
-    zero_sample(rt, nothing, 0, 0)?;
+    zero_sample(rt, &nothing, 0, 0)?;
     let heard = Sample {
         name: "C1, fill 100, positions 1 to 99 and 767 heard",
         block: c1(100),
         told: 0,
         hears: |p| matches!(p, 1..=99 | 767),
     };
-    pattern_sample(rt, heard)?;
+    pattern_sample(rt, &heard)?;
     let first = Sample {
         name: "C1, fill 1, only LWC 513 heard, first byte 01",
         block: c1(1),
         told: Code::C1_K,
         hears: |p| p == Code::C1_K,
     };
-    zero_sample(rt, first, 0, 1)
+    zero_sample(rt, &first, 0, 1)
 }
 
 fn main(rt: HostRuntime) -> io::Result<()> {
