@@ -2,7 +2,8 @@
 -- Assumes nothing.
 use mathlib.Core.Path.{◌≡◌, sym, ◌∙◌}
 use lib.ListN.{length}
-use Rattle.std.proofs.lemmas.Result.{err_from_is_err_and}
+use Rattle.ccsds.specs.Refusals.{checked_as}
+use Rattle.block.proofs.Exits.{passed_on}
 use Rattle.ccsds.proofs.RefusalOrder.{numbered}
 use Rattle.block.specs.Block.{block_refusal}
 use Rattle.closing.proofs.CloseRefusal.{block_refused, words-refused, bytes-refused, marks-refused, none-refused}
@@ -15,8 +16,7 @@ zero c = sym c.in_ok-check_block.ensures
 pub returns-in_err-check_block : goal.returns-in_err-check_block
 returns-in_err-check_block c =
     let a = c.args in
-    let p = err_from_is_err_and c.from_residual.result c.from_residual.ensures.1 in
-    rw (p.1, p.2) (block_refused a.b a.symbols.now a.marks.now a.work_words.now a.work_bytes.now _ c.in_err-check_block.ensures (numbered _))
+    passed_on checked_as c.from_residual.ensures.1 (block_refused a.b a.symbols.now a.marks.now a.work_words.now a.work_bytes.now _ c.in_err-check_block.ensures (numbered _))
 
 pub returns-then-work_words : goal.returns-then-work_words
 returns-then-work_words c =

@@ -5,9 +5,9 @@ use Prim.Native.Nat.{ℕ, ◌≤◌}
 use native.Mathlib.Omega.{arith}
 use lib.ListN.{length, replicate}
 use lib.Seq.{length-take-le}
-use Rattle.std.proofs.lemmas.Result.{err_from_is_err_and}
+use Rattle.block.proofs.Exits.{passed_on}
 use Rattle.ccsds.proofs.RefusalOrder.{numbered}
-use Rattle.closing.specs.Close.{close_refusal, report_as}
+use Rattle.closing.specs.Close.{close_refusal, report_as, closed_as}
 use Rattle.closing.specs.inner.Idle.{IdleIn}
 use Rattle.closing.proofs.CloseRefusal.{ready, idle_in, marks-few}
 use Rattle.closing.proofs.Closing.{close_refused, close_told, marks-small}
@@ -29,9 +29,8 @@ room c = let a = c.args in marks-few a.b a.symbols.now a.marks.now a.work_words.
 pub returns-in_err-check_close : goal.returns-in_err-check_close
 returns-in_err-check_close c =
     let a = c.args in
-    let p = err_from_is_err_and c.from_residual.result c.from_residual.ensures.1 in
     let q = close_refused a.b a.symbols.now a.marks.now a.work_words.now a.work_bytes.now _ c.in_err-check_close.ensures (numbered _) in
-    record { answer = rw (p.1, p.2) q.0; symbols = q.1.0; marks = q.1.1.0; work_words = q.1.1.1.0; work_bytes = q.1.1.1.1 }
+    record { answer = passed_on closed_as c.from_residual.ensures.1 q.0; symbols = q.1.0; marks = q.1.1.0; work_words = q.1.1.1.0; work_bytes = q.1.1.1.1 }
 
 pub invariant_of-filled : goal.invariant_of-filled
 invariant_of-filled c = let i = idle (goal.at.invariant_of-filled c).After-k in record { information = i.information; fill = i.fill }

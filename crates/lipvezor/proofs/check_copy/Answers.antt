@@ -8,8 +8,8 @@ use Rattle.ccsds.specs.Codes.{n_of}
 use Rattle.ccsds.specs.Tables.{code_of}
 use Rattle.ccsds.specs.Fill.{idle_lwc}
 use Rattle.ccsds.specs.RefusalTable as refusal
-use Rattle.ccsds.specs.Refusals.{encoder_conditions, wrong_length, wrong_position}
-use Rattle.std.proofs.lemmas.Result.{err_from_is_err_and}
+use Rattle.ccsds.specs.Refusals.{checked_as, encoder_conditions, wrong_length, wrong_position}
+use Rattle.block.proofs.Exits.{passed_on}
 use Rattle.ccsds.proofs.RefusalOrder.{numbered, chain, part_refuses, part-passed, first_is, first_on, first-end}
 use Rattle.ccsds.proofs.Refusals.{length-same, length-wrong}
 use Rattle.lipvezor.specs.Sending.{copy_refusal}
@@ -44,8 +44,7 @@ pub returns-in_err-check_encoder : goal.returns-in_err-check_encoder
 unfolding copy_refusal
 returns-in_err-check_encoder c =
     let a = c.args in
-    let p = err_from_is_err_and c.from_residual.result c.from_residual.ensures.1 in
-    rw (p.1, p.2) (part_refuses (encoder_conditions a.code a.w a.fill a.info_length a.parity_length) _ refl refl _ c.in_err-check_encoder.ensures (numbered _))
+    passed_on checked_as c.from_residual.ensures.1 (part_refuses (encoder_conditions a.code a.w a.fill a.info_length a.parity_length) _ refl refl _ c.in_err-check_encoder.ensures (numbered _))
 
 pub returns-then-out_length-w : goal.returns-then-out_length-w
 returns-then-out_length-w c = sym (passed (goal.at.returns-then-out_length-w c).In_ok-check_encoder ∙ first_is _ _ _ (length-wrong _ _ c.if-out_length-w.true))

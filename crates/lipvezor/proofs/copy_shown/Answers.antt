@@ -3,7 +3,8 @@
 use mathlib.Core.Path.{◌≡◌, refl, sym, ap, ◌∙◌}
 use native.Mathlib.Omega.{arith}
 use lib.ListN.{length}
-use Rattle.std.proofs.lemmas.Result.{err_from_is_err_and}
+use Rattle.ccsds.specs.Refusals.{outcome_of}
+use Rattle.block.proofs.Exits.{passed_on}
 use Rattle.sending.specs.Show.{Slice}
 use Rattle.ccsds.proofs.RefusalOrder.{numbered}
 use Rattle.ccsds.proofs.Refusals.{refused-by, kept_by, answered-by, changed_by}
@@ -23,8 +24,7 @@ fits c =
 pub returns-in_err-check_copy : goal.returns-in_err-check_copy
 returns-in_err-check_copy c =
     let e = c.in_err-check_copy.ensures in
-    let p = err_from_is_err_and c.from_residual.result c.from_residual.ensures.1 in
-    record { answer = rw (p.1, p.2) (refused-by _ _ e (numbered _) tt); output = kept_by _ _ e (numbered _) _ c.args.out.now }
+    record { answer = passed_on outcome_of c.from_residual.ensures.1 (refused-by _ _ e (numbered _) tt); output = kept_by _ _ e (numbered _) _ c.args.out.now }
 
 pub put_from-requires : goal.put_from-requires
 put_from-requires c = let f = fits (goal.at.put_from-requires c).After-show-shown in (omega arith, omega arith)
