@@ -155,6 +155,7 @@ pub extern "C" fn lipvezor_rows_needed(w: usize, lengths: &[usize]) -> usize
 }
 
 // The block of a record. No From: neither type is this crate's.
+#[tactic(auto, unfolding(crate::specs::Numbers::block_of))]
 fn block_of(numbers: &[usize; 5]) -> Block
     ensures { result ≡ block_of numbers.now }
 {

@@ -21,21 +21,13 @@ fits c =
     let z = copyable _ _ _ _ _ _ _ (sym c.in_ok-check_copy.ensures) in
     z.1 ∙ sym (ap (λ (s : Slice). length s.bytes) c.show-shown.ensures ∙ shown_length b.code b.w b.fill a.info a.parity a.lwc z.0)
 
-pub returns-in_err-check_copy : goal.returns-in_err-check_copy
-returns-in_err-check_copy c =
-    let e = c.in_err-check_copy.ensures in
-    record { answer = passed_on outcome_of c.from_residual.ensures.1 (refused-by _ _ e (numbered _) tt); output = kept_by _ _ e (numbered _) _ c.args.out.now }
-
 pub put_from-requires : goal.put_from-requires
 put_from-requires c = let f = fits (goal.at.put_from-requires c).After-show-shown in (omega arith, omega arith)
 
-pub returns : goal.returns
-returns c =
+pub returns-clause-output : goal.returns-clause-output
+returns-clause-output c =
     let a = c.args in
-    let e = (goal.at.returns c).After-show-shown.in_ok-check_copy.ensures in
+    let e = (goal.at.returns-clause-output c).After-show-shown.in_ok-check_copy.ensures in
     let shown = ap (λ (s : Slice). s.bytes) c.show-shown.ensures in
-    let f = fits (goal.at.returns c).After-show-shown in
-    record {
-      answer = answered-by _ _ e refl tt;
-      output = copied a.out.now _ c.show-shown.result.now f (c.put_from.ensures ∙ put-paste a.out.now 0 c.show-shown.result.now _ (omega arith) (omega arith)) ∙ shown ∙ changed_by _ _ e refl _ a.out.now;
-    }
+    let f = fits (goal.at.returns-clause-output c).After-show-shown in
+    copied a.out.now _ c.show-shown.result.now f (c.put_from.ensures ∙ put-paste a.out.now 0 c.show-shown.result.now _ (omega arith) (omega arith)) ∙ shown ∙ changed_by _ _ e refl _ a.out.now
