@@ -8,21 +8,22 @@ use Rattle.ccsds.specs.Codes.{n_of}
 use Rattle.ccsds.specs.Tables.{code_of}
 use Rattle.ccsds.specs.Fill.{idle_lwc}
 use Rattle.ccsds.specs.RefusalTable as refusal
-use Rattle.ccsds.specs.Refusals.{encoder_conditions, wrong_length, wrong_position}
-use Rattle.ccsds.proofs.RefusalOrder.{chain, part_refuses, part-passed, first_is, first_on, first-end}
+use Rattle.ccsds.specs.Refusals.{checked_as, encoder_conditions, wrong_length, wrong_position}
+use Rattle.block.proofs.Exits.{passed_on}
+use Rattle.ccsds.proofs.RefusalOrder.{numbered, chain, part_refuses, part-passed, first_is, first_on, first-end}
 use Rattle.ccsds.proofs.Refusals.{length-same, length-wrong}
 use Rattle.lipvezor.specs.Sending.{copy_refusal}
 use Rattle.lipvezor.proofs.check_copy.Goals as goal
-use Rattle.lipvezor.proofs.check_copy.Goals.{After-idle_lwc, After-wrong_position, Else-earlier-ne0}
+use Rattle.lipvezor.proofs.check_copy.Goals.{After-idle_lwc, After-wrong_position, In_ok-check_encoder}
 
 -- the output's length, the position and whether it is idle decide
-passed : (c : Else-earlier-ne0) → let a = c.args in
+passed : (c : In_ok-check_encoder) → let a = c.args in
     copy_refusal a.code a.w a.fill a.info_length a.parity_length a.lwc a.out_length
     ≡ chain ((refusal.length, wrong_length a.out_length a.w) ∷ (refusal.position, wrong_position (n_of (code_of a.code)) a.lwc) ∷ (refusal.idle, idle_lwc (code_of a.code).k a.fill a.lwc) ∷ [])
 unfolding copy_refusal
 passed c =
     let a = c.args in
-    part-passed (encoder_conditions a.code a.w a.fill a.info_length a.parity_length) _ refl refl _ c.check_encoder-earlier.ensures c.if-earlier-ne0.false
+    part-passed (encoder_conditions a.code a.w a.fill a.info_length a.parity_length) _ refl refl _ c.in_ok-check_encoder.ensures refl
 
 -- the position and whether it is idle decide
 sized : (c : After-wrong_position) → let a = c.args in
@@ -39,14 +40,14 @@ placed c =
     sized c.before.before.before ∙ first_on _ _ _ c.if-wrong_position.false
     ∙ ap (λ (b : Bool). chain ((refusal.idle, b) ∷ [])) (sym (c.idle_lwc.ensures ∙ (let a = c.args in ap (λ (k : ℕ). idle_lwc k a.fill a.lwc) c.k.ensures)))
 
-pub returns-then-earlier-ne0 : goal.returns-then-earlier-ne0
+pub returns-in_err-check_encoder : goal.returns-in_err-check_encoder
 unfolding copy_refusal
-returns-then-earlier-ne0 c =
+returns-in_err-check_encoder c =
     let a = c.args in
-    part_refuses (encoder_conditions a.code a.w a.fill a.info_length a.parity_length) _ refl refl _ c.check_encoder-earlier.ensures c.if-earlier-ne0.true
+    passed_on checked_as c.from_residual.ensures.1 (part_refuses (encoder_conditions a.code a.w a.fill a.info_length a.parity_length) _ refl refl _ c.in_err-check_encoder.ensures (numbered _))
 
 pub returns-then-out_length-w : goal.returns-then-out_length-w
-returns-then-out_length-w c = sym (passed (goal.at.returns-then-out_length-w c).Else-earlier-ne0 ∙ first_is _ _ _ (length-wrong _ _ c.if-out_length-w.true))
+returns-then-out_length-w c = sym (passed (goal.at.returns-then-out_length-w c).In_ok-check_encoder ∙ first_is _ _ _ (length-wrong _ _ c.if-out_length-w.true))
 
 pub returns-then-wrong_position : goal.returns-then-wrong_position
 returns-then-wrong_position c = sym (sized (goal.at.returns-then-wrong_position c).After-wrong_position ∙ first_is _ _ _ c.if-wrong_position.true)
