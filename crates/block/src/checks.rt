@@ -8,7 +8,7 @@ ghost use Rattle.block.specs.Block.{block_refusal};
 use crate::Block;
 use ccsds::checks;
 use ccsds::refusal::Refusal;
-use ccsds::tables::Layout;
+use ccsds::tables::{CodeLayout, Layout};
 
 // A block's record with its code's numbers.
 #[derive(Clone, Copy)]
@@ -24,7 +24,11 @@ impl BlockLayout {
         ensures { checked_as result ≡ block_refusal self.block symbols_len marks_len }
     {
         let b = self.block;
-        checks::check_record(b.code, self.layout, b.w, b.protocol, b.lsc, b.fill)?;
+        let code = CodeLayout {
+            number: b.code,
+            layout: self.layout,
+        };
+        checks::check_record(code, b.w, b.protocol, b.lsc, b.fill)?;
         let n = self.layout.k + self.layout.m;
         if symbols_len != n * b.w {
             return Err(Refusal::Length);

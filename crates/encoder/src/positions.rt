@@ -8,7 +8,7 @@ ghost use Rattle.encoder.specs.inner.Positions.{entered, row_entered, Classes, W
 ghost use Rattle.symbol_sums.specs.Gather.{max_positions};
 
 use ccsds::tables;
-use ccsds::tables::{Layout, MAX_ADDRESSES, MAX_DEGREE};
+use ccsds::tables::{CodeLayout, Layout, MAX_ADDRESSES, MAX_DEGREE};
 use symbol_sums::MAX_POSITIONS;
 
 // The most classes of a code.
@@ -175,9 +175,12 @@ fn enter_row(s: Shape, flat: &[u16; MAX_ADDRESSES], row: usize, table: &mut Clas
     ensures { table.new ≡ row_entered (code_of s.number) row (length (slice_index_or (code_of s.number).rows row [])) table.old }
 {
     let l = s.layout;
-    for i in 0..tables::row_degree(s.number, l, row) {
-        let y = tables::address(s.number, l, flat, row, i);
-        enter(l.q, l.a, row, i, y, table);
+    let code = CodeLayout {
+        number: s.number,
+        layout: l,
+    };
+    for (i, y) in code.row(flat, row).iter().enumerate() {
+        enter(l.q, l.a, row, i, usize::from(*y), table);
     }
 }
 

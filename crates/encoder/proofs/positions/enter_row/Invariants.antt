@@ -6,4 +6,4 @@ use Rattle.encoder.specs.inner.Positions.{row_entered}
 use Rattle.encoder.proofs.positions.enter_row.Given as goal
 
 abbrev pub invariant-loop-i : goal.invariant-loop-i
-invariant-loop-i l = l.table ≡ row_entered (code_of l.s.number) l.row l.i l.initial.table
+invariant-loop-i l = l.table ≡ row_entered (code_of l.fn.s.number) l.row l.i l.initial.table
