@@ -1,4 +1,4 @@
--- `encoder::positions::enter_row` meets its contract: i addresses are entered.
+-- `encoder::positions::ClassTable::enter_row` meets its contract: i addresses are entered.
 -- Assumes nothing.
 use Rattle.std.proofs.Common.{◌≡◌, ℕ, ◌<◌, ◌≤◌, List, [], length, get_or, refl, ap, ◌∙◌, arith}
 use Rattle.ccsds.specs.Tables.{code_of}
@@ -7,8 +7,8 @@ use Rattle.ccsds.proofs.Valid.{valid_of}
 use Rattle.ccsds.proofs.FlatTable.{row-few}
 use Rattle.encoder.specs.inner.Positions.{row_entered}
 use Rattle.encoder.proofs.ClassTable.{few-classes, address_fits, address_more}
-use Rattle.encoder.proofs.positions.enter_row.Goals as goal
-use Rattle.encoder.proofs.positions.enter_row.Goals.{In-loop-i, Start}
+use Rattle.encoder.proofs.positions.ClassTable.enter_row.Goals as goal
+use Rattle.encoder.proofs.positions.ClassTable.enter_row.Goals.{In-loop-i, Start}
 
 few : (s : Start) → length (get_or (code_of s.args.s.number).rows s.args.row []) ≤ max_degree
 few s = row-few _ _ s.requires.shaped.0.given _ s.requires.row_in_bounds
@@ -37,4 +37,4 @@ loop-i-preserved c =
 pub returns : goal.returns
 returns c =
     let e : c.loop-i.i ≡ length (get_or (code_of c.args.s.number).rows c.args.row []) = omega (arith, ap length c.row-y-items.ensures) in
-    c.loop-i.invariant ∙ ap (λ (k : ℕ). row_entered (code_of c.args.s.number) c.args.row k c.args.table.now) e
+    c.loop-i.invariant ∙ ap (λ (k : ℕ). row_entered (code_of c.args.s.number) c.args.row k c.args.self.now) e
