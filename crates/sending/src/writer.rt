@@ -1,52 +1,45 @@
 // The unit writer.
 ghost use Rattle.std.specs.Prelude.{◌≡◌, ◌+◌, ◌<◌, ◌≤◌, length};
 ghost use Rattle.ccsds.specs.Tables.{code_of};
-ghost use Rattle.ccsds.specs.Refusals.{first_of, outcome, afterwards};
+ghost use Rattle.ccsds.specs.Refusals.{checked_as, first_of, outcome, afterwards};
 ghost use Rattle.ccsds.specs.Units.{header_of, value_bytes, extension_of, unit_of};
 ghost use Rattle.sending.specs.Writer.{unit_conditions, write_refusal, written_as};
 ghost use Rattle.wire.specs.inner.Appended.{Appended};
 ghost use Rattle.ccsds.specs.inner.Compact.{Compact};
 ghost use Rattle.ccsds.specs.inner.Layout.{LayoutOf};
 
+use ccsds::refusal::Refusal;
 use ccsds::tables::Layout;
-use ccsds::{checks, refusal, tables, unit_size};
+use ccsds::{checks, tables, unit_size};
 use wire::{copy, put};
 
-// What write answers: that it is done, or the number of the refusal.
-#[derive(Clone, Copy)]
-pub enum Written {
-    Done,
-    Refused(u8),
-}
-
-// 4, 9, 14 or 10, or 0: for a record that is not refused.
+// 4, 9, 14 or 10: for a record that is not refused.
 fn check_unit(
     number: usize,
     l: Layout,
     w: usize,
     fill: usize,
     lwc: usize,
-    symbolLength: usize,
-    outLength: usize,
-) -> u8
+    symbol_len: usize,
+    out_len: usize,
+) -> Result<(), Refusal>
     requires { LayoutOf (code_of number) l × Compact w l.k (l.k + l.m) }
-    ensures { result ≡ first_of (unit_conditions number w fill lwc symbolLength outLength) }
+    ensures { checked_as result ≡ first_of (unit_conditions number w fill lwc symbol_len out_len) }
 {
     let n = l.k + l.m;
-    let size = unit_size::unit_length(w, l.k, n);
-    if outLength != size {
-        return refusal::LENGTH;
+    if out_len != unit_size::unit_length(w, l.k, n) {
+        return Err(Refusal::Length);
     }
     if checks::wrong_position(n, lwc) {
-        return refusal::POSITION;
+        return Err(Refusal::Position);
     }
     if checks::idle_lwc(l.k, fill, lwc) {
-        return refusal::IDLE;
+        return Err(Refusal::Idle);
     }
-    if symbolLength != w {
-        return refusal::SYMBOL;
+    if symbol_len != w {
+        return Err(Refusal::Symbol);
     }
-    0
+    Ok(())
 }
 
 fn put_header(out: &mut [u8], protocol: usize, lsc: usize, lwc: usize) -> usize
@@ -90,21 +83,15 @@ pub fn write(
     lwc: usize,
     symbol: &[u8],
     out: &mut [u8],
-) -> Written
+) -> Result<(), Refusal>
     ensures answer { written_as result ≡ outcome (write_refusal code w protocol lsc fill lwc (length symbol.now) (length out.old)) tt }
     ensures output { out.new ≡ afterwards (write_refusal code w protocol lsc fill lwc (length symbol.now) (length out.old)) (unit_of (code_of code) w protocol lsc lwc symbol.now) out.old }
 {
     let l = tables::layout_of(code);
-    let earlier = checks::check_record(code, l, w, protocol, lsc, fill);
-    if earlier != 0 {
-        return Written::Refused(earlier);
-    }
-    let refusal = check_unit(code, l, w, fill, lwc, symbol.len(), out.len());
-    if refusal != 0 {
-        return Written::Refused(refusal);
-    }
+    checks::check_record(code, l, w, protocol, lsc, fill)?;
+    check_unit(code, l, w, fill, lwc, symbol.len(), out.len())?;
     let a = put_header(out, protocol, lsc, lwc);
     let b = put_extension(out, a, w, l.k, l.k + l.m);
     copy::symbol(out, b, symbol);
-    Written::Done
+    Ok(())
 }
