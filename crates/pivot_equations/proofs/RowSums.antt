@@ -10,6 +10,7 @@ use native.Mathlib.Omega.{arith}
 use borrow.Author.Tests.{eq-eqb, ne_eqb}
 use lib.Dec.{eqb}
 use lib.ListN.{length, get_or, take, drop, replicate}
+use Rattle.std.proofs.lemmas.List.{get_or-take}
 use Rattle.algebra.specs.Sums.{◌⊕◌, pick, sum}
 use Rattle.algebra.specs.Codeword.{Checks}
 use Rattle.algebra.proofs.Sums.{sum-suc, sum_ext, pick-xor}
@@ -89,13 +90,18 @@ coefficient_but plan l words early p x i = go (eqb x p)
     go true = ap (λ (b : Bool). pick b 1) (depends_none l words early 0 i (omega arith))
     go false = refl
 
+-- the first n positions, as a list of their own
+gathered_take : (f : ℕ → ℕ) (xs : List ℕ) (n : ℕ) → gathered f (take n xs) n ≡ gathered f xs n
+gathered_take f xs n = sum_ext (λ i. true) _ _ n (λ i h. ap f (get_or-take n xs i 0 h))
+
 -- l₁ is l with row t cleared, and l' has all n positions of check row j
 pub row_is : {c : Checks} {plan l l₁ l' xs : List ℕ} {words early rows t j p n k : ℕ} → OnlyRow l l₁ words t → ReadsAll c plan l words early rows t p → RowOf c j n xs
-    → SumTo plan l₁ l' xs words early t p k → k ≡ n → RowIs c plan l l' words early t j p
-row_is {c} {plan} {l} {l₁} {l'} {xs} {words} {early} {rows} {t} {j} {p} o r of s e = record {
+    → SumTo plan l₁ l' (take n xs) words early t p k → k ≡ n → RowIs c plan l l' words early t j p
+row_is {c} {plan} {l} {l₁} {l'} {xs} {words} {early} {rows} {t} {j} {p} {n} o r of s e = record {
   only = only-more o s.only;
   bits = λ i h.
-      s.bits i h ∙ ap (gathered (λ x. pick (depends_on l₁ words early (kind_but plan p x) i) 1) xs) e
-      ∙ of.total (λ x. pick (depends_on l₁ words early (kind_but plan p x) i) 1)
+      let f : ℕ → ℕ = λ x. pick (depends_on l₁ words early (kind_but plan p x) i) 1 in
+      s.bits i h ∙ ap (gathered f (take n xs)) e ∙ gathered_take f xs n
+      ∙ of.total f
       ∙ sum_ext (c.has j) _ _ c.n (λ x g. ap (λ (b : Bool). pick b 1) (depends_same o (r.each x g) i h) ∙ coefficient_but plan l words early p x i);
 }

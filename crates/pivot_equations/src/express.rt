@@ -7,7 +7,6 @@ ghost use Rattle.pivot_equations.specs.Express.{Reads, Added, RowIs, Places, Ste
 ghost use Rattle.symbol_sums.specs.Gather.{max_positions};
 ghost use Rattle.ccsds.specs.inner.Layout.{max_n};
 
-use ccsds::tables;
 use encoder::positions;
 use encoder::positions::{Shape, TABLE_SIZE};
 use peeling::peel;
@@ -127,10 +126,8 @@ fn row(
     let at = t * stride;
     buffers::clear_words(&mut words[at..at + stride]);
     let n = positions::of_row(s, table, e.check, xs);
-    let mut i = 0;
-    while i < n {
-        add_other(early, packed, l.m, t, p, tables::wide(xs[i]), plan, words);
-        i += 1;
+    for x in &xs[..n] {
+        add_other(early, packed, l.m, t, p, usize::from(*x), plan, words);
     }
 }
 
@@ -144,8 +141,7 @@ pub fn steps(s: Shape, r: Rows, table: &[u16; TABLE_SIZE], plan: &[u16], words: 
     ensures same_from { SameFrom words.old words.new r.packed r.steps }
 {
     let mut xs = peel::no_positions();
-    let mut t = r.early;
-    while t < r.steps {
+    for t in r.early..r.steps {
         let j = plan[STEP_ROWS + t] as usize;
         let p = plan[STEP_POSITIONS + t] as usize;
         let e = Target {
@@ -154,7 +150,6 @@ pub fn steps(s: Shape, r: Rows, table: &[u16; TABLE_SIZE], plan: &[u16], words: 
             but: p,
         };
         row(s, r, e, table, &mut xs, plan, words);
-        t += 1;
     }
 }
 
@@ -208,9 +203,7 @@ pub fn remaining(s: Shape, r: Rows, table: &[u16; TABLE_SIZE], plan: &[u16], wor
     let m = l.m;
     let mut xs = peel::no_positions();
     let mut t = r.steps;
-    let mut j = 0;
-    while j < m {
+    for j in 0..m {
         t = remaining_row(s, r, t, j, table, &mut xs, plan, words);
-        j += 1;
     }
 }

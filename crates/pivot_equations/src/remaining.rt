@@ -43,12 +43,10 @@ pub fn hold(s: Shape, table: &[u16; TABLE_SIZE], plan: &[u16], symbols: &[u8]) -
     let l = s.layout;
     let m = l.m;
     let mut xs = peel::no_positions();
-    let mut j = 0;
-    while j < m {
+    for j in 0..m {
         if !passes(s, j, table, &mut xs, plan, symbols) {
             return false;
         }
-        j += 1;
     }
     true
 }
@@ -90,9 +88,7 @@ pub fn sums(s: Shape, table: &[u16; TABLE_SIZE], plan: &[u16], symbols: &[u8], b
     let m = l.m;
     let mut xs = peel::no_positions();
     let mut i = 0;
-    let mut j = 0;
-    while j < m {
+    for j in 0..m {
         i = put_row(s, j, i, table, &mut xs, plan, symbols, bytes);
-        j += 1;
     }
 }

@@ -9,7 +9,6 @@ ghost use Rattle.pivot_equations.specs.Express.{Planned};
 ghost use Rattle.pivot_equations.specs.Unused.{Others};
 
 use crate::express::Rows;
-use ccsds::tables;
 use encoder::positions;
 use encoder::positions::{Shape, TABLE_SIZE};
 use peeling::peel;
@@ -22,12 +21,10 @@ fn others(xs: &mut [u16; MAX_POSITIONS], n: usize, p: usize) -> usize
     ensures { Others xs.old n p xs.new result }
 {
     let mut k = 0;
-    let mut i = 0;
-    while i < n {
+    for i in 0..n {
         let x = xs[i];
         xs[k] = x;
-        k = if tables::wide(x) == p { k } else { k + 1 };
-        i += 1;
+        k = if usize::from(x) == p { k } else { k + 1 };
     }
     k
 }
@@ -60,8 +57,7 @@ pub fn restore_steps(s: Shape, r: Rows, table: &[u16; TABLE_SIZE], plan: &[u16],
     ensures { StepsRestored (checks s) s.w plan.now symbols.old symbols.new r.early r.steps }
 {
     let mut xs = peel::no_positions();
-    let mut t = r.early;
-    while t < r.steps {
+    for t in r.early..r.steps {
         restore_by(
             s,
             plan[STEP_ROWS + t] as usize,
@@ -70,6 +66,5 @@ pub fn restore_steps(s: Shape, r: Rows, table: &[u16; TABLE_SIZE], plan: &[u16],
             &mut xs,
             symbols,
         );
-        t += 1;
     }
 }

@@ -2,7 +2,7 @@
 -- Assumes nothing.
 use mathlib.Core.Path.{◌≡◌}
 use mathlib.Core.List.{List}
-use Prim.Native.Nat.{ℕ, ◌+◌, ◌-◌, ◌≤◌}
+use Prim.Native.Nat.{ℕ, ◌+◌, ◌≤◌}
 use lib.ListN.{length}
 use Rattle.algebra.specs.Codeword.{Checks}
 use Rattle.encoder.specs.inner.Positions.{checks}
@@ -21,6 +21,3 @@ pub record Expressed (c : Checks) (r : Rows) (plan words words' xs : List ℕ) (
 
 abbrev pub invariant-loop-j : goal.invariant-loop-j
 invariant-loop-j l = Expressed (checks l.s) l.r l.plan l.initial.words l.words l.xs l.m l.t l.j
-
-abbrev pub decreases-loop-j : goal.decreases-loop-j
-decreases-loop-j l = l.m - l.j

@@ -2,17 +2,19 @@
 -- Assumes nothing.
 use mathlib.Core.Path.{◌≡◌, sym, subst}
 use mathlib.Core.List.{List, ◌++◌}
-use Prim.Native.Nat.{ℕ, ◌+◌, ◌-◌, ◌*◌, ◌≤◌}
+use Prim.Native.Nat.{ℕ, ◌+◌, ◌-◌, ◌*◌, ◌<◌, ◌≤◌}
 use native.Mathlib.Nat.{mul-le-mul_left, mul-le-mul_right}
 use native.Mathlib.Omega.{arith}
-use lib.ListN.{length, take, drop}
+use lib.ListN.{length, get_or, take, drop, length-take}
+use Rattle.std.proofs.lemmas.List.{get_or-take}
+use Rattle.ccsds.specs.inner.Layout.{max_n}
 use Rattle.algebra.proofs.Codeword.{slot}
 use Rattle.pivot_equations.specs.Express.{Reads, Added, kind_but}
 use Rattle.peeling.proofs.CodeSizes.{few-positions}
 use Rattle.pivot_equations.proofs.RowChanges.{reads_same}
 use Rattle.pivot_equations.proofs.RowSums.{Cleared, cleared, reads_all_same, sum-none, sum_more, row_is}
 use Rattle.pivot_equations.proofs.express.row.Goals as goal
-use Rattle.pivot_equations.proofs.express.row.Goals.{After-clear_words, Start}
+use Rattle.pivot_equations.proofs.express.row.Goals.{After-clear_words, In-loop-x, Start}
 
 -- the row lies within the words
 room : (s : Start)
@@ -68,31 +70,34 @@ slice_bounds-clear_words-end c = omega (arith, room (goal.at.slice_bounds-clear_
 pub of_row-n-requires : goal.of_row-n-requires
 of_row-n-requires c = record { table = c.requires.table; j_bound = c.requires.row_lt_m.1.0; xs_len = c.requires.xs_len }
 
-pub loop-i-init : goal.loop-i-init
-loop-i-init c =
-    let z = zeroed (goal.at.loop-i-init c).After-clear_words in
-    (omega arith, (λ k h. (reads_all_same z.only c.requires.reads_all).each _ (c.of_row-n.ensures.below k h), sum-none z))
+-- a position that the loop passes is one of the check row
+is-position : (c : In-loop-x) → get_or (take c.of_row-n.result c.of_row-n.new.xs) c.loop-x.x-index 0 < max_n
+is-position c =
+    let h : c.loop-x.x-index < c.of_row-n.result = omega (arith, length-take c.of_row-n.result c.of_row-n.new.xs) in
+    omega (arith, get_or-take c.of_row-n.result c.of_row-n.new.xs c.loop-x.x-index 0 h, c.of_row-n.ensures.below c.loop-x.x-index h, few-positions c.args.s)
 
-pub bounds-xs-i : goal.bounds-xs-i
-bounds-xs-i c = omega (arith, c.of_row-n.ensures.few)
+pub loop-x-init : goal.loop-x-init
+loop-x-init c =
+    let z = zeroed (goal.at.loop-x-init c).After-clear_words in
+    let n = c.of_row-n.result in
+    let xs = c.of_row-n.new.xs in
+    (λ k h. let g : k < n = omega (arith, length-take n xs) in (reads_all_same z.only c.requires.reads_all).each _ (rw (get_or-take n xs k 0 g) (c.of_row-n.ensures.below k g)), sum-none z)
 
 pub add_other-requires : goal.add_other-requires
 add_other-requires c =
-    let l = c.loop-i in
-    let e = c.wide.ensures.0 in
-    let x = c.of_row-n.ensures.below l.i (omega arith) in
-    record { packed_bound = (c.requires.packed_bound.0, omega (arith, c.requires.packed_bound.1, (zeroed (goal.at.add_other-requires c).After-clear_words).only.size, l.invariant.1.1.only.size)); t_lt_rows = (c.requires.row_lt_m.0, (omega (arith, e, x, few-positions c.args.s), c.requires.row_lt_m.1.1)); reads = reads-kind c.args.plan.now c.args.e.but (sym e) (reads_same l.invariant.1.1.only (l.invariant.1.0 l.i (omega arith))) }
+    let l = c.loop-x in
+    record { packed_bound = (c.requires.packed_bound.0, omega (arith, c.requires.packed_bound.1, (zeroed (goal.at.add_other-requires c).After-clear_words).only.size, l.invariant.1.only.size)); t_lt_rows = (c.requires.row_lt_m.0, (omega (arith, c.from.ensures, is-position (goal.at.add_other-requires c).In-loop-x), c.requires.row_lt_m.1.1)); reads = reads-kind c.args.plan.now c.args.e.but (sym c.from.ensures) (reads_same l.invariant.1.only (l.invariant.0 l.x-index c.loop-x-test.true)) }
 
-pub loop-i-preserved : goal.loop-i-preserved
-loop-i-preserved c =
+pub loop-x-preserved : goal.loop-x-preserved
+loop-x-preserved c =
     let a = c.args in
-    let l = c.loop-i in
-    (omega arith, (l.invariant.1.0, sum_more l.invariant.1.1 (l.invariant.1.0 l.i (omega arith)) (added-kind a.plan.now a.e.but c.wide.ensures.0 c.add_other.ensures)))
+    let l = c.loop-x in
+    (l.invariant.0, sum_more l.invariant.1 (l.invariant.0 l.x-index c.loop-x-test.true) (added-kind a.plan.now a.e.but c.from.ensures c.add_other.ensures))
 
 pub shape_of-words : goal.shape_of-words
-shape_of-words c = omega (arith, c.loop-i.invariant.1.1.only.size)
+shape_of-words c = omega (arith, c.loop-x.invariant.1.only.size)
 
 pub returns : goal.returns
 returns c =
     let z = zeroed (goal.at.returns c).After-clear_words in
-    record { xs_len_after = c.of_row-n.ensures.size; row_is = row_is z.only c.requires.reads_all c.of_row-n.ensures c.loop-i.invariant.1.1 (omega arith) }
+    record { xs_len_after = c.of_row-n.ensures.size; row_is = row_is z.only c.requires.reads_all c.of_row-n.ensures c.loop-x.invariant.1 (omega (arith, length-take c.of_row-n.result c.of_row-n.new.xs, c.of_row-n.ensures.few, c.of_row-n.ensures.size)) }

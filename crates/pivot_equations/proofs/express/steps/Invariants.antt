@@ -2,7 +2,7 @@
 -- Assumes nothing.
 use mathlib.Core.Path.{◌≡◌}
 use mathlib.Core.List.{List}
-use Prim.Native.Nat.{ℕ, ◌-◌, ◌≤◌}
+use Prim.Native.Nat.{ℕ, ◌≤◌}
 use lib.ListN.{length}
 use Rattle.algebra.specs.Codeword.{Checks}
 use Rattle.encoder.specs.inner.Positions.{checks}
@@ -20,6 +20,3 @@ pub record Expressed (c : Checks) (r : Rows) (plan words words' xs : List ℕ) (
 
 abbrev pub invariant-loop-t : goal.invariant-loop-t
 invariant-loop-t l = Expressed (checks l.s) l.r l.plan l.initial.words l.words l.xs l.t
-
-abbrev pub decreases-loop-t : goal.decreases-loop-t
-decreases-loop-t l = l.r.steps - l.t

@@ -2,7 +2,7 @@
 -- Assumes nothing.
 use mathlib.Core.Path.{◌≡◌}
 use mathlib.Core.List.{List}
-use Prim.Native.Nat.{ℕ, ◌≤◌, ◌-◌}
+use Prim.Native.Nat.{ℕ, ◌≤◌}
 use lib.ListN.{length}
 use Rattle.algebra.specs.Codeword.{Checks}
 use Rattle.encoder.specs.inner.Positions.{checks}
@@ -18,7 +18,4 @@ pub record Restored (c : Checks) (w : ℕ) (r : Rows) (plan symbols symbols' xs 
   pub restored : StepsRestored c w plan symbols symbols' r.early t
 
 abbrev pub invariant-loop-t : goal.invariant-loop-t
-invariant-loop-t l = Restored (checks l.s) l.s.w l.r l.plan l.initial.symbols l.symbols l.xs l.t
-
-abbrev pub decreases-loop-t : goal.decreases-loop-t
-decreases-loop-t l = l.r.steps - l.t
+invariant-loop-t l = Restored (checks l.s) l.s.w l.fn.r l.plan l.initial.symbols l.symbols l.xs l.t
