@@ -12,14 +12,7 @@ fn no_bits(words: &[u64], at: usize, len: usize) -> bool
     requires { at + len ≤ length words.now }
     ensures { NoBitsIs words.now at len result }
 {
-    let mut all: u64 = 0;
-    let mut i = 0;
-    while i < len {
-        let k = at + i;
-        all = all | words[k];
-        i += 1;
-    }
-    all == 0
+    words[at..at + len].iter().fold(0, |all, word| all | word) == 0
 }
 
 // Position p depends on no free pivot.

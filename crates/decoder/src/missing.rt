@@ -28,10 +28,8 @@ pub fn clear_missing(w: usize, symbols: &mut [u8], states: &mut [u8])
     requires { length symbols.old ≡ length states.old * w }
     ensures { Cleared w symbols.old states.old symbols.new states.new (length states.old) }
 {
-    let mut i = 0;
-    while i < states.len() {
+    for i in 0..states.len() {
         clear_at(w, symbols, states, i);
-        i += 1;
     }
 }
 
@@ -49,10 +47,8 @@ fn filled(state: u8) -> u8
 pub fn fill_missing(states: &mut [u8])
     ensures { FilledMissing states.old states.new }
 {
-    let mut i = 0;
-    while i < states.len() {
-        states[i] = filled(states[i]);
-        i += 1;
+    for state in states.iter_mut() {
+        *state = filled(*state);
     }
 }
 
@@ -95,9 +91,7 @@ pub fn fill_determined(
     requires by_index { (p : ℕ) → p < length states.old → is_known states.old p ≡ false → Readable words.now plan.now r.packed r.early (r.steps + r.rest) p }
     ensures { FilledDetermined w r.early r.packed words.now plan.now symbols.old states.old symbols.new states.new }
 {
-    let mut i = 0;
-    while i < states.len() {
+    for i in 0..states.len() {
         fill_at(w, r, i, plan, words, symbols, states);
-        i += 1;
     }
 }

@@ -45,11 +45,8 @@ pub fn put(s: Shape, r: Rows, words: &[u64], bytes: &[u8], plan: &mut [u16], sym
     requires by_index { (i : ℕ) → i < r.rest → pivot_word words.now r.packed (r.steps + i) ≤ r.pivots }
     ensures { Put (checks s) s.w r.packed r.steps r.rest r.pivots words.now bytes.now plan.old symbols.old plan.new symbols.new }
 {
-    let rest = r.rest;
-    let mut i = 0;
-    while i < rest {
+    for i in 0..r.rest {
         put_one(s.w, r.steps, i, r.packed, words, bytes, plan, symbols);
-        i += 1;
     }
 }
 
@@ -59,14 +56,7 @@ pub fn all_solved(s: usize, plan: &[u16]) -> bool
     requires by_index { (u : ℕ) → u < s → pivot_of plan.now u < max_n }
     ensures { AllSolvedIs plan.now s result }
 {
-    let mut u = 0;
-    while u < s {
-        let p = plan[PIVOTS + u] as usize;
-        let kind = plan[p] as usize;
-        if kind <= LAST_PIVOT {
-            return false;
-        }
-        u += 1;
-    }
-    true
+    plan[PIVOTS..PIVOTS + s]
+        .iter()
+        .all(|p| plan[*p as usize] as usize > LAST_PIVOT)
 }
