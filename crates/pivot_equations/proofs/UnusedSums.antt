@@ -18,7 +18,7 @@ use Rattle.symbol_sums.specs.Gather.{gathered, Replaced, CancelIs}
 use Rattle.encoder.specs.inner.Positions.{RowOf}
 use Rattle.peeling.specs.Plan.{used_by, unused_below}
 use Rattle.peeling.specs.Values.{row_sum, HoldIs, Sides}
-use Rattle.pivot_equations.specs.Unused.{PassIs, SidesTo}
+use Rattle.pivot_equations.specs.Unused.{SidesTo}
 use Rattle.peeling.proofs.UnusedRows.{unused-none, unused-one, unused_le, unused-below}
 
 -- ---- whether they are zero
@@ -27,29 +27,30 @@ use Rattle.peeling.proofs.UnusedRows.{unused-none, unused-one, unused_le, unused
 sum_is : {c : Checks} {j n : ℕ} {xs : List ℕ} (w : ℕ) (symbols : List ℕ) → RowOf c j n xs → (b : ℕ) → gathered (byte_at w symbols b) xs n ≡ row_sum c w symbols j b
 sum_is w symbols r b = r.total (byte_at w symbols b)
 
-pub pass_row : {c : Checks} {j n : ℕ} {xs : List ℕ} (w : ℕ) (plan symbols : List ℕ) → RowOf c j n xs → used_by plan j ≡ 0
-    → (r : Bool) → CancelIs w symbols xs n r → PassIs c w plan symbols j r
-pass_row w plan symbols h u true z = λ e b l. sym (sum_is w symbols h b) ∙ z b l
-pass_row w plan symbols h u false z = (u, (z.0, (z.1.0, λ e. z.1.1 (sum_is w symbols h z.0 ∙ e))))
-
 module _ (c : Checks) (w : ℕ) (plan symbols : List ℕ) where
-  -- the first j rows pass
+  -- those of the first j rows that no step used add up to zero
   abbrev pub Passed : ℕ → Type 0
   Passed j = (x b : ℕ) → x < j → used_by plan x ≡ 0 → b < w → row_sum c w symbols x b ≡ 0
 
-  pub pass_more : (j : ℕ) (r : Bool) → Passed j → PassIs c w plan symbols j r → not r ≡ false → Passed (j + 1)
-  pass_more j false h z e = absurd (false≢true (sym e))
-  pass_more j true h z e = λ x b l u g. go x b u g l (dec_lt x j)
+  pass_more : {j : ℕ} → Passed j → (used_by plan j ≡ 0 → (b : ℕ) → b < w → row_sum c w symbols j b ≡ 0) → Passed (j + 1)
+  pass_more {j} h z x b l u g = go (dec_lt x j)
     where
-      go : (x b : ℕ) → used_by plan x ≡ 0 → b < w → x < j + 1 → Dec (x < j) → row_sum c w symbols x b ≡ 0
-      go x b u g l (yes d) = h x b d u g
-      go x b u g l (no d) =
+      go : Dec (x < j) → row_sum c w symbols x b ≡ 0
+      go (yes d) = h x b d u g
+      go (no d) =
           let q : x ≡ j = omega arith in
           ap (λ (y : ℕ). row_sum c w symbols y b) q ∙ z (ap (used_by plan) (sym q) ∙ u) b g
 
-  pub pass_not : (j : ℕ) (r : Bool) → j < c.m → PassIs c w plan symbols j r → not r ≡ true → HoldIs c w plan symbols false
-  pass_not j true l z e = absurd (false≢true e)
-  pass_not j false l z e = (j, (z.1.0, (l, (z.0, (z.1.1.0, z.1.1.1)))))
+  pub pass_used : {j : ℕ} → Passed j → used_by plan j ≢ 0 → Passed (j + 1)
+  pass_used h ne = pass_more h (λ e. absurd (ne e))
+
+  pub pass_row : {j n : ℕ} {xs : List ℕ} → Passed j → RowOf c j n xs → (r : Bool) → CancelIs w symbols xs n r → not r ≡ false → Passed (j + 1)
+  pass_row h r false z e = absurd (false≢true (sym e))
+  pass_row h r true z e = pass_more h (λ u b g. sym (sum_is w symbols r b) ∙ z b g)
+
+  pub pass_not : {j n : ℕ} {xs : List ℕ} → j < c.m → used_by plan j ≡ 0 → RowOf c j n xs → (r : Bool) → CancelIs w symbols xs n r → not r ≡ true → HoldIs c w plan symbols false
+  pass_not l u r true z e = absurd (false≢true e)
+  pass_not {j} l u r false z e = (j, (z.0, (l, (u, (z.1.0, λ q. z.1.1 (sum_is w symbols r z.0 ∙ q))))))
 
   -- ---- their sums
 

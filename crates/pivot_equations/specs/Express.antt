@@ -2,8 +2,9 @@
 -- part. Row t is the expression of step t's position, and the rows behind the steps are those of the check rows that no step used. Internal: no
 -- public contract cites it.
 -- Assumes nothing.
-use Rattle.std.specs.Prelude.{◌≡◌, ◌⊎◌, ◌≢◌, Bool, false, cond, List, ℕ, ◌+◌, ◌-◌, ◌*◌, ◌/◌, ◌%◌, ◌^◌, ◌<◌, ◌≤◌, eqb, ltb, length, get_or, set}
+use Rattle.std.specs.Prelude.{◌≡◌, ◌⊎◌, ◌≢◌, Bool, false, cond, Option, Some, List, ℕ, ◌+◌, ◌-◌, ◌*◌, ◌/◌, ◌%◌, ◌^◌, ◌<◌, ◌≤◌, eqb, ltb, length, get_or, set}
 use Rattle.std.specs.Bool.{xor}
+use Rattle.std.specs.Option.{option_eq}
 use Rattle.algebra.specs.Sums.{◌⊕◌, pick, sum}
 use Rattle.algebra.specs.Codeword.{Checks}
 use Rattle.elimination.specs.Bits.{row_bit}
@@ -56,11 +57,15 @@ pub record Added (l l' : List ℕ) (words early t kind : ℕ) : Type 0 where
   pub only : OnlyRow l l' words t
   pub bits : (i : ℕ) → i < 64 * words → row_bit l' (t * (words + 1)) i ≡ xor (row_bit l (t * (words + 1)) i) (depends_on l words early kind i)
 
--- row t is the sum of the positions of check row j other than p
-pub record RowIs (c : Checks) (plan l l' : List ℕ) (words early t j p : ℕ) : Type 0 where
+-- position x is the one that is left out
+abbrev pub is_left_out : Option ℕ → ℕ → Bool
+is_left_out but x = option_eq eqb (Some x) but
+
+-- row t is the sum of the positions of check row j, but for the one that is left out
+pub record RowIs (c : Checks) (plan l l' : List ℕ) (words early t j : ℕ) (but : Option ℕ) : Type 0 where
   pub only : OnlyRow l l' words t
   pub bits : (i : ℕ) → i < 64 * words
-      → pick (row_bit l' (t * (words + 1)) i) 1 ≡ sum (c.has j) (λ x. cond (eqb x p) 0 (coefficient plan l words early x i)) c.n
+      → pick (row_bit l' (t * (words + 1)) i) 1 ≡ sum (c.has j) (λ x. cond (is_left_out but x) 0 (coefficient plan l words early x i)) c.n
 
 -- every pivot has a place in a row: its number, or one of the rows behind the steps
 abbrev pub Places : Checks → List ℕ → List ℕ → ℕ → ℕ → ℕ → Type 0
@@ -94,13 +99,13 @@ RestExpressed c plan l words early steps = (j i : ℕ) → j < c.m → used_by p
 unfoldable pub flip_row_bit : List ℕ → ℕ → ℕ → List ℕ
 flip_row_bit l base u = set l (base + u / 64) (get_or l (base + u / 64) 0 ⊕ 2 ^ (u % 64))
 
--- the kind of position x, where position p counts as known
-abbrev pub kind_but : List ℕ → ℕ → ℕ → ℕ
-kind_but plan p x = cond (eqb x p) 0 (kind_of plan x)
+-- the kind of position x, where the one that is left out counts as known
+abbrev pub kind_but : List ℕ → Option ℕ → ℕ → ℕ
+kind_but plan but x = cond (is_left_out but x) 0 (kind_of plan x)
 
--- what stands for any position but p may be read while row t is made
-pub record ReadsAll (c : Checks) (plan l : List ℕ) (words early rows t p : ℕ) : Type 0 where
-  pub each : (x : ℕ) → x < c.n → Reads l words early rows t (kind_but plan p x)
+-- what stands for any position but the one that is left out may be read while row t is made
+pub record ReadsAll (c : Checks) (plan l : List ℕ) (words early rows t : ℕ) (but : Option ℕ) : Type 0 where
+  pub each : (x : ℕ) → x < c.n → Reads l words early rows t (kind_but plan but x)
 
 -- RestExpressed for the check rows below `to`
 abbrev pub RestTo : Checks → List ℕ → List ℕ → ℕ → ℕ → ℕ → ℕ → Type 0

@@ -11,7 +11,7 @@ use encoder::positions;
 use encoder::positions::{Shape, TABLE_SIZE};
 use peeling::peel;
 use peeling::plan::{
-    FIRST_PIVOT, FIRST_SOLVED, LAST_PIVOT, LAST_STEP, PIVOTS, STEP_POSITIONS, STEP_ROWS, USED,
+    FIRST_PIVOT, FIRST_SOLVED, LAST_PIVOT, LAST_STEP, STEP_POSITIONS, STEP_ROWS, USED,
 };
 use symbol_sums::MAX_POSITIONS;
 
@@ -69,34 +69,34 @@ fn add(
     flip(words, t * stride, u - 1);
 }
 
-// The same of position x, unless it is p.
+// The same of position x, unless it is the one that is left out.
 fn add_other(
     early: usize,
     packed: usize,
     rows: usize,
     t: usize,
-    p: usize,
+    but: Option<usize>,
     x: usize,
     plan: &[u16],
     words: &mut [u64],
 )
     requires packed_bound { (packed ≤ 48) × (rows * (packed + 1) ≤ length words.old) }
     requires t_lt_rows { (t < rows) × ((x < max_n) × (length plan.now ≡ plan_size)) }
-    requires reads { Reads words.old packed early rows t (kind_but plan.now p x) }
-    ensures { Added words.old words.new packed early t (kind_but plan.now p x) }
+    requires reads { Reads words.old packed early rows t (kind_but plan.now but x) }
+    ensures { Added words.old words.new packed early t (kind_but plan.now but x) }
 {
-    if x == p {
+    if Some(x) == but {
         return;
     }
     add(early, packed, rows, t, x, plan, words);
 }
 
-// Row `row` of the equations, which is to be made from check row `check` without position `but`.
+// Row `row` of the equations, which is to be made from check row `check`, without position `but` if one is left out.
 #[derive(Clone, Copy)]
 struct Target {
     row: usize,
     check: usize,
-    but: usize,
+    but: Option<usize>,
 }
 
 // The row becomes the sum of the expressions of the check row's other positions.
@@ -121,13 +121,12 @@ fn row(
     let early = r.early;
     let packed = r.packed;
     let t = e.row;
-    let p = e.but;
     let stride = packed + 1;
     let at = t * stride;
     buffers::clear_words(&mut words[at..at + stride]);
     let n = positions::of_row(s, table, e.check, xs);
     for x in &xs[..n] {
-        add_other(early, packed, l.m, t, p, usize::from(*x), plan, words);
+        add_other(early, packed, l.m, t, e.but, usize::from(*x), plan, words);
     }
 }
 
@@ -147,46 +146,10 @@ pub fn steps(s: Shape, r: Rows, table: &[u16; TABLE_SIZE], plan: &[u16], words: 
         let e = Target {
             row: t,
             check: j,
-            but: p,
+            but: Some(p),
         };
         row(s, r, e, table, &mut xs, plan, words);
     }
-}
-
-// Check row j, if no step used it: it becomes row t, behind the steps. Returns the next such row's number.
-fn remaining_row(
-    s: Shape,
-    r: Rows,
-    t: usize,
-    j: usize,
-    table: &[u16; TABLE_SIZE],
-    xs: &mut [u16; MAX_POSITIONS],
-    plan: &[u16],
-    words: &mut [u64],
-) -> usize
-    requires table { Table s table.now }
-    requires xs_len { length xs.old ≡ max_positions }
-    requires planned { Planned (checks s) plan.now r }
-    requires room { Room (checks s) r (length words.old) }
-    requires places { Places (checks s) plan.now words.old r.packed r.steps (checks s).m }
-    requires unsolved { Unsolved plan.now r.pivots }
-    requires j_bound { (j < (code_of s.number).m) × (t ≡ r.steps + unused_below plan.now j) }
-    requires rest_to { RestTo (checks s) plan.now words.old r.packed r.early r.steps j }
-    ensures xs_len_after { length xs.new ≡ max_positions }
-    ensures value { result ≡ r.steps + unused_below plan.now (j + 1) }
-    ensures rest_to_next { RestTo (checks s) plan.now words.new r.packed r.early r.steps (j + 1) }
-    ensures same_below { SameBelow words.old words.new r.packed r.steps }
-{
-    if plan[USED + j] != 0 {
-        return t;
-    }
-    let e = Target {
-        row: t,
-        check: j,
-        but: PIVOTS,
-    };
-    row(s, r, e, table, xs, plan, words);
-    t + 1
 }
 
 // The check rows that no step used, after the steps.
@@ -199,11 +162,17 @@ pub fn remaining(s: Shape, r: Rows, table: &[u16; TABLE_SIZE], plan: &[u16], wor
     ensures rest_expressed { RestExpressed (checks s) plan.now words.new r.packed r.early r.steps }
     ensures same_below { SameBelow words.old words.new r.packed r.steps }
 {
-    let l = s.layout;
-    let m = l.m;
     let mut xs = peel::no_positions();
     let mut t = r.steps;
-    for j in 0..m {
-        t = remaining_row(s, r, t, j, table, &mut xs, plan, words);
+    for j in 0..s.layout.m {
+        if plan[USED + j] == 0 {
+            let e = Target {
+                row: t,
+                check: j,
+                but: None,
+            };
+            row(s, r, e, table, &mut xs, plan, words);
+            t += 1;
+        }
     }
 }

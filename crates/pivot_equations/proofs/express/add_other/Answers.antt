@@ -1,12 +1,14 @@
-use native.Mathlib.Omega.{arith}
+-- `pivot_equations::express::add_other` meets its contract.
+-- Assumes nothing.
+use mathlib.Core.Path.{sym, ◌∙◌}
 use Rattle.pivot_equations.proofs.RowSums.{reads_other, added_other, added_own}
 use Rattle.pivot_equations.proofs.express.add_other.Goals as goal
 
-pub returns-then-x-p : goal.returns-then-x-p
-returns-then-x-p c = added_own c.args.plan.now c.args.p c.args.x (omega arith)
+pub returns-then-eq : goal.returns-then-eq
+returns-then-eq c = added_own c.args.plan.now c.args.but c.args.x (sym c.eq.ensures ∙ c.if-eq.true)
 
-pub add-requires : goal.add-requires
-add-requires c = record { packed_bound = c.requires.packed_bound; t_lt_rows = c.requires.t_lt_rows; reads = reads_other c.args.plan.now c.args.p c.args.x (λ e. omega arith) c.requires.reads }
+pub add-requires-clause-reads : goal.add-requires-clause-reads
+add-requires-clause-reads c = reads_other c.args.plan.now c.args.but c.args.x (sym c.eq.ensures ∙ c.if-eq.false) c.requires.reads
 
 pub returns : goal.returns
-returns c = added_other c.args.plan.now c.args.p c.args.x (λ e. omega arith) c.add.ensures
+returns c = added_other c.args.plan.now c.args.but c.args.x (sym c.eq.ensures ∙ c.if-eq.false) c.add.ensures

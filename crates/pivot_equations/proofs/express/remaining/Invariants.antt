@@ -2,7 +2,7 @@
 -- Assumes nothing.
 use mathlib.Core.Path.{◌≡◌}
 use mathlib.Core.List.{List}
-use Prim.Native.Nat.{ℕ, ◌+◌, ◌≤◌}
+use Prim.Native.Nat.{ℕ, ◌+◌}
 use lib.ListN.{length}
 use Rattle.algebra.specs.Codeword.{Checks}
 use Rattle.encoder.specs.inner.Positions.{checks}
@@ -12,12 +12,11 @@ use Rattle.pivot_equations.specs.declared.express.Rows.{Rows}
 use Rattle.pivot_equations.proofs.express.remaining.Given as goal
 
 -- the unused check rows before j are expressed in rows up to t, and nothing of the steps has changed
-pub record Expressed (c : Checks) (r : Rows) (plan words words' xs : List ℕ) (m t j : ℕ) : Type 0 where
+pub record Expressed (c : Checks) (r : Rows) (plan words words' xs : List ℕ) (t j : ℕ) : Type 0 where
   pub size : length xs ≡ 64
-  pub to : j ≤ m
   pub next : t ≡ r.steps + unused_below plan j
   pub expressed : RestTo c plan words' r.packed r.early r.steps j
   pub steps : SameBelow words words' r.packed r.steps
 
 abbrev pub invariant-loop-j : goal.invariant-loop-j
-invariant-loop-j l = Expressed (checks l.s) l.r l.plan l.initial.words l.words l.xs l.m l.t l.j
+invariant-loop-j l = Expressed (checks l.s) l.r l.plan l.initial.words l.words l.xs l.t l.j

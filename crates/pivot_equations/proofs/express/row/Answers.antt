@@ -1,6 +1,7 @@
 -- `pivot_equations::express::row` meets its contract: after i turns, the expressions of i positions are added.
 -- Assumes nothing.
 use mathlib.Core.Path.{◌≡◌, sym, subst}
+use Rattle.std.specs.Prelude.{Option}
 use mathlib.Core.List.{List, ◌++◌}
 use Prim.Native.Nat.{ℕ, ◌+◌, ◌-◌, ◌*◌, ◌<◌, ◌≤◌}
 use native.Mathlib.Nat.{mul-le-mul_left, mul-le-mul_right}
@@ -45,12 +46,12 @@ zeroed c =
     cleared a.words.now c.clear_words.new.buf a.r.packed a.e.row (at + (a.r.packed + 1) - at) (omega arith) (room c.before.before.before.before.before.before) c.clear_words.ensures
 
 -- a position by its number of 16 bits
-module _ (plan : List ℕ) (p : ℕ) {x y : ℕ} (e : x ≡ y) where
-  reads-kind : {words : List ℕ} {packed early rows t : ℕ} → Reads words packed early rows t (kind_but plan p x) → Reads words packed early rows t (kind_but plan p y)
-  reads-kind {words} {packed} {early} {rows} {t} h = subst (λ (k : ℕ). Reads words packed early rows t (kind_but plan p k)) e h
+module _ (plan : List ℕ) (but : Option ℕ) {x y : ℕ} (e : x ≡ y) where
+  reads-kind : {words : List ℕ} {packed early rows t : ℕ} → Reads words packed early rows t (kind_but plan but x) → Reads words packed early rows t (kind_but plan but y)
+  reads-kind {words} {packed} {early} {rows} {t} h = subst (λ (k : ℕ). Reads words packed early rows t (kind_but plan but k)) e h
 
-  added-kind : {words words' : List ℕ} {packed early t : ℕ} → Added words words' packed early t (kind_but plan p x) → Added words words' packed early t (kind_but plan p y)
-  added-kind {words} {words'} {packed} {early} {t} h = subst (λ (k : ℕ). Added words words' packed early t (kind_but plan p k)) e h
+  added-kind : {words words' : List ℕ} {packed early t : ℕ} → Added words words' packed early t (kind_but plan but x) → Added words words' packed early t (kind_but plan but y)
+  added-kind {words} {words'} {packed} {early} {t} h = subst (λ (k : ℕ). Added words words' packed early t (kind_but plan but k)) e h
 
 pub overflow_mul-at : goal.overflow_mul-at
 overflow_mul-at c = omega (arith, small (goal.at.overflow_mul-at c).Start)

@@ -7,4 +7,4 @@ use Rattle.pivot_equations.proofs.RowSums.{SumTo}
 use Rattle.pivot_equations.proofs.express.row.Given as goal
 
 abbrev pub invariant-loop-x : goal.invariant-loop-x
-invariant-loop-x l = ((k : ℕ) → k < length l.x-items → Reads l.initial.words l.packed l.early l.l.m l.t (kind_but l.plan l.p (get_or l.x-items k 0))) × SumTo l.plan l.initial.words l.words l.x-items l.packed l.early l.t l.p l.x-index
+invariant-loop-x l = ((k : ℕ) → k < length l.x-items → Reads l.initial.words l.packed l.early l.l.m l.t (kind_but l.plan l.e.but (get_or l.x-items k 0))) × SumTo l.plan l.initial.words l.words l.x-items l.packed l.early l.t l.e.but l.x-index
