@@ -7,9 +7,8 @@ use Rattle.elimination.specs.Reduced.{Reduced}
 use Rattle.peeling.specs.Plan.{unused_below}
 use Rattle.peeling.specs.Values.{Sides, StepsRestored, Peeled}
 use Rattle.pivot_equations.specs.Express.{StepsExpressed, RestExpressed, Room}
-use Rattle.pivot_equations.specs.declared.express.Rows.{Rows}
+use Rattle.pivot_equations.specs.declared.rows.Rows.{Rows}
 use Rattle.decoder.specs.Pivots.{Put}
-use Rattle.ccsds.specs.inner.Layout.{max_m}
 
 -- where the rows of the check rows that no step used begin
 abbrev pub behind : ℕ → ℕ → List ℕ → List ℕ
@@ -34,8 +33,6 @@ pub record PutIn (c : Checks) (w words early steps rest pivots : ℕ) (l d plan 
 
 -- the rows and their right-hand sides are within words and bytes of these lengths
 pub record RowsRoom (r : Rows) (w words bytes : ℕ) : Type 0 where
-  pub few : r.packed ≤ 48
-  pub count : r.rest ≤ max_m
   pub fit : r.steps * (r.packed + 1) + r.rest * (r.packed + 1) ≤ words
   pub sides : r.rest * w ≤ bytes
 

@@ -5,6 +5,7 @@ use Rattle.algebra.specs.Codeword.{byte_at}
 use Rattle.peeling.specs.States.{is_known}
 use Rattle.peeling.specs.Plan.{kind_of, plan_size}
 use Rattle.decoder.specs.Pivots.{DeterminedIs}
+use Rattle.pivot_equations.specs.declared.rows.Rows.{Rows}
 use Rattle.decoder.specs.Outcome.{Leaves}
 use Rattle.ccsds.specs.inner.Layout.{max_n}
 
@@ -44,19 +45,18 @@ pub record FilledAt (w early words : ℕ) (l plan symbols states symbols' states
   pub missing : is_known states i ≡ false → DeterminedAt w early words l plan symbols symbols' states' i ⊎ DependsOnPivot w early words l plan symbols' states' i
 
 -- one position, and no other
-pub record FilledOne (w early words : ℕ) (l plan symbols states symbols' states' : List ℕ) (p : ℕ) : Type 0 where
-  pub at : FilledAt w early words l plan symbols states symbols' states' p
+pub record FilledOne (w : ℕ) (r : Rows) (l plan symbols states symbols' states' : List ℕ) (p : ℕ) : Type 0 where
+  pub at : FilledAt w r.early r.packed l plan symbols states symbols' states' p
   pub others : (i : ℕ) → i ≢ p → Untouched w symbols states symbols' states' i
 
 -- every position
-pub record FilledDetermined (w early words : ℕ) (l plan symbols states symbols' states' : List ℕ) : Type 0 where
+pub record FilledDetermined (w : ℕ) (r : Rows) (l plan symbols states symbols' states' : List ℕ) : Type 0 where
   pub symbols-size : length symbols' ≡ length symbols
   pub states-size : length states' ≡ length states
-  pub each : (i : ℕ) → i < length states → FilledAt w early words l plan symbols states symbols' states' i
+  pub each : (i : ℕ) → i < length states → FilledAt w r.early r.packed l plan symbols states symbols' states' i
 
 -- the lengths of the arrays that are read
-pub record FillRoom (words rows plan l states : ℕ) : Type 0 where
-  pub few : words ≤ 48
-  pub fit : rows * (words + 1) ≤ l
+pub record FillRoom (r : Rows) (plan l states : ℕ) : Type 0 where
+  pub fit : (r.steps + r.rest) * (r.packed + 1) ≤ l
   pub plan_size_lem : plan ≡ plan_size
   pub positions : states ≤ max_n

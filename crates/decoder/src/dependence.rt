@@ -5,7 +5,7 @@ ghost use Rattle.decoder.specs.Pivots.{NoBitsIs, Readable, DeterminedIs};
 ghost use Rattle.ccsds.specs.inner.Layout.{max_n};
 
 use peeling::plan::{FIRST_SOLVED, LAST_PIVOT, LAST_STEP};
-use pivot_equations::express::Rows;
+use pivot_equations::rows::Rows;
 
 // The row of len words at `at` has no pivot.
 fn no_bits(words: &[u64], at: usize, len: usize) -> bool
@@ -17,26 +17,23 @@ fn no_bits(words: &[u64], at: usize, len: usize) -> bool
 
 // Position p depends on no free pivot.
 pub fn determined(r: Rows, p: usize, plan: &[u16], words: &[u64]) -> bool
-    requires packed_bound { (r.packed ≤ 48) × ((r.steps + r.rest) * (r.packed + 1) ≤ length words.now) }
+    requires words_len { (r.steps + r.rest) * (r.packed + 1) ≤ length words.now }
     requires p_lt_max_n { (p < max_n) × (length plan.now ≡ plan_size) }
-    requires readable { Readable words.now plan.now r.packed r.early (r.steps + r.rest) p }
+    requires readable { Readable r words.now plan.now p }
     ensures { DeterminedIs words.now r.packed r.early (kind_of plan.now p) result }
 {
-    let packed = r.packed;
-    let early = r.early;
-    let stride = packed + 1;
+    let stride = r.packed + 1;
     let kind = plan[p] as usize;
-    if kind <= early {
+    if kind <= r.early {
         return true;
     }
     if kind <= LAST_STEP {
-        return no_bits(words, (kind - 1) * stride, packed);
+        return no_bits(words, (kind - 1) * stride, r.packed);
     }
     if kind <= LAST_PIVOT {
         return false;
     }
     let h = (kind - FIRST_SOLVED) * stride;
-    let k = h + packed;
-    let u = words[k] as usize;
-    elimination::bits::only(words, h, packed, u - 1)
+    let u = words[h + r.packed] as usize;
+    elimination::bits::only(words, h, r.packed, u - 1)
 }

@@ -7,7 +7,7 @@ ghost use Rattle.decoder.specs.MissingPositions.{Cleared, FilledMissing, FillRoo
 
 use crate::dependence;
 use peeling::states::{DETERMINED, KNOWN, LEFT};
-use pivot_equations::express::Rows;
+use pivot_equations::rows::Rows;
 
 // Where position i is not known, it gets zero bytes and state 0.
 fn clear_at(w: usize, symbols: &mut [u8], states: &mut [u8], i: usize)
@@ -62,10 +62,10 @@ fn fill_at(
     symbols: &mut [u8],
     states: &mut [u8],
 )
-    requires fill_room { FillRoom r.packed (r.steps + r.rest) (length plan.now) (length words.now) (length states.old) }
+    requires fill_room { FillRoom r (length plan.now) (length words.now) (length states.old) }
     requires p_in_bounds { (p < length states.old) × (length symbols.old ≡ length states.old * w) }
-    requires readable { is_known states.old p ≡ false → Readable words.now plan.now r.packed r.early (r.steps + r.rest) p }
-    ensures { FilledOne w r.early r.packed words.now plan.now symbols.old states.old symbols.new states.new p }
+    requires readable { is_known states.old p ≡ false → Readable r words.now plan.now p }
+    ensures { FilledOne w r words.now plan.now symbols.old states.old symbols.new states.new p }
 {
     if states[p] == KNOWN {
         return;
@@ -86,10 +86,10 @@ pub fn fill_determined(
     symbols: &mut [u8],
     states: &mut [u8],
 )
-    requires fill_room { FillRoom r.packed (r.steps + r.rest) (length plan.now) (length words.now) (length states.old) }
+    requires fill_room { FillRoom r (length plan.now) (length words.now) (length states.old) }
     requires symbols_len { length symbols.old ≡ length states.old * w }
-    requires by_index { (p : ℕ) → p < length states.old → is_known states.old p ≡ false → Readable words.now plan.now r.packed r.early (r.steps + r.rest) p }
-    ensures { FilledDetermined w r.early r.packed words.now plan.now symbols.old states.old symbols.new states.new }
+    requires by_index { (p : ℕ) → p < length states.old → is_known states.old p ≡ false → Readable r words.now plan.now p }
+    ensures { FilledDetermined w r words.now plan.now symbols.old states.old symbols.new states.new }
 {
     for i in 0..states.len() {
         fill_at(w, r, i, plan, words, symbols, states);

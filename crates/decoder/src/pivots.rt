@@ -9,25 +9,23 @@ ghost use Rattle.ccsds.specs.inner.Layout.{max_n, max_m};
 
 use encoder::positions::Shape;
 use peeling::plan::{FIRST_SOLVED, LAST_PIVOT, PIVOTS};
-use pivot_equations::express::Rows;
+use pivot_equations::rows::Rows;
 
 // Where row steps + i of the reduced rows has a pivot, its symbol is that row's right-hand side.
 fn put_one(
     w: usize,
-    steps: usize,
+    r: Rows,
     i: usize,
-    packed: usize,
     words: &[u64],
     bytes: &[u8],
     plan: &mut [u16],
     symbols: &mut [u8],
 )
-    requires { PutRoom w packed steps i words.now (length bytes.now) plan.old (length symbols.old) }
-    ensures { PutOne w packed steps i words.now bytes.now plan.old symbols.old plan.new symbols.new }
+    requires { PutRoom w r i words.now (length bytes.now) plan.old (length symbols.old) }
+    ensures { PutOne w r i words.now bytes.now plan.old symbols.old plan.new symbols.new }
 {
-    let h = steps + i;
-    let k = h * (packed + 1) + packed;
-    let v = words[k] as usize;
+    let h = r.steps + i;
+    let v = words[h * (r.packed + 1) + r.packed] as usize;
     if v == 0 {
         return;
     }
@@ -40,13 +38,13 @@ fn put_one(
 // The same for each of the reduced rows behind the steps.
 pub fn put(s: Shape, r: Rows, words: &[u64], bytes: &[u8], plan: &mut [u16], symbols: &mut [u8])
     requires planned { Planned (checks s) plan.old r × Unsolved plan.old r.pivots }
-    requires packed_bound { (r.packed ≤ 48) × ((r.steps + r.rest ≤ max_m) × ((r.steps + r.rest) * (r.packed + 1) ≤ length words.now)) }
+    requires words_len { (r.steps + r.rest) * (r.packed + 1) ≤ length words.now }
     requires symbols_len { (length symbols.old ≡ (checks s).n * s.w) × (r.rest * s.w ≤ length bytes.now) }
     requires by_index { (i : ℕ) → i < r.rest → pivot_word words.now r.packed (r.steps + i) ≤ r.pivots }
     ensures { Put (checks s) s.w r.packed r.steps r.rest r.pivots words.now bytes.now plan.old symbols.old plan.new symbols.new }
 {
     for i in 0..r.rest {
-        put_one(s.w, r.steps, i, r.packed, words, bytes, plan, symbols);
+        put_one(s.w, r, i, words, bytes, plan, symbols);
     }
 }
 

@@ -20,7 +20,7 @@ use encoder::positions::{Shape, TABLE_SIZE};
 use peeling::peel;
 use peeling::peel::Progress;
 use peeling::plan::PLAN_SIZE;
-use pivot_equations::express::Rows;
+use pivot_equations::rows::Rows;
 use pivot_equations::{express, remaining, restore};
 
 // Which pivots each step's symbol and each unused check row depends on.
@@ -154,16 +154,7 @@ fn by_pivots(
     requires w_nonzero { (0 < s.w) × (length states.old ≡ (checks s).n) }
     ensures { Outcome (checks s) s.w symbols.old states.old symbols.new states.new result }
 {
-    let l = s.layout;
-    let rest = l.m - g.steps;
-    let packed = (g.pivots + 63) / 64;
-    let r = Rows {
-        early: g.early,
-        steps: g.steps,
-        rest: rest,
-        pivots: g.pivots,
-        packed: packed,
-    };
+    let r = Rows::new(g.early, g.steps, g.pivots, s.layout.m);
     reduce(s, r, table, plan, symbols, words, bytes);
     let consistent = consistent_behind(r, s.w, words, bytes);
     if consistent {

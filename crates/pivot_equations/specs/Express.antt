@@ -11,7 +11,7 @@ use Rattle.elimination.specs.Bits.{row_bit}
 use Rattle.elimination.specs.Reduced.{pivot_word}
 use Rattle.ccsds.specs.inner.Layout.{max_m}
 use Rattle.peeling.specs.Plan.{kind_of, row_of, used_by, unused_below, Plan, Closed, first_pivot, last_pivot, first_solved}
-use Rattle.pivot_equations.specs.declared.express.Rows.{Rows}
+use Rattle.pivot_equations.specs.declared.rows.Rows.{Rows}
 
 -- the rows are those of a plan, for some states, in which no position is open
 pub record Planned (c : Checks) (plan : List ℕ) (r : Rows) : Type 0 where
@@ -19,11 +19,9 @@ pub record Planned (c : Checks) (plan : List ℕ) (r : Rows) : Type 0 where
   pub made : Plan c states plan r.early r.steps r.pivots
   pub closed : Closed c plan
 
--- they fit into so many words, and each has room for the pivots
+-- they fit into so many words
 pub record Room (c : Checks) (r : Rows) (size : ℕ) : Type 0 where
-  pub few : r.packed ≤ 48
   pub fit : c.m * (r.packed + 1) ≤ size
-  pub enough : r.pivots ≤ 64 * r.packed
 
 -- a position of this kind depends on pivot i: not if it was known or settled before step `early`; by its step's row; as pivot i itself; or, as a pivot
 -- that a reduced row has, by that row's other pivots

@@ -7,24 +7,13 @@ ghost use Rattle.pivot_equations.specs.Express.{Reads, Added, RowIs, Places, Ste
 ghost use Rattle.symbol_sums.specs.Gather.{max_positions};
 ghost use Rattle.ccsds.specs.inner.Layout.{max_n};
 
+use crate::rows::Rows;
 use encoder::positions;
 use encoder::positions::{Shape, TABLE_SIZE};
-use peeling::peel;
 use peeling::plan::{
     FIRST_PIVOT, FIRST_SOLVED, LAST_PIVOT, LAST_STEP, STEP_POSITIONS, STEP_ROWS, USED,
 };
 use symbol_sums::MAX_POSITIONS;
-
-// The rows of the equations: `steps` rows of the steps, the first `early` of which are not made, and `rest` rows of the check rows that no step used;
-// each has `packed` words for the `pivots` pivots, and one more.
-#[derive(Clone, Copy)]
-pub struct Rows {
-    pub early: usize,
-    pub steps: usize,
-    pub rest: usize,
-    pub pivots: usize,
-    pub packed: usize,
-}
 
 // Flips unknown u in the row at `base`.
 fn flip(words: &mut [u64], base: usize, u: usize)
@@ -111,7 +100,7 @@ fn row(
 )
     requires table { Table s table.now }
     requires xs_len { length xs.old ≡ max_positions }
-    requires packed_bound { (r.packed ≤ 48) × (s.layout.m * (r.packed + 1) ≤ length words.old) }
+    requires words_len { s.layout.m * (r.packed + 1) ≤ length words.old }
     requires row_lt_m { (e.row < s.layout.m) × ((e.check < (code_of s.number).m) × (length plan.now ≡ plan_size)) }
     requires reads_all { ReadsAll (checks s) plan.now words.old r.packed r.early s.layout.m e.row e.but }
     ensures xs_len_after { length xs.new ≡ max_positions }
@@ -139,7 +128,7 @@ pub fn steps(s: Shape, r: Rows, table: &[u16; TABLE_SIZE], plan: &[u16], words: 
     ensures steps_expressed { StepsExpressed (checks s) plan.now words.new r.packed r.early r.steps }
     ensures same_from { SameFrom words.old words.new r.packed r.steps }
 {
-    let mut xs = peel::no_positions();
+    let mut xs = [0u16; MAX_POSITIONS];
     for t in r.early..r.steps {
         let j = plan[STEP_ROWS + t] as usize;
         let p = plan[STEP_POSITIONS + t] as usize;
@@ -162,7 +151,7 @@ pub fn remaining(s: Shape, r: Rows, table: &[u16; TABLE_SIZE], plan: &[u16], wor
     ensures rest_expressed { RestExpressed (checks s) plan.now words.new r.packed r.early r.steps }
     ensures same_below { SameBelow words.old words.new r.packed r.steps }
 {
-    let mut xs = peel::no_positions();
+    let mut xs = [0u16; MAX_POSITIONS];
     let mut t = r.steps;
     for j in 0..s.layout.m {
         if plan[USED + j] == 0 {

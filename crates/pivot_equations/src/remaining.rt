@@ -6,7 +6,6 @@ ghost use Rattle.peeling.specs.Plan.{plan_size};
 
 use encoder::positions;
 use encoder::positions::{Shape, TABLE_SIZE};
-use peeling::peel;
 use peeling::plan::USED;
 use symbol_sums::MAX_POSITIONS;
 
@@ -16,7 +15,7 @@ pub fn hold(s: Shape, table: &[u16; TABLE_SIZE], plan: &[u16], symbols: &[u8]) -
     requires plan_len { (length plan.now ≡ plan_size) × (length symbols.now ≡ (checks s).n * s.w) }
     ensures { HoldIs (checks s) s.w plan.now symbols.now result }
 {
-    let mut xs = peel::no_positions();
+    let mut xs = [0u16; MAX_POSITIONS];
     for j in 0..s.layout.m {
         if plan[USED + j] == 0 {
             let n = positions::of_row(s, table, j, &mut xs);
@@ -35,7 +34,7 @@ pub fn sums(s: Shape, table: &[u16; TABLE_SIZE], plan: &[u16], symbols: &[u8], b
     requires bytes_len { length bytes.old ≡ (checks s).m * s.w }
     ensures { Sides (checks s) s.w plan.now symbols.now bytes.new }
 {
-    let mut xs = peel::no_positions();
+    let mut xs = [0u16; MAX_POSITIONS];
     let mut i = 0;
     for j in 0..s.layout.m {
         if plan[USED + j] == 0 {

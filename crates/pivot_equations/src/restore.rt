@@ -8,10 +8,9 @@ ghost use Rattle.peeling.specs.Values.{StepsHold, StepsRestored};
 ghost use Rattle.pivot_equations.specs.Express.{Planned};
 ghost use Rattle.pivot_equations.specs.Unused.{Others};
 
-use crate::express::Rows;
+use crate::rows::Rows;
 use encoder::positions;
 use encoder::positions::{Shape, TABLE_SIZE};
-use peeling::peel;
 use peeling::plan::{STEP_POSITIONS, STEP_ROWS};
 use symbol_sums::MAX_POSITIONS;
 
@@ -56,7 +55,7 @@ pub fn restore_steps(s: Shape, r: Rows, table: &[u16; TABLE_SIZE], plan: &[u16],
     requires symbols_len { (length symbols.old ≡ (checks s).n * s.w) × StepsHold (checks s) s.w plan.now symbols.old r.early }
     ensures { StepsRestored (checks s) s.w plan.now symbols.old symbols.new r.early r.steps }
 {
-    let mut xs = peel::no_positions();
+    let mut xs = [0u16; MAX_POSITIONS];
     for t in r.early..r.steps {
         restore_by(
             s,

@@ -22,7 +22,7 @@ loop-i-preserved c =
     let k = c.fill_at in
     let l = c.loop-i in
     let u = l.invariant.0 in
-    (upto_more u (omega (arith, u.states-size)) k.auto.symbols k.auto.states, filled_more _ _ _ _ _ _ _ _ _ _ _ _ l.invariant.1 k.ensures)
+    (upto_more u (omega (arith, u.states-size)) k.auto.symbols k.auto.states, filled_more _ _ _ _ _ _ _ _ _ _ _ l.invariant.1 k.ensures)
 
 pub shape_of-symbols : goal.shape_of-symbols
 shape_of-symbols c = c.loop-i.invariant.0.symbols-size

@@ -18,7 +18,7 @@ express_all-requires c =
 pub reduce_behind-requires : goal.reduce_behind-requires
 reduce_behind-requires c =
     let p = c.requires in
-    rows-room p.planned.0.made.rows p.room.1 (room_at c.express_all.auto.words p.room.0) (c.sums.auto.bytes ∙ p.symbols_len.1)
+    rows-room p.room.1 (room_at c.express_all.auto.words p.room.0) (c.sums.auto.bytes ∙ p.symbols_len.1)
 
 pub returns : goal.returns
 returns c =

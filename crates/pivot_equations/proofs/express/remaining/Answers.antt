@@ -1,6 +1,6 @@
 -- `pivot_equations::express::remaining` meets its contract: the unused check rows before j are expressed.
 -- Assumes nothing.
-use mathlib.Core.Path.{◌≡◌, sym, ap, ◌∙◌}
+use mathlib.Core.Path.{refl, ◌≡◌, sym, ap, ◌∙◌}
 use Prim.Native.Nat.{ℕ, ◌+◌, ◌*◌, ◌<◌}
 use native.Mathlib.Omega.{arith}
 use Rattle.encoder.specs.inner.Positions.{checks}
@@ -26,15 +26,15 @@ below c h e = omega (arith, c.loop-j.invariant.next, rest_below c.requires.plann
 
 pub loop-j-init : goal.loop-j-init
 unfolding unused_below
-loop-j-init c = record { size = c.no_positions-xs.ensures; next = omega arith; expressed = λ j i h. absurd (omega arith); steps = below_none }
+loop-j-init c = record { size = refl; next = omega arith; expressed = λ j i h. absurd (omega arith); steps = below_none }
 
 pub bounds-plan-j : goal.bounds-plan-j
 bounds-plan-j c = omega (arith, c.requires.planned.made.rows, c.requires.planned.made.size, rows (goal.at.bounds-plan-j c).In-loop-j)
 
-pub row-requires-clause-packed_bound : goal.row-requires-clause-packed_bound
-row-requires-clause-packed_bound c =
-    let f = ap (λ (x : ℕ). x * (c.args.r.packed + 1)) (rows (goal.at.row-requires-clause-packed_bound c).In-loop-j) in
-    (c.requires.room.few, omega (arith, c.requires.room.fit, c.loop-j.invariant.steps.size))
+pub row-requires-clause-words_len : goal.row-requires-clause-words_len
+row-requires-clause-words_len c =
+    let f = ap (λ (x : ℕ). x * (c.args.r.packed + 1)) (rows (goal.at.row-requires-clause-words_len c).In-loop-j) in
+    omega (arith, c.requires.room.fit, c.loop-j.invariant.steps.size)
 
 pub row-requires-clause-row_lt_m : goal.row-requires-clause-row_lt_m
 row-requires-clause-row_lt_m c =

@@ -8,7 +8,7 @@ use Rattle.algebra.specs.Codeword.{Checks}
 use Rattle.encoder.specs.inner.Positions.{checks}
 use Rattle.peeling.specs.Plan.{unused_below}
 use Rattle.pivot_equations.specs.Express.{SameBelow, RestTo}
-use Rattle.pivot_equations.specs.declared.express.Rows.{Rows}
+use Rattle.pivot_equations.specs.declared.rows.Rows.{Rows}
 use Rattle.pivot_equations.proofs.express.remaining.Given as goal
 
 -- the unused check rows before j are expressed in rows up to t, and nothing of the steps has changed

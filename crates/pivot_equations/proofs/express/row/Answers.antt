@@ -23,14 +23,14 @@ room : (s : Start)
     a.e.row * (a.r.packed + 1) + (a.r.packed + 1) ≤ length a.words.now
 room s =
     let a = s.args in
-    omega (arith, s.requires.packed_bound.1, slot a.e.row a.s.layout.m (a.r.packed + 1) s.requires.row_lt_m.0)
+    omega (arith, s.requires.words_len, slot a.e.row a.s.layout.m (a.r.packed + 1) s.requires.row_lt_m.0)
 
 -- its numbers are small
 small : (s : Start) → let a = s.args in a.e.row * (a.r.packed + 1) + (a.r.packed + 1) ≤ 3072 * 49
 small s =
     let a = s.args in
     let m : a.s.layout.m ≤ 3072 = omega (arith, s.requires.table.shaped.given.few) in
-    let p : a.r.packed + 1 ≤ 49 = omega (arith, s.requires.packed_bound.0) in
+    let p : a.r.packed + 1 ≤ 49 = omega (arith, a.r.few) in
     omega (arith, slot a.e.row a.s.layout.m (a.r.packed + 1) s.requires.row_lt_m.0, mul-le-mul_right (a.r.packed + 1) m, mul-le-mul_left 3072 p)
 
 -- and is cleared
@@ -87,7 +87,7 @@ loop-x-init c =
 pub add_other-requires : goal.add_other-requires
 add_other-requires c =
     let l = c.loop-x in
-    record { packed_bound = (c.requires.packed_bound.0, omega (arith, c.requires.packed_bound.1, (zeroed (goal.at.add_other-requires c).After-clear_words).only.size, l.invariant.1.only.size)); t_lt_rows = (c.requires.row_lt_m.0, (omega (arith, c.from.ensures, is-position (goal.at.add_other-requires c).In-loop-x), c.requires.row_lt_m.1.1)); reads = reads-kind c.args.plan.now c.args.e.but (sym c.from.ensures) (reads_same l.invariant.1.only (l.invariant.0 l.x-index c.loop-x-test.true)) }
+    record { packed_bound = (c.args.r.few, omega (arith, c.requires.words_len, (zeroed (goal.at.add_other-requires c).After-clear_words).only.size, l.invariant.1.only.size)); t_lt_rows = (c.requires.row_lt_m.0, (omega (arith, c.from.ensures, is-position (goal.at.add_other-requires c).In-loop-x), c.requires.row_lt_m.1.1)); reads = reads-kind c.args.plan.now c.args.e.but (sym c.from.ensures) (reads_same l.invariant.1.only (l.invariant.0 l.x-index c.loop-x-test.true)) }
 
 pub loop-x-preserved : goal.loop-x-preserved
 loop-x-preserved c =

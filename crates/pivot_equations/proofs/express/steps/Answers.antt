@@ -1,6 +1,6 @@
 -- `pivot_equations::express::steps` meets its contract: the steps up to t are expressed.
 -- Assumes nothing.
-use mathlib.Core.Path.{◌≡◌, sym, ap, ◌∙◌}
+use mathlib.Core.Path.{refl, ◌≡◌, sym, ap, ◌∙◌}
 use mathlib.Core.List.{List}
 use Prim.Native.Nat.{ℕ, ◌+◌, ◌*◌, ◌<◌}
 use native.Mathlib.Omega.{arith}
@@ -21,7 +21,7 @@ places s e = places_from (checks s.args.s) s.args.plan.now e.behind s.requires.p
 pub loop-t-init : goal.loop-t-init
 loop-t-init c =
     let p = c.requires.planned in
-    record { size = c.no_positions-xs.ensures; from = omega arith; to = p.made.early_steps; expressed = steps-none p.made p.closed c.args.words.now c.args.r.packed; behind = from-none }
+    record { size = refl; from = omega arith; to = p.made.early_steps; expressed = steps-none p.made p.closed c.args.words.now c.args.r.packed; behind = from-none }
 
 pub overflow_add-j : goal.overflow_add-j
 overflow_add-j c = omega (arith, (few-steps c.requires.planned.made).1)
@@ -55,7 +55,7 @@ row-requires c =
     let e : a.s.layout.m ≡ (checks a.s).m = c.requires.table.shaped.given.m ∙ sym (row_count a.s) in
     let f = ap (λ (x : ℕ). x * (a.r.packed + 1)) e in
     let small = few-steps p.made in
-    let h : l.t < a.r.steps = omega arith in record { table = c.requires.table; xs_len = l.invariant.size; packed_bound = (c.requires.room.few, omega (arith, l.invariant.behind.size, c.requires.room.fit)); row_lt_m = (omega arith, (omega (arith, (p.made.step l.t h).row, row_count a.s), p.made.size)); reads_all = reads-rows e (reads-step p.made p.closed (places (goal.at.row-requires c).Start l.invariant) h) }
+    let h : l.t < a.r.steps = omega arith in record { table = c.requires.table; xs_len = l.invariant.size; words_len = omega (arith, l.invariant.behind.size, c.requires.room.fit); row_lt_m = (omega arith, (omega (arith, (p.made.step l.t h).row, row_count a.s), p.made.size)); reads_all = reads-rows e (reads-step p.made p.closed (places (goal.at.row-requires c).Start l.invariant) h) }
 
 pub loop-t-preserved : goal.loop-t-preserved
 loop-t-preserved c =

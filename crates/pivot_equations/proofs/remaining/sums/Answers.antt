@@ -1,6 +1,6 @@
 -- `pivot_equations::remaining::sums` meets its contract: the sums of the unused of the first j rows are there.
 -- Assumes nothing.
-use mathlib.Core.Path.{◌≡◌}
+use mathlib.Core.Path.{refl, ◌≡◌}
 use native.Mathlib.Omega.{arith}
 use Rattle.encoder.specs.inner.Positions.{checks}
 use Rattle.peeling.proofs.CodeSizes.{few-rows, layout-rows, row_inside}
@@ -10,7 +10,7 @@ use Rattle.pivot_equations.proofs.remaining.sums.Goals as goal
 use Rattle.pivot_equations.proofs.remaining.sums.Goals.{then-plan-j-eq0, else-plan-j-eq0}
 
 pub loop-j-init : goal.loop-j-init
-loop-j-init c = (c.no_positions-xs.ensures, sides-none _ _ _ _ _ c.requires.bytes_len)
+loop-j-init c = (refl, sides-none _ _ _ _ _ c.requires.bytes_len)
 
 pub bounds-plan-j : goal.bounds-plan-j
 bounds-plan-j c = omega (arith, few-rows c.requires.table, layout-rows c.requires.table)

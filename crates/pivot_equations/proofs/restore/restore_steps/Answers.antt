@@ -1,6 +1,6 @@
 -- `pivot_equations::restore::restore_steps` meets its contract: the first t steps hold.
 -- Assumes nothing.
-use mathlib.Core.Path.{◌∙◌}
+use mathlib.Core.Path.{refl, ◌∙◌}
 use Prim.Native.Nat.{◌<◌, ◌+◌}
 use native.Mathlib.Omega.{arith}
 use Rattle.peeling.proofs.StepLaws.{few-steps}
@@ -13,7 +13,7 @@ few c = omega (arith, few-steps c.requires.planned.made)
 
 pub loop-t-init : goal.loop-t-init
 loop-t-init c =
-    record { size = c.no_positions-xs.ensures; from = omega arith; to = c.requires.planned.made.early_steps; restored = restored-none _ _ c.requires.planned.made c.requires.symbols_len.1 }
+    record { size = refl; from = omega arith; to = c.requires.planned.made.early_steps; restored = restored-none _ _ c.requires.planned.made c.requires.symbols_len.1 }
 
 pub overflow_add-t : goal.overflow_add-t
 overflow_add-t c = omega (arith, few c)

@@ -7,7 +7,7 @@ use lib.ListN.{length}
 use Rattle.algebra.specs.Codeword.{Checks}
 use Rattle.encoder.specs.inner.Positions.{checks}
 use Rattle.peeling.specs.Values.{StepsRestored}
-use Rattle.pivot_equations.specs.declared.express.Rows.{Rows}
+use Rattle.pivot_equations.specs.declared.rows.Rows.{Rows}
 use Rattle.pivot_equations.proofs.restore.restore_steps.Given as goal
 
 -- the steps from `early` to t are restored
