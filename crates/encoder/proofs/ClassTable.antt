@@ -243,6 +243,10 @@ module _ (c : Params) (r rows : ℕ) where
         ),
       )
 
+-- a class that stands in the table has room for two entries more
+pub class_room : {c : Params} {rows : ℕ} {t : List ℕ} → Classes c rows t → {r : ℕ} → r < c.a → (r < max_classes) × (get_or t (count_at r) 0 + 2 ≤ max_positions)
+class_room {c} {rows} l {r} h = (omega (arith, l.few.classes), omega (arith, l.counts r h, entries-few c r rows, l.few.entries r h))
+
 -- one table row more
 pub class_row : (c : Params) (r n : ℕ) → n < length c.rows
     → class_from c.a r 0 (take (suc n) c.rows) ≡ class_from c.a r 0 (take n c.rows) ++ class_in c.a r n (get_or c.rows n [])

@@ -5,9 +5,10 @@ use Rattle.ccsds.specs.Tables.{code_of, Known}
 use Rattle.ccsds.specs.inner.Layout.{LayoutOf, max_m}
 use Rattle.ccsds.specs.declared.tables.Layout.{Layout}
 use Rattle.ccsds.proofs.Valid.{valid_of}
+use Rattle.encoder.specs.declared.positions.CheckRows.{CheckRows}
 use Rattle.peeling.specs.Hints.{Fits}
 
-pub fits_of : (number : ℕ) (l : Layout) → Known number → LayoutOf (code_of number) l → Fits l
+fits_of : (number : ℕ) (l : Layout) → Known number → LayoutOf (code_of number) l → Fits l
 fits_of number l k g =
     let v = valid_of number k in
     record {
@@ -17,6 +18,9 @@ fits_of number l k g =
       few = (g.few, omega (arith, v.few-rows, g.m));
       degrees = (g.small.degree, g.small.rest);
     }
+
+pub fits_at : (rows : CheckRows) → Fits rows.shape.layout
+fits_at rows = fits_of _ _ rows.laid.shaped.known rows.laid.shaped.given
 
 -- where a position stands in its table row, and in which
 module _ (l : Layout) (f : Fits l) (x : ℕ) where

@@ -1,6 +1,6 @@
 -- What the hints need of a layout to stay in their arrays. Internal: no public contract cites it.
 -- Assumes nothing.
-use Rattle.std.specs.Prelude.{◌≡◌, ℕ, ◌+◌, ◌*◌, ◌/◌, ◌<◌, ◌≤◌, List, length}
+use Rattle.std.specs.Prelude.{◌+◌, ◌*◌, ◌<◌, ◌≤◌}
 use Rattle.ccsds.specs.declared.tables.Layout.{Layout}
 use Rattle.ccsds.specs.inner.Layout.{max_n, max_m, max_rows, max_degree}
 
@@ -11,8 +11,3 @@ pub record Fits (l : Layout) : Type 0 where
   pub steps : l.q * l.a ≤ max_m
   pub few : (l.k + l.m ≤ max_n) × (l.m ≤ max_m)
   pub degrees : (l.degree ≤ max_degree) × (l.rest ≤ max_degree)
-
--- the arrays of the hints
-pub record Hinted (counts ready : List ℕ) : Type 0 where
-  pub counts-size : length counts ≡ max_m
-  pub ready_size : length ready ≡ max_m / 64

@@ -4,7 +4,7 @@ use mathlib.Core.Path.{◌≡◌, refl, sym, ap, ap₂, ◌∙◌, subst}
 use mathlib.Core.Logic.{◌⊎◌, inl, inr, ◌≢◌}
 use mathlib.Core.Bool.{true}
 use mathlib.Core.List.{List}
-use Prim.Native.Nat.{ℕ, zero, suc, ◌+◌, ◌-◌, ◌*◌, ◌<◌, ◌≤◌}
+use Prim.Native.Nat.{ℕ, ◌+◌, ◌-◌, ◌*◌, ◌<◌, ◌≤◌}
 use native.Mathlib.Nat.{not-suc-le-zero, add_assoc}
 use native.Mathlib.Numerals.{add-one}
 use native.Mathlib.Decide.{dec_lt}
@@ -12,9 +12,10 @@ use native.Mathlib.Omega.{arith}
 use lib.Bits.{bit_xor}
 use lib.ListN.{length, get_or, set, length-set, replicate, length-replicate}
 use lib.Seq.{get_or-set_same, get_or-set_other}
+use Rattle.std.specs.Prelude.{Some, None, IfSome}
+use Rattle.std.specs.declared.option.Option.{Option}
 use Rattle.algebra.specs.Sums.{◌⊕◌, sum}
 use Rattle.algebra.specs.Codeword.{byte_at}
-use Rattle.algebra.specs.Staircase.{before}
 use Rattle.algebra.proofs.Sums as sums
 use Rattle.algebra.proofs.Codeword.{slot}
 use Rattle.buffers.specs.Parts.{put, Part, Sum}
@@ -114,21 +115,15 @@ chunk64_sized h = record { first = h.first.size; second = h.second.size; third =
 
 -- ---- the symbol before
 
--- it lies within what comes before symbol prev
-pub earlier : (w prev : ℕ) → 0 < prev → (prev - 1) * w + w ≤ prev * w
-earlier w prev h = slot (prev - 1) prev w (omega arith)
+-- it lies in the buffer, as symbol j does, which it comes before
+pub prev_within : (w j : ℕ) (prev : Option ℕ) {m : ℕ} → IfSome prev (λ i. i < j) → j * w + w ≤ m → IfSome prev (λ i. i * w + w ≤ m)
+prev_within w j None h l = tt
+prev_within w j (Some i) h l = omega (arith, slot i j w h, l)
 
-pub before-some : (w : ℕ) (p : List ℕ) (prev b : ℕ) → 0 < prev → get_or p ((prev - 1) * w + b) 0 ≡ byte_before w p prev b
-before-some w p zero b h = absurd (not-suc-le-zero h)
-before-some w p (suc j) b h = let e : suc j - 1 ≡ j = omega arith in ap (λ (i : ℕ). get_or p (i * w + b) 0) e
-
-pub before-none : (w : ℕ) (p : List ℕ) (prev b : ℕ) → prev ≡ 0 → byte_before w p prev b ≡ 0
-before-none w p prev b e = ap (before (byte_at w p b)) e
-
-pub chunk16_before : (w : ℕ) (p : List ℕ) (prev : ℕ) {c : ℕ} {t : List ℕ} → 0 < prev → Part p ((prev - 1) * w + c) 16 t → Chunk16Is (byte_before w p prev) c t
-chunk16_before w p prev {c} h s = record {
+pub chunk16_before : (w : ℕ) (p : List ℕ) (i : ℕ) {c : ℕ} {t : List ℕ} → Part p (i * w + c) 16 t → Chunk16Is (byte_before w p (Some i)) c t
+chunk16_before w p i {c} s = record {
   size = s.size;
-  each = λ b g. s.each b g ∙ ap (λ (k : ℕ). get_or p k 0) (add_assoc ((prev - 1) * w) c b) ∙ before-some w p prev (c + b) h;
+  each = λ b g. s.each b g ∙ ap (λ (k : ℕ). get_or p k 0) (add_assoc (i * w) c b);
 }
 
 -- ---- part after part
@@ -215,12 +210,12 @@ written_replaced {f} {g} {w} {j} {c} {p} {p'} h e same = record { size = h.size;
         let z : 0 + b ≡ b = omega arith in
         subst (λ (m : ℕ). get_or p' (j * w + m) 0 ≡ f m) z (h.each b (omega arith)) ∙ same b
 
-pub sum_replaced : (w j prev : ℕ) (src xs : List ℕ) (n : ℕ) {c : ℕ} {p p' : List ℕ} → SumWritten w j prev src xs n 0 c p p' → c ≡ w
-    → Replaced (λ b. before (byte_at w p b) prev ⊕ gathered (byte_at w src b) xs n) w j p p'
+pub sum_replaced : (w j : ℕ) (prev : Option ℕ) (src xs : List ℕ) (n : ℕ) {c : ℕ} {p p' : List ℕ} → SumWritten w j prev src xs n 0 c p p' → c ≡ w
+    → Replaced (λ b. byte_before w p prev b ⊕ gathered (byte_at w src b) xs n) w j p p'
 unfolding summed
 sum_replaced w j prev src xs n h e = written_replaced h e (λ b. refl)
 
-pub restore_replaced : (w j : ℕ) (xs : List ℕ) (n : ℕ) {c : ℕ} {p p' : List ℕ} → SumWritten w j 0 p xs n 0 c p p' → c ≡ w
+pub restore_replaced : (w j : ℕ) (xs : List ℕ) (n : ℕ) {c : ℕ} {p p' : List ℕ} → SumWritten w j None p xs n 0 c p p' → c ≡ w
     → Replaced (λ b. gathered (byte_at w p b) xs n) w j p p'
 unfolding summed
 restore_replaced w j xs n {p = p} h e = written_replaced h e (λ b. sums.unit_l (gathered (byte_at w p b) xs n))
@@ -241,13 +236,13 @@ other {f} {w} {j} {c} {p} {p'} h l i b q ne = go (dec_lt i j)
         above (yes a) = a
         above (no a) = let e : i ≡ j = omega arith in absurd (ne e)
 
-before-kept : {f : ℕ → ℕ} {w j c : ℕ} {p p' : List ℕ} → Written f (j * w) 0 c p p' → c ≤ w → (prev b : ℕ) → prev ≤ j → b < w
+before-kept : (j : ℕ) {f : ℕ → ℕ} {w c : ℕ} {p p' : List ℕ} → Written f (j * w) 0 c p p' → c ≤ w → (prev : Option ℕ) (b : ℕ) → IfSome prev (λ i. i < j) → b < w
     → byte_before w p' prev b ≡ byte_before w p prev b
-before-kept h l zero b le q = refl
-before-kept h l (suc i) b le q = other h l i b q (λ e. omega arith)
+before-kept j h l None b le q = refl
+before-kept j h l (Some i) b le q = other h l i b q (λ e. omega arith)
 
 -- c bytes of symbol j were written, and then k from byte i on, and the symbols that are added hold what they held
-symbol-join : (w j prev : ℕ) (src src' xs : List ℕ) (n : ℕ) {p p' p'' : List ℕ} {c i k : ℕ} → prev ≤ j
+symbol-join : (w j : ℕ) (prev : Option ℕ) (src src' xs : List ℕ) (n : ℕ) {p p' p'' : List ℕ} {c i k : ℕ} → IfSome prev (λ i. i < j)
     → ((x b : ℕ) → x < n → b < w → byte_at w src' b (get_or xs x 0) ≡ byte_at w src b (get_or xs x 0))
     → SumWritten w j prev src xs n 0 c p p' → SumWritten w j prev src' xs n i k p' p'' → i ≤ c → c ≤ i + k → i + k ≤ w
     → SumWritten w j prev src xs n 0 (i + k) p p''
@@ -255,21 +250,21 @@ unfolding summed
 symbol-join w j prev src src' xs n {i = i} {k} le same h g l₁ l₂ l₃ =
     written_join h g
     (λ b q.
-    ap₂ ◌⊕◌ (before-kept h (omega arith) prev b le (omega arith))
+    ap₂ ◌⊕◌ (before-kept j h (omega arith) prev b le (omega arith))
     (sums.sum_ext (λ x. true) (λ x. byte_at w src' b (get_or xs x 0)) (λ x. byte_at w src b (get_or xs x 0)) n (λ x r. same x b r (omega arith))))
     (omega arith) (omega arith) (omega arith) (i + k) (omega arith)
 
 -- they are another buffer's
-pub sum-join : (w j prev : ℕ) (src xs : List ℕ) (n : ℕ) {p p' p'' : List ℕ} {c i k : ℕ} → prev ≤ j → SumWritten w j prev src xs n 0 c p p'
+pub sum-join : (w j : ℕ) (prev : Option ℕ) (src xs : List ℕ) (n : ℕ) {p p' p'' : List ℕ} {c i k : ℕ} → IfSome prev (λ i. i < j) → SumWritten w j prev src xs n 0 c p p'
     → SumWritten w j prev src xs n i k p' p'' → i ≤ c → c ≤ i + k → i + k ≤ w → SumWritten w j prev src xs n 0 (i + k) p p''
 sum-join w j prev src xs n le = symbol-join w j prev src src xs n le (λ x b r q. refl)
 
 -- they are the same buffer's, and symbol j is none of them
 pub restore_join : (w j : ℕ) (xs : List ℕ) (n : ℕ) {p p' p'' : List ℕ} {c i k : ℕ} → ((x : ℕ) → x < n → get_or xs x 0 ≢ j)
-    → SumWritten w j 0 p xs n 0 c p p' → SumWritten w j 0 p' xs n i k p' p'' → i ≤ c → c ≤ i + k → i + k ≤ w → SumWritten w j 0 p xs n 0 (i + k) p p''
+    → SumWritten w j None p xs n 0 c p p' → SumWritten w j None p' xs n i k p' p'' → i ≤ c → c ≤ i + k → i + k ≤ w → SumWritten w j None p xs n 0 (i + k) p p''
 restore_join w j xs n {p} {p'} ne h g l₁ l₂ l₃ =
-    symbol-join w j 0 p p' xs n (omega arith) (λ x b r q. other h (omega arith) (get_or xs x 0) b q (ne x r)) h g l₁ l₂ l₃
+    symbol-join w j None p p' xs n tt (λ x b r q. other h (omega arith) (get_or xs x 0) b q (ne x r)) h g l₁ l₂ l₃
 
 -- positions within a buffer are within each of its length
-pub inside_kept : {xs : List ℕ} {n w m m' : ℕ} → Inside xs n w m → m' ≡ m → Inside xs n w m'
-inside_kept {xs} {n} {w} h e = subst (λ (k : ℕ). Inside xs n w k) (sym e) h
+pub inside_kept : {xs : List ℕ} {w m m' : ℕ} → Inside xs w m → m' ≡ m → Inside xs w m'
+inside_kept {xs} {w} h e = subst (λ (k : ℕ). Inside xs w k) (sym e) h

@@ -1,10 +1,9 @@
 // Sums of symbols that stand anywhere in a buffer, in chunks that are held in arrays of their own.
 #![tactic(auto)]
 
-ghost use Rattle.std.specs.Prelude.{◌≡◌, ◌≢◌, ℕ, ◌+◌, ◌-◌, ◌*◌, ◌%◌, ◌<◌, ◌≤◌, length, get_or};
+ghost use Rattle.std.specs.Prelude.{◌≡◌, ◌≢◌, ℕ, ◌+◌, ◌-◌, ◌*◌, ◌%◌, ◌<◌, ◌≤◌, length, get_or, IfSome, None};
 ghost use Rattle.algebra.specs.Sums.{◌⊕◌};
 ghost use Rattle.algebra.specs.Codeword.{byte_at};
-ghost use Rattle.algebra.specs.Staircase.{before};
 ghost use Rattle.symbol_sums.specs.Gather.{gathered, Inside, Replaced, summed, byte_before, Chunk16Is, Chunk64Is, Sized64, Sum64, PlusSymbols, put64, SumWritten, CancelIs, Or16, ZeroIs};
 
 use buffers::{all_zero, part_16, put_16, sum_16};
@@ -29,24 +28,15 @@ fn offset(x: u16, w: usize, c: usize) -> usize
     x as usize * w + c
 }
 
-// start plus bytes c to c + 15 of the n symbols xs of src. A position has 16 bits, so that those of a check row are made 8 at a time.
-fn gather_16(
-    start: &[u8; 16],
-    w: usize,
-    c: usize,
-    xs: &[u16; MAX_POSITIONS],
-    n: usize,
-    src: &[u8],
-) -> [u8; 16]
+// start plus bytes c to c + 15 of the symbols xs of src. A position has 16 bits, so that those of a check row are made 8 at a time.
+fn gather_16(start: &[u8; 16], w: usize, c: usize, xs: &[u16], src: &[u8]) -> [u8; 16]
     requires start_len { (length start.now ≡ 16) × (c + 16 ≤ w) }
-    requires inside { Inside xs.now n w (length src.now) }
-    ensures { PlusSymbols w c src.now xs.now n start.now result }
+    requires inside { Inside xs.now w (length src.now) }
+    ensures { PlusSymbols w c src.now xs.now (length xs.now) start.now result }
 {
     let mut t = *start;
-    let mut i = 0;
-    while i < n {
-        t = sum_16(&t, 0, src, offset(xs[i], w, c));
-        i += 1;
+    for &x in xs {
+        t = sum_16(&t, 0, src, offset(x, w, c));
     }
     t
 }
@@ -68,12 +58,12 @@ fn sum_64(s: Chunk64, src: &[u8], from: usize) -> Chunk64
     }
 }
 
-// The sum of bytes c to c + 63 of the n symbols xs of src. Each position is read once for all of them. This loop, running_sum_64's and
+// The sum of bytes c to c + 63 of the symbols xs of src. Each position is read once for all of them. This loop, running_sum_64's and
 // row_sum_64's have one caller each, so that they are inlined: called for each chunk, a loop takes twice as long.
-fn gather_64(w: usize, c: usize, xs: &[u16; MAX_POSITIONS], n: usize, src: &[u8]) -> Chunk64
+fn gather_64(w: usize, c: usize, xs: &[u16], src: &[u8]) -> Chunk64
     requires c_bound { c + 64 ≤ w }
-    requires inside { Inside xs.now n w (length src.now) }
-    ensures { Chunk64Is (summed (λ b. 0) w src.now xs.now n) c result }
+    requires inside { Inside xs.now w (length src.now) }
+    ensures { Chunk64Is (summed (λ b. 0) w src.now xs.now (length xs.now)) c result }
 {
     let mut s = Chunk64 {
         a: [0u8; 16],
@@ -81,43 +71,39 @@ fn gather_64(w: usize, c: usize, xs: &[u16; MAX_POSITIONS], n: usize, src: &[u8]
         c: [0u8; 16],
         d: [0u8; 16],
     };
-    let mut i = 0;
-    while i < n {
-        s = sum_64(s, src, offset(xs[i], w, c));
-        i += 1;
+    for &x in xs {
+        s = sum_64(s, src, offset(x, w, c));
     }
     s
 }
 
-// start plus byte c of the n symbols xs of src.
-fn gather_byte(start: u8, w: usize, c: usize, xs: &[u16; MAX_POSITIONS], n: usize, src: &[u8]) -> u8
+// start plus byte c of the symbols xs of src.
+fn gather_byte(start: u8, w: usize, c: usize, xs: &[u16], src: &[u8]) -> u8
     requires c_lt_w { c < w }
-    requires inside { Inside xs.now n w (length src.now) }
-    ensures { result ≡ start ⊕ gathered (byte_at w src.now c) xs.now n }
+    requires inside { Inside xs.now w (length src.now) }
+    ensures { result ≡ start ⊕ gathered (byte_at w src.now c) xs.now (length xs.now) }
 {
     let mut t = start;
-    let mut i = 0;
-    while i < n {
-        t = t ^ src[offset(xs[i], w, c)];
-        i += 1;
+    for &x in xs {
+        t = t ^ src[offset(x, w, c)];
     }
     t
 }
 
-// Bytes c to c + 15 of symbol prev - 1; zeros where prev is 0.
-fn before_16(dst: &[u8], w: usize, prev: usize, c: usize) -> [u8; 16]
-    requires { (c + 16 ≤ w) × (prev * w ≤ length dst.now) }
+// Bytes c to c + 15 of symbol prev; zeros where there is none.
+fn before_16(dst: &[u8], w: usize, prev: Option<usize>, c: usize) -> [u8; 16]
+    requires { (c + 16 ≤ w) × IfSome prev (λ i. i * w + w ≤ length dst.now) }
     ensures { Chunk16Is (byte_before w dst.now prev) c result }
 {
-    if prev == 0 {
-        return [0u8; 16];
+    match prev {
+        None => [0u8; 16],
+        Some(i) => part_16(dst, i * w + c),
     }
-    part_16(dst, (prev - 1) * w + c)
 }
 
 // Bytes c to c + 63.
-fn before_64(dst: &[u8], w: usize, prev: usize, c: usize) -> Chunk64
-    requires { (c + 64 ≤ w) × (prev * w ≤ length dst.now) }
+fn before_64(dst: &[u8], w: usize, prev: Option<usize>, c: usize) -> Chunk64
+    requires { (c + 64 ≤ w) × IfSome prev (λ i. i * w + w ≤ length dst.now) }
     ensures { Chunk64Is (byte_before w dst.now prev) c result }
 {
     let s = before_16(dst, w, prev, c);
@@ -133,35 +119,32 @@ fn before_64(dst: &[u8], w: usize, prev: usize, c: usize) -> Chunk64
 }
 
 // Byte c.
-fn before_byte(dst: &[u8], w: usize, prev: usize, c: usize) -> u8
-    requires { (c < w) × (prev * w ≤ length dst.now) }
+fn before_byte(dst: &[u8], w: usize, prev: Option<usize>, c: usize) -> u8
+    requires { (c < w) × IfSome prev (λ i. i * w + w ≤ length dst.now) }
     ensures { result ≡ byte_before w dst.now prev c }
 {
-    if prev == 0 {
-        return 0;
+    match prev {
+        None => 0,
+        Some(i) => dst[i * w + c],
     }
-    dst[(prev - 1) * w + c]
 }
 
-// Bytes c to c + 63 of symbol prev - 1 of dst, where prev is not 0, plus those of the n symbols xs of src.
+// Bytes c to c + 63 of symbol prev of dst, where there is one, plus those of the symbols xs of src.
 fn running_sum_64(
     w: usize,
-    prev: usize,
+    prev: Option<usize>,
     c: usize,
-    xs: &[u16; MAX_POSITIONS],
-    n: usize,
+    xs: &[u16],
     src: &[u8],
     dst: &[u8],
 ) -> Chunk64
-    requires c_bound { (c + 64 ≤ w) × (prev * w ≤ length dst.now) }
-    requires inside { Inside xs.now n w (length src.now) }
-    ensures { Chunk64Is (summed (byte_before w dst.now prev) w src.now xs.now n) c result }
+    requires c_bound { (c + 64 ≤ w) × IfSome prev (λ i. i * w + w ≤ length dst.now) }
+    requires inside { Inside xs.now w (length src.now) }
+    ensures { Chunk64Is (summed (byte_before w dst.now prev) w src.now xs.now (length xs.now)) c result }
 {
     let mut s = before_64(dst, w, prev, c);
-    let mut i = 0;
-    while i < n {
-        s = sum_64(s, src, offset(xs[i], w, c));
-        i += 1;
+    for &x in xs {
+        s = sum_64(s, src, offset(x, w, c));
     }
     s
 }
@@ -181,18 +164,17 @@ fn put_64(dst: &mut [u8], at: usize, s: Chunk64)
 fn put_sum_64(
     w: usize,
     j: usize,
-    prev: usize,
+    prev: Option<usize>,
     c: usize,
-    xs: &[u16; MAX_POSITIONS],
-    n: usize,
+    xs: &[u16],
     src: &[u8],
     dst: &mut [u8],
 )
-    requires prev_le_j { (prev ≤ j) × (c + 64 ≤ w) × (j * w + w ≤ length dst.old) }
-    requires inside { Inside xs.now n w (length src.now) }
-    ensures { SumWritten w j prev src.now xs.now n c 64 dst.old dst.new }
+    requires prev_lt_j { IfSome prev (λ i. i < j) × (c + 64 ≤ w) × (j * w + w ≤ length dst.old) }
+    requires inside { Inside xs.now w (length src.now) }
+    ensures { SumWritten w j prev src.now xs.now (length xs.now) c 64 dst.old dst.new }
 {
-    let s = running_sum_64(w, prev, c, xs, n, src, dst);
+    let s = running_sum_64(w, prev, c, xs, src, dst);
     put_64(dst, j * w + c, s);
 }
 
@@ -200,19 +182,18 @@ fn put_sum_64(
 fn put_sum_16(
     w: usize,
     j: usize,
-    prev: usize,
+    prev: Option<usize>,
     c: usize,
-    xs: &[u16; MAX_POSITIONS],
-    n: usize,
+    xs: &[u16],
     src: &[u8],
     dst: &mut [u8],
 )
-    requires prev_le_j { (prev ≤ j) × (c + 16 ≤ w) × (j * w + w ≤ length dst.old) }
-    requires inside { Inside xs.now n w (length src.now) }
-    ensures { SumWritten w j prev src.now xs.now n c 16 dst.old dst.new }
+    requires prev_lt_j { IfSome prev (λ i. i < j) × (c + 16 ≤ w) × (j * w + w ≤ length dst.old) }
+    requires inside { Inside xs.now w (length src.now) }
+    ensures { SumWritten w j prev src.now xs.now (length xs.now) c 16 dst.old dst.new }
 {
     let start = before_16(dst, w, prev, c);
-    let s = gather_16(&start, w, c, xs, n, src);
+    let s = gather_16(&start, w, c, xs, src);
     put_16(dst, j * w + c, &s);
 }
 
@@ -220,198 +201,168 @@ fn put_sum_16(
 fn put_sum_byte(
     w: usize,
     j: usize,
-    prev: usize,
+    prev: Option<usize>,
     c: usize,
-    xs: &[u16; MAX_POSITIONS],
-    n: usize,
+    xs: &[u16],
     src: &[u8],
     dst: &mut [u8],
 )
-    requires prev_le_j { (prev ≤ j) × (c < w) × (j * w + w ≤ length dst.old) }
-    requires inside { Inside xs.now n w (length src.now) }
-    ensures { SumWritten w j prev src.now xs.now n c 1 dst.old dst.new }
+    requires prev_lt_j { IfSome prev (λ i. i < j) × (c < w) × (j * w + w ≤ length dst.old) }
+    requires inside { Inside xs.now w (length src.now) }
+    ensures { SumWritten w j prev src.now xs.now (length xs.now) c 1 dst.old dst.new }
 {
     let start = before_byte(dst, w, prev, c);
-    dst[j * w + c] = gather_byte(start, w, c, xs, n, src);
+    dst[j * w + c] = gather_byte(start, w, c, xs, src);
 }
 
 // Writes as many bytes as 64 at a time give; answers how many.
 fn put_sum_wide(
     w: usize,
     j: usize,
-    prev: usize,
-    xs: &[u16; MAX_POSITIONS],
-    n: usize,
+    prev: Option<usize>,
+    xs: &[u16],
     src: &[u8],
     dst: &mut [u8],
 ) -> usize
-    requires prev_le_j { (prev ≤ j) × (j * w + w ≤ length dst.old) }
-    requires inside { Inside xs.now n w (length src.now) }
-    ensures { (result ≤ w) × SumWritten w j prev src.now xs.now n 0 result dst.old dst.new }
+    requires prev_lt_j { IfSome prev (λ i. i < j) × (j * w + w ≤ length dst.old) }
+    requires inside { Inside xs.now w (length src.now) }
+    ensures { (result ≤ w) × SumWritten w j prev src.now xs.now (length xs.now) 0 result dst.old dst.new }
 {
     let mut c = 0;
     while w - c >= 64 {
-        put_sum_64(w, j, prev, c, xs, n, src, dst);
+        put_sum_64(w, j, prev, c, xs, src, dst);
         c += 64;
     }
     c
 }
 
 // put_sum for symbols of at least 16 bytes. Where the width is no multiple of 16, some bytes are written twice.
-fn put_sum_chunks(
-    w: usize,
-    j: usize,
-    prev: usize,
-    xs: &[u16; MAX_POSITIONS],
-    n: usize,
-    src: &[u8],
-    dst: &mut [u8],
-)
-    requires le_w { (16 ≤ w) × (prev ≤ j) × (j * w + w ≤ length dst.old) }
-    requires inside { Inside xs.now n w (length src.now) }
-    ensures { Replaced (λ b. before (byte_at w dst.old b) prev ⊕ gathered (byte_at w src.now b) xs.now n) w j dst.old dst.new }
+fn put_sum_chunks(w: usize, j: usize, prev: Option<usize>, xs: &[u16], src: &[u8], dst: &mut [u8])
+    requires le_w { (16 ≤ w) × IfSome prev (λ i. i < j) × (j * w + w ≤ length dst.old) }
+    requires inside { Inside xs.now w (length src.now) }
+    ensures { Replaced (λ b. byte_before w dst.old prev b ⊕ gathered (byte_at w src.now b) xs.now (length xs.now)) w j dst.old dst.new }
 {
-    let mut c = put_sum_wide(w, j, prev, xs, n, src, dst);
+    let mut c = put_sum_wide(w, j, prev, xs, src, dst);
     while w - c > 16 {
-        put_sum_16(w, j, prev, c, xs, n, src, dst);
+        put_sum_16(w, j, prev, c, xs, src, dst);
         c += 16;
     }
     if c == w {
         return;
     }
-    put_sum_16(w, j, prev, w - 16, xs, n, src, dst);
+    put_sum_16(w, j, prev, w - 16, xs, src, dst);
 }
 
 // put_sum byte by byte.
-fn put_sum_bytes(
-    w: usize,
-    j: usize,
-    prev: usize,
-    xs: &[u16; MAX_POSITIONS],
-    n: usize,
-    src: &[u8],
-    dst: &mut [u8],
-)
-    requires prev_le_j { (prev ≤ j) × (j * w + w ≤ length dst.old) }
-    requires inside { Inside xs.now n w (length src.now) }
-    ensures { Replaced (λ b. before (byte_at w dst.old b) prev ⊕ gathered (byte_at w src.now b) xs.now n) w j dst.old dst.new }
+fn put_sum_bytes(w: usize, j: usize, prev: Option<usize>, xs: &[u16], src: &[u8], dst: &mut [u8])
+    requires prev_lt_j { IfSome prev (λ i. i < j) × (j * w + w ≤ length dst.old) }
+    requires inside { Inside xs.now w (length src.now) }
+    ensures { Replaced (λ b. byte_before w dst.old prev b ⊕ gathered (byte_at w src.now b) xs.now (length xs.now)) w j dst.old dst.new }
 {
-    let mut c = 0;
-    while c < w {
-        put_sum_byte(w, j, prev, c, xs, n, src, dst);
-        c += 1;
+    for c in 0..w {
+        put_sum_byte(w, j, prev, c, xs, src, dst);
     }
 }
 
-// Symbol j of dst becomes symbol prev - 1 of dst, where prev is not 0, plus the n symbols xs of src.
-pub fn put_sum(
-    w: usize,
-    j: usize,
-    prev: usize,
-    xs: &[u16; MAX_POSITIONS],
-    n: usize,
-    src: &[u8],
-    dst: &mut [u8],
-)
-    requires prev_le_j { (prev ≤ j) × (j * w + w ≤ length dst.old) }
-    requires inside { Inside xs.now n w (length src.now) }
-    ensures { Replaced (λ b. before (byte_at w dst.old b) prev ⊕ gathered (byte_at w src.now b) xs.now n) w j dst.old dst.new }
+// Symbol j of dst becomes symbol prev of dst, where there is one, plus the symbols xs of src.
+pub fn put_sum(w: usize, j: usize, prev: Option<usize>, xs: &[u16], src: &[u8], dst: &mut [u8])
+    requires prev_lt_j { IfSome prev (λ i. i < j) × (j * w + w ≤ length dst.old) }
+    requires inside { Inside xs.now w (length src.now) }
+    ensures { Replaced (λ b. byte_before w dst.old prev b ⊕ gathered (byte_at w src.now b) xs.now (length xs.now)) w j dst.old dst.new }
 {
     if w < 16 {
-        put_sum_bytes(w, j, prev, xs, n, src, dst);
+        put_sum_bytes(w, j, prev, xs, src, dst);
         return;
     }
-    put_sum_chunks(w, j, prev, xs, n, src, dst);
+    put_sum_chunks(w, j, prev, xs, src, dst);
 }
 
 // Writes bytes c to c + 63 of restore's symbol p.
-fn restore_64(w: usize, p: usize, c: usize, xs: &[u16; MAX_POSITIONS], n: usize, buf: &mut [u8])
+fn restore_64(w: usize, p: usize, c: usize, xs: &[u16], buf: &mut [u8])
     requires c_bound { (c + 64 ≤ w) × (p * w + w ≤ length buf.old) }
-    requires inside { Inside xs.now n w (length buf.old) }
-    ensures { SumWritten w p 0 buf.old xs.now n c 64 buf.old buf.new }
+    requires inside { Inside xs.now w (length buf.old) }
+    ensures { SumWritten w p None buf.old xs.now (length xs.now) c 64 buf.old buf.new }
 {
-    let s = gather_64(w, c, xs, n, buf);
+    let s = gather_64(w, c, xs, buf);
     put_64(buf, p * w + c, s);
 }
 
 // Writes bytes c to c + 15.
-fn restore_16(w: usize, p: usize, c: usize, xs: &[u16; MAX_POSITIONS], n: usize, buf: &mut [u8])
+fn restore_16(w: usize, p: usize, c: usize, xs: &[u16], buf: &mut [u8])
     requires c_bound { (c + 16 ≤ w) × (p * w + w ≤ length buf.old) }
-    requires inside { Inside xs.now n w (length buf.old) }
-    ensures { SumWritten w p 0 buf.old xs.now n c 16 buf.old buf.new }
+    requires inside { Inside xs.now w (length buf.old) }
+    ensures { SumWritten w p None buf.old xs.now (length xs.now) c 16 buf.old buf.new }
 {
-    let s = gather_16(&[0u8; 16], w, c, xs, n, buf);
+    let s = gather_16(&[0u8; 16], w, c, xs, buf);
     put_16(buf, p * w + c, &s);
 }
 
 // Writes byte c.
-fn restore_byte(w: usize, p: usize, c: usize, xs: &[u16; MAX_POSITIONS], n: usize, buf: &mut [u8])
+fn restore_byte(w: usize, p: usize, c: usize, xs: &[u16], buf: &mut [u8])
     requires c_lt_w { (c < w) × (p * w + w ≤ length buf.old) }
-    requires inside { Inside xs.now n w (length buf.old) }
-    ensures { SumWritten w p 0 buf.old xs.now n c 1 buf.old buf.new }
+    requires inside { Inside xs.now w (length buf.old) }
+    ensures { SumWritten w p None buf.old xs.now (length xs.now) c 1 buf.old buf.new }
 {
-    buf[p * w + c] = gather_byte(0, w, c, xs, n, buf);
+    buf[p * w + c] = gather_byte(0, w, c, xs, buf);
 }
 
 // Writes as many bytes as 64 at a time give; answers how many.
-fn restore_wide(w: usize, p: usize, xs: &[u16; MAX_POSITIONS], n: usize, buf: &mut [u8]) -> usize
+fn restore_wide(w: usize, p: usize, xs: &[u16], buf: &mut [u8]) -> usize
     requires w_in_bounds { p * w + w ≤ length buf.old }
-    requires inside { Inside xs.now n w (length buf.old) }
-    requires by_index { (i : ℕ) → i < n → get_or xs.now i 0 ≢ p }
-    ensures { (result ≤ w) × SumWritten w p 0 buf.old xs.now n 0 result buf.old buf.new }
+    requires inside { Inside xs.now w (length buf.old) }
+    requires by_index { (i : ℕ) → i < length xs.now → get_or xs.now i 0 ≢ p }
+    ensures { (result ≤ w) × SumWritten w p None buf.old xs.now (length xs.now) 0 result buf.old buf.new }
 {
     let mut c = 0;
     while w - c >= 64 {
-        restore_64(w, p, c, xs, n, buf);
+        restore_64(w, p, c, xs, buf);
         c += 64;
     }
     c
 }
 
 // restore for symbols of at least 16 bytes. Where the width is no multiple of 16, some bytes are written twice.
-fn restore_chunks(w: usize, p: usize, xs: &[u16; MAX_POSITIONS], n: usize, buf: &mut [u8])
+fn restore_chunks(w: usize, p: usize, xs: &[u16], buf: &mut [u8])
     requires le_w { (16 ≤ w) × (p * w + w ≤ length buf.old) }
-    requires inside { Inside xs.now n w (length buf.old) }
-    requires by_index { (i : ℕ) → i < n → get_or xs.now i 0 ≢ p }
-    ensures { Replaced (λ b. gathered (byte_at w buf.old b) xs.now n) w p buf.old buf.new }
+    requires inside { Inside xs.now w (length buf.old) }
+    requires by_index { (i : ℕ) → i < length xs.now → get_or xs.now i 0 ≢ p }
+    ensures { Replaced (λ b. gathered (byte_at w buf.old b) xs.now (length xs.now)) w p buf.old buf.new }
 {
-    let mut c = restore_wide(w, p, xs, n, buf);
+    let mut c = restore_wide(w, p, xs, buf);
     while w - c > 16 {
-        restore_16(w, p, c, xs, n, buf);
+        restore_16(w, p, c, xs, buf);
         c += 16;
     }
     if c == w {
         return;
     }
-    restore_16(w, p, w - 16, xs, n, buf);
+    restore_16(w, p, w - 16, xs, buf);
 }
 
 // restore byte by byte.
-fn restore_bytes(w: usize, p: usize, xs: &[u16; MAX_POSITIONS], n: usize, buf: &mut [u8])
+fn restore_bytes(w: usize, p: usize, xs: &[u16], buf: &mut [u8])
     requires w_in_bounds { p * w + w ≤ length buf.old }
-    requires inside { Inside xs.now n w (length buf.old) }
-    requires by_index { (i : ℕ) → i < n → get_or xs.now i 0 ≢ p }
-    ensures { Replaced (λ b. gathered (byte_at w buf.old b) xs.now n) w p buf.old buf.new }
+    requires inside { Inside xs.now w (length buf.old) }
+    requires by_index { (i : ℕ) → i < length xs.now → get_or xs.now i 0 ≢ p }
+    ensures { Replaced (λ b. gathered (byte_at w buf.old b) xs.now (length xs.now)) w p buf.old buf.new }
 {
-    let mut c = 0;
-    while c < w {
-        restore_byte(w, p, c, xs, n, buf);
-        c += 1;
+    for c in 0..w {
+        restore_byte(w, p, c, xs, buf);
     }
 }
 
-// Symbol p of a buffer becomes the sum of the n symbols xs of it, of which it is none.
-pub fn restore(w: usize, p: usize, xs: &[u16; MAX_POSITIONS], n: usize, buf: &mut [u8])
+// Symbol p of a buffer becomes the sum of the symbols xs of it, of which it is none.
+pub fn restore(w: usize, p: usize, xs: &[u16], buf: &mut [u8])
     requires w_in_bounds { p * w + w ≤ length buf.old }
-    requires inside { Inside xs.now n w (length buf.old) }
-    requires by_index { (i : ℕ) → i < n → get_or xs.now i 0 ≢ p }
-    ensures { Replaced (λ b. gathered (byte_at w buf.old b) xs.now n) w p buf.old buf.new }
+    requires inside { Inside xs.now w (length buf.old) }
+    requires by_index { (i : ℕ) → i < length xs.now → get_or xs.now i 0 ≢ p }
+    ensures { Replaced (λ b. gathered (byte_at w buf.old b) xs.now (length xs.now)) w p buf.old buf.new }
 {
     if w < 16 {
-        restore_bytes(w, p, xs, n, buf);
+        restore_bytes(w, p, xs, buf);
         return;
     }
-    restore_chunks(w, p, xs, n, buf);
+    restore_chunks(w, p, xs, buf);
 }
 
 // The bitwise or of two chunks.
@@ -420,19 +371,17 @@ fn or_16<'a>(t: &'a [u8; 16], u: &'a [u8; 16]) -> [u8; 16]
     ensures { Or16 t.now u.now result }
 {
     let mut r = [0u8; 16];
-    let mut i = 0;
-    while i < 16 {
+    for i in 0..16 {
         r[i] = t[i] | u[i];
-        i += 1;
     }
     r
 }
 
 // gather_64 for cancels.
-fn row_sum_64(w: usize, c: usize, xs: &[u16; MAX_POSITIONS], n: usize, src: &[u8]) -> Chunk64
+fn row_sum_64(w: usize, c: usize, xs: &[u16], src: &[u8]) -> Chunk64
     requires c_bound { c + 64 ≤ w }
-    requires inside { Inside xs.now n w (length src.now) }
-    ensures { Chunk64Is (summed (λ b. 0) w src.now xs.now n) c result }
+    requires inside { Inside xs.now w (length src.now) }
+    ensures { Chunk64Is (summed (λ b. 0) w src.now xs.now (length xs.now)) c result }
 {
     let mut s = Chunk64 {
         a: [0u8; 16],
@@ -440,43 +389,41 @@ fn row_sum_64(w: usize, c: usize, xs: &[u16; MAX_POSITIONS], n: usize, src: &[u8
         c: [0u8; 16],
         d: [0u8; 16],
     };
-    let mut i = 0;
-    while i < n {
-        s = sum_64(s, src, offset(xs[i], w, c));
-        i += 1;
+    for &x in xs {
+        s = sum_64(s, src, offset(x, w, c));
     }
     s
 }
 
-// Bytes c to c + 63 of the n symbols xs of src add up to zero.
-fn cancels_64(w: usize, c: usize, xs: &[u16; MAX_POSITIONS], n: usize, src: &[u8]) -> bool
+// Bytes c to c + 63 of the symbols xs of src add up to zero.
+fn cancels_64(w: usize, c: usize, xs: &[u16], src: &[u8]) -> bool
     requires c_bound { c + 64 ≤ w }
-    requires inside { Inside xs.now n w (length src.now) }
-    ensures { ZeroIs (summed (λ b. 0) w src.now xs.now n) c (c + 64) result }
+    requires inside { Inside xs.now w (length src.now) }
+    ensures { ZeroIs (summed (λ b. 0) w src.now xs.now (length xs.now)) c (c + 64) result }
 {
-    let s = row_sum_64(w, c, xs, n, src);
+    let s = row_sum_64(w, c, xs, src);
     let x = or_16(&s.a, &s.b);
     let y = or_16(&s.c, &s.d);
     all_zero(&or_16(&x, &y), 0, 16)
 }
 
 // Bytes c to c + 15.
-fn cancels_16(w: usize, c: usize, xs: &[u16; MAX_POSITIONS], n: usize, src: &[u8]) -> bool
+fn cancels_16(w: usize, c: usize, xs: &[u16], src: &[u8]) -> bool
     requires c_bound { c + 16 ≤ w }
-    requires inside { Inside xs.now n w (length src.now) }
-    ensures { ZeroIs (summed (λ b. 0) w src.now xs.now n) c (c + 16) result }
+    requires inside { Inside xs.now w (length src.now) }
+    ensures { ZeroIs (summed (λ b. 0) w src.now xs.now (length xs.now)) c (c + 16) result }
 {
-    all_zero(&gather_16(&[0u8; 16], w, c, xs, n, src), 0, 16)
+    all_zero(&gather_16(&[0u8; 16], w, c, xs, src), 0, 16)
 }
 
 // The whole chunks of 64 bytes, as many as there are, add up to zero.
-fn cancels_wide(w: usize, xs: &[u16; MAX_POSITIONS], n: usize, src: &[u8]) -> bool
-    requires { Inside xs.now n w (length src.now) }
-    ensures { ZeroIs (summed (λ b. 0) w src.now xs.now n) 0 (w - w % 64) result }
+fn cancels_wide(w: usize, xs: &[u16], src: &[u8]) -> bool
+    requires { Inside xs.now w (length src.now) }
+    ensures { ZeroIs (summed (λ b. 0) w src.now xs.now (length xs.now)) 0 (w - w % 64) result }
 {
     let mut c = 0;
     while w - c >= 64 {
-        if !cancels_64(w, c, xs, n, src) {
+        if !cancels_64(w, c, xs, src) {
             return false;
         }
         c += 64;
@@ -485,17 +432,17 @@ fn cancels_wide(w: usize, xs: &[u16; MAX_POSITIONS], n: usize, src: &[u8]) -> bo
 }
 
 // cancels for symbols of at least 16 bytes. Where the width is no multiple of 16, some bytes are added twice.
-fn cancels_chunks(w: usize, xs: &[u16; MAX_POSITIONS], n: usize, src: &[u8]) -> bool
+fn cancels_chunks(w: usize, xs: &[u16], src: &[u8]) -> bool
     requires le_w { 16 ≤ w }
-    requires inside { Inside xs.now n w (length src.now) }
-    ensures { ZeroIs (summed (λ b. 0) w src.now xs.now n) 0 w result }
+    requires inside { Inside xs.now w (length src.now) }
+    ensures { ZeroIs (summed (λ b. 0) w src.now xs.now (length xs.now)) 0 w result }
 {
-    if !cancels_wide(w, xs, n, src) {
+    if !cancels_wide(w, xs, src) {
         return false;
     }
     let mut c = w - w % 64;
     while w - c > 16 {
-        if !cancels_16(w, c, xs, n, src) {
+        if !cancels_16(w, c, xs, src) {
             return false;
         }
         c += 16;
@@ -503,31 +450,29 @@ fn cancels_chunks(w: usize, xs: &[u16; MAX_POSITIONS], n: usize, src: &[u8]) -> 
     if c == w {
         return true;
     }
-    cancels_16(w, w - 16, xs, n, src)
+    cancels_16(w, w - 16, xs, src)
 }
 
 // cancels byte by byte.
-fn cancels_bytes(w: usize, xs: &[u16; MAX_POSITIONS], n: usize, src: &[u8]) -> bool
-    requires { Inside xs.now n w (length src.now) }
-    ensures { ZeroIs (summed (λ b. 0) w src.now xs.now n) 0 w result }
+fn cancels_bytes(w: usize, xs: &[u16], src: &[u8]) -> bool
+    requires { Inside xs.now w (length src.now) }
+    ensures { ZeroIs (summed (λ b. 0) w src.now xs.now (length xs.now)) 0 w result }
 {
-    let mut c = 0;
-    while c < w {
-        if gather_byte(0, w, c, xs, n, src) != 0 {
+    for c in 0..w {
+        if gather_byte(0, w, c, xs, src) != 0 {
             return false;
         }
-        c += 1;
     }
     true
 }
 
 // The n symbols xs of src add up to zero.
-pub fn cancels(w: usize, xs: &[u16; MAX_POSITIONS], n: usize, src: &[u8]) -> bool
-    requires { Inside xs.now n w (length src.now) }
-    ensures { CancelIs w src.now xs.now n result }
+pub fn cancels(w: usize, xs: &[u16], src: &[u8]) -> bool
+    requires { Inside xs.now w (length src.now) }
+    ensures { CancelIs w src.now xs.now (length xs.now) result }
 {
     if w < 16 {
-        return cancels_bytes(w, xs, n, src);
+        return cancels_bytes(w, xs, src);
     }
-    cancels_chunks(w, xs, n, src)
+    cancels_chunks(w, xs, src)
 }

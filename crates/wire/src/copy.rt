@@ -1,4 +1,6 @@
 // Copies bytes into an output, without a local array. Internal: the unit writer's, and packing's.
+// A function for each size: a const parameter would need a local array, and rust/tests/write_without_array.rs follows no call of a trait's method
+// and none of core's copy_from_slice.
 //
 // Bytes that are read before the first of them is put become one load and one store, without a test of whether the two buffers overlap. No copy has
 // a tail: its last part reaches back over bytes that stand already.
@@ -124,10 +126,8 @@ fn copy_many(out: &mut [u8], at: usize, s: &[u8]) -> usize
     let n = s.len();
     let last = n - 16;
     copy_16(out, at, s, 0);
-    let mut i = second_part(at, n);
-    while i < last {
+    for i in (second_part(at, n)..last).step_by(16) {
         copy_16(out, at + i, s, i);
-        i += 16;
     }
     copy_16(out, at + last, s, last)
 }

@@ -4,6 +4,7 @@ use mathlib.Core.Path.{ap}
 use mathlib.Core.Bool.{not}
 use Prim.Native.Nat.{◌+◌, ◌-◌, ◌%◌}
 use native.Mathlib.Omega.{arith}
+use lib.ListN.{length}
 use Rattle.symbol_sums.specs.Gather.{summed}
 use Rattle.symbol_sums.proofs.ZeroTests.{zero_more, zero-not, zero-last}
 use Rattle.symbol_sums.proofs.cancels_chunks.Goals as goal
@@ -14,13 +15,13 @@ cancels_wide-requires c = c.requires.inside
 pub returns-then-not-cancels_wide : goal.returns-then-not-cancels_wide
 returns-then-not-cancels_wide c =
     let a = c.args in
-    let f = summed (λ b. 0) a.w a.src.now a.xs.now a.n in
+    let f = summed (λ b. 0) a.w a.src.now a.xs.now (length a.xs.now) in
     zero-not f 0 0 (a.w - a.w % 64) a.w c.cancels_wide.result c.cancels_wide.ensures (ap not c.if-not-cancels_wide.true) (omega arith)
 
 pub loop-c-init : goal.loop-c-init
 loop-c-init c =
     let a = c.args in
-    let f = summed (λ b. 0) a.w a.src.now a.xs.now a.n in
+    let f = summed (λ b. 0) a.w a.src.now a.xs.now (length a.xs.now) in
     (omega arith, λ b l. zero_more f 0 0 (a.w - a.w % 64) c.cancels_wide.result (λ k g. absurd (omega arith)) (omega arith) c.cancels_wide.ensures (ap not c.if-not-cancels_wide.false) b (omega arith))
 
 pub cancels_16-requires : goal.cancels_16-requires
@@ -30,14 +31,14 @@ pub returns-then-not-cancels_16 : goal.returns-then-not-cancels_16
 returns-then-not-cancels_16 c =
     let l = c.loop-c in
     let a = c.args in
-    let f = summed (λ b. 0) a.w a.src.now a.xs.now a.n in
+    let f = summed (λ b. 0) a.w a.src.now a.xs.now (length a.xs.now) in
     zero-not f 0 l.c (l.c + 16) a.w c.cancels_16.result c.cancels_16.ensures (ap not c.if-not-cancels_16.true) (omega arith)
 
 pub loop-c-preserved : goal.loop-c-preserved
 loop-c-preserved c =
     let l = c.loop-c in
     let a = c.args in
-    let f = summed (λ b. 0) a.w a.src.now a.xs.now a.n in
+    let f = summed (λ b. 0) a.w a.src.now a.xs.now (length a.xs.now) in
     (omega arith, zero_more f l.c l.c (l.c + 16) c.cancels_16.result l.invariant.1 (omega arith) c.cancels_16.ensures (ap not c.if-not-cancels_16.false))
 
 pub returns-then-c-w : goal.returns-then-c-w
@@ -50,5 +51,5 @@ pub returns : goal.returns
 returns c =
     let l = c.loop-c in
     let a = c.args in
-    let f = summed (λ b. 0) a.w a.src.now a.xs.now a.n in
+    let f = summed (λ b. 0) a.w a.src.now a.xs.now (length a.xs.now) in
     zero-last f l.c (a.w - 16) (a.w - 16 + 16) a.w l.invariant.1 (omega arith) (omega arith) c.cancels_16-2.result c.cancels_16-2.ensures

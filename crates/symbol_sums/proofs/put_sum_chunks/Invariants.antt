@@ -8,7 +8,7 @@ use Rattle.symbol_sums.specs.Gather.{SumWritten}
 use Rattle.symbol_sums.proofs.put_sum_chunks.Given as goal
 
 abbrev pub invariant-loop-c : goal.invariant-loop-c
-invariant-loop-c l = (l.c ≤ l.w) × (length l.dst ≡ length l.initial.dst) × ((q : List ℕ) → SumWritten l.w l.j l.prev l.src l.xs l.n 0 l.initial.c q l.initial.dst → SumWritten l.w l.j l.prev l.src l.xs l.n 0 l.c q l.dst)
+invariant-loop-c l = (l.c ≤ l.w) × (length l.dst ≡ length l.initial.dst) × ((q : List ℕ) → SumWritten l.w l.j l.prev l.src l.xs (length l.xs) 0 l.initial.c q l.initial.dst → SumWritten l.w l.j l.prev l.src l.xs (length l.xs) 0 l.c q l.dst)
 
 abbrev pub decreases-loop-c : goal.decreases-loop-c
 decreases-loop-c l = l.w - l.c

@@ -3,6 +3,7 @@
 use mathlib.Core.Path.{◌≡◌, refl, ◌∙◌}
 use Prim.Native.Nat.{◌-◌, ◌+◌}
 use native.Mathlib.Omega.{arith}
+use lib.ListN.{length}
 use Rattle.symbol_sums.proofs.Symbols.{restore_join, inside_kept, restore_replaced}
 use Rattle.symbol_sums.proofs.restore_chunks.Goals as goal
 
@@ -28,7 +29,7 @@ shape_of-buf-then-c-w c = c.loop-c.invariant.1 ∙ c.restore_wide-c.ensures.1.si
 pub returns-then-c-w : goal.returns-then-c-w
 returns-then-c-w c =
     let a = c.args in
-    restore_replaced a.w a.p a.xs.now a.n (c.loop-c.invariant.2 _ c.restore_wide-c.ensures.1) c.if-c-w.true
+    restore_replaced a.w a.p a.xs.now (length a.xs.now) (c.loop-c.invariant.2 _ c.restore_wide-c.ensures.1) c.if-c-w.true
 
 pub restore_16-requires-2 : goal.restore_16-requires-2
 restore_16-requires-2 c =
@@ -41,4 +42,4 @@ pub returns : goal.returns
 returns c =
     let e : c.args.w - 16 + 16 ≡ c.args.w = omega (arith, c.requires.le_w.0) in
     let a = c.args in
-    restore_replaced a.w a.p a.xs.now a.n (restore_join _ _ _ _ c.requires.by_index (c.loop-c.invariant.2 _ c.restore_wide-c.ensures.1) c.restore_16-2.ensures (omega arith) (omega (arith, e)) (omega (arith, e))) e
+    restore_replaced a.w a.p a.xs.now (length a.xs.now) (restore_join _ _ _ _ c.requires.by_index (c.loop-c.invariant.2 _ c.restore_wide-c.ensures.1) c.restore_16-2.ensures (omega arith) (omega (arith, e)) (omega (arith, e))) e

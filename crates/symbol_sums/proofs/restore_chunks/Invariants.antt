@@ -4,11 +4,12 @@ use mathlib.Core.Path.{◌≡◌}
 use mathlib.Core.List.{List}
 use Prim.Native.Nat.{ℕ, ◌≤◌, ◌-◌}
 use lib.ListN.{length}
+use Rattle.std.specs.Prelude.{None}
 use Rattle.symbol_sums.specs.Gather.{SumWritten}
 use Rattle.symbol_sums.proofs.restore_chunks.Given as goal
 
 abbrev pub invariant-loop-c : goal.invariant-loop-c
-invariant-loop-c l = (l.c ≤ l.w) × (length l.buf ≡ length l.initial.buf) × ((q : List ℕ) → SumWritten l.w l.p 0 q l.xs l.n 0 l.initial.c q l.initial.buf → SumWritten l.w l.p 0 q l.xs l.n 0 l.c q l.buf)
+invariant-loop-c l = (l.c ≤ l.w) × (length l.buf ≡ length l.initial.buf) × ((q : List ℕ) → SumWritten l.w l.p None q l.xs (length l.xs) 0 l.initial.c q l.initial.buf → SumWritten l.w l.p None q l.xs (length l.xs) 0 l.c q l.buf)
 
 abbrev pub decreases-loop-c : goal.decreases-loop-c
 decreases-loop-c l = l.w - l.c
