@@ -22,7 +22,7 @@ use Rattle.elimination.specs.Consistency.{Consistent, ConsistentIs}
 use Rattle.elimination.specs.Reduced.{pivot_word}
 use Rattle.encoder.specs.inner.Positions.{checks, Table}
 use Rattle.peeling.proofs.CodeSizes.{layout-rows}
-use Rattle.peeling.specs.Plan.{kind_of, unused_below, pivot_of, Unsolved}
+use Rattle.peeling.specs.Plan.{Arrays, kind_of, unused_below, pivot_of, Unsolved}
 use Rattle.peeling.specs.Values.{Peeled, HoldIs, StepsHold}
 use Rattle.encoder.specs.declared.positions.Shape.{Shape}
 use Rattle.decoder.specs.Pivots.{Put, AllSolvedIs, DeterminedIs, Readable}
@@ -80,7 +80,7 @@ module _ (c : Checks) (w : ℕ) (block y states : List ℕ) (same : (p b : ℕ) 
         go i (inr (L, D)) = inr (L, (D.0, (to D.1.0, D.1.1)))
 
 -- what peeling leaves is the same for the symbols that it leaves
-pub peeled-here : {c : Checks} {w : ℕ} {block states plan y : List ℕ} {early steps pivots : ℕ} → Peeled c w block states plan y early steps pivots → Peeled c w y states plan y early steps pivots
+pub peeled-here : {c : Checks} {w : ℕ} {block states : List ℕ} {plan : Arrays} {y : List ℕ} {early steps pivots : ℕ} → Peeled c w block states plan y early steps pivots → Peeled c w y states plan y early steps pivots
 peeled-here L = record {
   made = L.made;
   closed = L.closed;
@@ -122,9 +122,9 @@ module _ (c : Checks) (w : ℕ) (y states s' m' : List ℕ) (sy : length y ≡ c
       below i h = subst (λ (n : ℕ). i < n) (sym sm) h
 
   -- x agrees, and what depends on no pivot was filled
-  pub outcome-some : (x : List ℕ) → AgreesWith c w y states x → (r : Rows) (l plan : List ℕ) → length x ≡ c.n * w
-      → ((p : ℕ) → p < c.n → is_known states p ≡ false → DeterminedIs l r.packed r.early (get_or plan p 0) true → Common w (AgreesWith c w y states) p)
-      → ((p : ℕ) → p < c.n → is_known states p ≡ false → DeterminedIs l r.packed r.early (get_or plan p 0) false → Differs c w y states x p)
+  pub outcome-some : (x : List ℕ) → AgreesWith c w y states x → (r : Rows) (l : List ℕ) (plan : Arrays) → length x ≡ c.n * w
+      → ((p : ℕ) → p < c.n → is_known states p ≡ false → DeterminedIs l r.packed r.early (kind_of plan p) true → Common w (AgreesWith c w y states) p)
+      → ((p : ℕ) → p < c.n → is_known states p ≡ false → DeterminedIs l r.packed r.early (kind_of plan p) false → Differs c w y states x p)
       → FilledDetermined w r l plan x states s' m' → Outcome c w y states s' m' true
   outcome-some x A r l plan sx f g F = (
     x,
@@ -147,7 +147,7 @@ module _ (c : Checks) (w : ℕ) (y states s' m' : List ℕ) (sy : length y ≡ c
 
 -- ---- without pivots
 
-module _ {c : Checks} {w : ℕ} {states plan y : List ℕ} {early steps pivots : ℕ} (none : pivots ≡ 0) (L : Peeled c w y states plan y early steps pivots) (sm : length states ≡ c.n) where
+module _ {c : Checks} {w : ℕ} {states : List ℕ} {plan : Arrays} {y : List ℕ} {early steps pivots : ℕ} (none : pivots ≡ 0) (L : Peeled c w y states plan y early steps pivots) (sm : length states ≡ c.n) where
   pub by-steps_no : (r : Bool) → HoldIs c w plan y r → r ≡ false → (s' m' : List ℕ) → Cleared w y states s' m' (length states) → length s' ≡ length y → length m' ≡ length states → Outcome c w y states s' m' false
   by-steps_no r H e s' m' C es em =
       outcome_no c w y states s' m' L.values.size sm
@@ -162,12 +162,12 @@ module _ {c : Checks} {w : ℕ} {states plan y : List ℕ} {early steps pivots :
 -- ---- with pivots: where the rows stand
 
 -- what peeling left, by the numbers of the rows, which fit into as many words as the caller lends
-pub record Ready (s : Shape) (block states plan y : List ℕ) (r : Rows) : Type 0 where
+pub record Ready (s : Shape) (block states : List ℕ) (plan : Arrays) (y : List ℕ) (r : Rows) : Type 0 where
   pub peeled : Peeled (checks s) s.w block states plan y r.early r.steps r.pivots
   pub all : r.steps + r.rest ≡ (checks s).m
   pub room : Room (checks s) r ((checks s).m * ((checks s).n / 64 + 1))
 
-pub ready : {s : Shape} {t block states plan y : List ℕ} {early steps pivots : ℕ} → Table s t → Peeled (checks s) s.w block states plan y early steps pivots
+pub ready : {s : Shape} {t block states : List ℕ} {plan : Arrays} {y : List ℕ} {early steps pivots : ℕ} → Table s t → Peeled (checks s) s.w block states plan y early steps pivots
     → (r : Rows) → (r.early ≡ early) × (r.steps ≡ steps) × (r.pivots ≡ pivots) → r.steps + r.rest ≡ s.layout.m → r.packed ≡ (pivots + 63) / 64
     → Ready s block states plan y r
 unfolding staircase
@@ -193,7 +193,7 @@ rows-room {c} {w} {size} {bytes} {r} all room e =
 
 -- ---- with pivots: what each function asks, and the outcome
 
-module _ {c : Checks} {w : ℕ} {states plan y : List ℕ} {r : Rows} {l d : List ℕ} (G : Solvable c w states plan y r l d) where
+module _ {c : Checks} {w : ℕ} {states : List ℕ} {plan : Arrays} {y : List ℕ} {r : Rows} {l d : List ℕ} (G : Solvable c w states plan y r l d) where
   setting : Setting c w y states plan y G.equations.rows (behind r.packed r.steps G.equations.rows) G.equations.sides (behind r.packed r.steps l) d
       r.packed r.early r.steps r.pivots r.rest
   setting =
@@ -236,7 +236,7 @@ module _ {c : Checks} {w : ℕ} {states plan y : List ℕ} {r : Rows} {l d : Lis
         ),
       )
 
-  module _ {plan' between : List ℕ} (Q : Put c w r.packed r.steps r.rest r.pivots l d plan y plan' between) where
+  module _ {plan' : Arrays} {between : List ℕ} (Q : Put c w r.packed r.steps r.rest r.pivots l d plan y plan' between) where
     planned : Planned c plan' r
     planned = record { states = states; made = (plan_put setting back Q).0; closed = (plan_put setting back Q).1 }
 
@@ -250,23 +250,22 @@ module _ {c : Checks} {w : ℕ} {states plan y : List ℕ} {r : Rows} {l d : Lis
     by-rows_no h A e s' m' C es em =
         outcome_no c w y states s' m' G.peeled.values.size sm (refuted setting (subst (ConsistentIs (behind r.packed r.steps l) d r.rest r.packed w) e A)) C es em
 
-    module _ {plan' x : List ℕ} (I : PutIn c w r.packed r.early r.steps r.rest r.pivots l d plan y plan' x) where
-      pub solved_asks : ((r.pivots ≤ 3072) × (length plan' ≡ 9216)) × ((u : ℕ) → u < r.pivots → pivot_of plan' u < 3072)
+    module _ {plan' : Arrays} {x : List ℕ} (I : PutIn c w r.packed r.early r.steps r.rest r.pivots l d plan y plan' x) where
+      pub solved_asks : (r.pivots ≤ 3072) × ((u : ℕ) → u < r.pivots → pivot_of plan' u < 3072)
       solved_asks =
           let p = (plan_put setting back I.put).0 in
-          ((omega (arith, p.pivots_few, p.positions), p.size), λ u h. omega (arith, (p.pivot u h).position, p.positions))
+          (omega (arith, p.pivots_few, p.positions), λ u h. omega (arith, (p.pivot u h).position, p.positions))
 
       pub steps_asks : Planned c plan' r × (Room c r (length l) × Places c plan' l r.packed r.steps c.m)
       steps_asks = (planned I.put, (G.room, places setting back I.put))
 
       module _ {l'' : List ℕ} (X : StepsExpressed c plan' l'' r.packed r.early r.steps) (F : SameFrom l l'' r.packed r.steps) where
-        pub fill_asks : FillRoom r (length plan') (length l'') (length states)
+        pub fill_asks : FillRoom r (length l'') (length states)
             × ((length x ≡ length states * w) × ((p : ℕ) → p < length states → is_known states p ≡ false → Readable r l'' plan' p))
         fill_asks =
             let p = (plan_put setting back I.put).0 in (
               record {
                 fit = subst (λ (k : ℕ). k * (r.packed + 1) ≤ length l'') (sym all_rows) (omega (arith, G.room.fit, F.size));
-                plan_size_lem = p.size;
                 positions = omega (arith, sm, p.positions);
               },
               (

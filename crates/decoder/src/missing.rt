@@ -7,7 +7,7 @@ ghost use Rattle.decoder.specs.MissingPositions.{Cleared, FilledMissing, FillRoo
 
 use crate::dependence;
 use peeling::states::{DETERMINED, KNOWN, LEFT};
-use pivot_equations::rows::Rows;
+use pivot_equations::system::System;
 
 // Where position i is not known, it gets zero bytes and state 0.
 fn clear_at(w: usize, symbols: &mut [u8], states: &mut [u8], i: usize)
@@ -20,7 +20,7 @@ fn clear_at(w: usize, symbols: &mut [u8], states: &mut [u8], i: usize)
     }
     states[i] = LEFT;
     let at = i * w;
-    buffers::clear(&mut symbols[at..at + w]);
+    symbols[at..at + w].fill(0);
 }
 
 // The same at every position.
@@ -53,45 +53,30 @@ pub fn fill_missing(states: &mut [u8])
 }
 
 // Where position p is not known, it gets state 2 if it depends on no free pivot, and else zero bytes and state 0.
-fn fill_at(
-    w: usize,
-    r: Rows,
-    p: usize,
-    plan: &[u16],
-    words: &[u64],
-    symbols: &mut [u8],
-    states: &mut [u8],
-)
-    requires fill_room { FillRoom r (length plan.now) (length words.now) (length states.old) }
-    requires p_in_bounds { (p < length states.old) × (length symbols.old ≡ length states.old * w) }
-    requires readable { is_known states.old p ≡ false → Readable r words.now plan.now p }
-    ensures { FilledOne w r words.now plan.now symbols.old states.old symbols.new states.new p }
+fn fill_at(system: &System, p: usize, words: &[u64], symbols: &mut [u8], states: &mut [u8])
+    requires fill_room { FillRoom system.now.rows (length words.now) (length states.old) }
+    requires p_in_bounds { (p < length states.old) × (length symbols.old ≡ length states.old * system.now.block.now.shape.w) }
+    requires readable { is_known states.old p ≡ false → Readable system.now.rows words.now system.now.plan.now p }
+    ensures { FilledOne system.now.block.now.shape.w system.now.rows words.now system.now.plan.now symbols.old states.old symbols.new states.new p }
 {
     if states[p] == KNOWN {
         return;
     }
-    if dependence::determined(r, p, plan, words) {
+    if dependence::determined(system, p, words) {
         states[p] = DETERMINED;
         return;
     }
-    clear_at(w, symbols, states, p);
+    clear_at(system.block.shape.w, symbols, states, p);
 }
 
 // The same at every position.
-pub fn fill_determined(
-    w: usize,
-    r: Rows,
-    plan: &[u16],
-    words: &[u64],
-    symbols: &mut [u8],
-    states: &mut [u8],
-)
-    requires fill_room { FillRoom r (length plan.now) (length words.now) (length states.old) }
-    requires symbols_len { length symbols.old ≡ length states.old * w }
-    requires by_index { (p : ℕ) → p < length states.old → is_known states.old p ≡ false → Readable r words.now plan.now p }
-    ensures { FilledDetermined w r words.now plan.now symbols.old states.old symbols.new states.new }
+pub fn fill_determined(system: &System, words: &[u64], symbols: &mut [u8], states: &mut [u8])
+    requires fill_room { FillRoom system.now.rows (length words.now) (length states.old) }
+    requires symbols_len { length symbols.old ≡ length states.old * system.now.block.now.shape.w }
+    requires by_index { (p : ℕ) → p < length states.old → is_known states.old p ≡ false → Readable system.now.rows words.now system.now.plan.now p }
+    ensures { FilledDetermined system.now.block.now.shape.w system.now.rows words.now system.now.plan.now symbols.old states.old symbols.new states.new }
 {
     for i in 0..states.len() {
-        fill_at(w, r, i, plan, words, symbols, states);
+        fill_at(system, i, words, symbols, states);
     }
 }

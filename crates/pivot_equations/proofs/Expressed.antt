@@ -19,7 +19,7 @@ use Rattle.elimination.specs.Bits.{row_bit}
 use Rattle.elimination.specs.Reduced.{pivot_word}
 use Rattle.elimination.proofs.Order.{eq_or_ne}
 use Rattle.elimination.proofs.ColumnLaws.{cond-elim}
-use Rattle.peeling.specs.Plan.{kind_of, pivot_of, row_of, position_of, used_by, unused_below, Step, Plan, Closed, Unsolved}
+use Rattle.peeling.specs.Plan.{Arrays, kind_of, pivot_of, row_of, position_of, used_by, unused_below, Step, Plan, Closed, Unsolved}
 use Rattle.pivot_equations.specs.Express.{coefficient, Reads, OnlyRow, RowIs, Places, StepsExpressed, SameFrom, SameBelow, ReadsAll, RestTo}
 use Rattle.peeling.proofs.StepLaws.{few-steps, step_apart}
 use Rattle.peeling.proofs.UnusedRows.{unused-below}
@@ -48,7 +48,7 @@ pub below_more : {l l' l'' : List ℕ} {words steps : ℕ} → SameBelow l l' wo
 below_more a b = record { size = b.size ∙ a.size; below = λ k h. b.below k h ∙ a.below k h }
 
 -- pivots keep their places where the rows behind the steps stay
-pub places_from : (c : Checks) (plan : List ℕ) {l l' : List ℕ} {words steps rows : ℕ} → SameFrom l l' words steps → Places c plan l words steps rows → Places c plan l' words steps rows
+pub places_from : (c : Checks) (plan : Arrays) {l l' : List ℕ} {words steps rows : ℕ} → SameFrom l l' words steps → Places c plan l words steps rows → Places c plan l' words steps rows
 places_from c plan {l} {l'} {words} s places p h g =
     let q = places p h g in (
       q.0,
@@ -59,7 +59,7 @@ places_from c plan {l} {l'} {words} s places p h g =
           (r.0, (r.1.0, rw e r.1.1)),
     )
 
-pub reads-rows : {c : Checks} {plan l : List ℕ} {words early rows rows' t : ℕ} {but : Option ℕ} → rows' ≡ rows → ReadsAll c plan l words early rows t but → ReadsAll c plan l words early rows' t but
+pub reads-rows : {c : Checks} {plan : Arrays} {l : List ℕ} {words early rows rows' t : ℕ} {but : Option ℕ} → rows' ≡ rows → ReadsAll c plan l words early rows t but → ReadsAll c plan l words early rows' t but
 reads-rows e r = rw e r
 
 -- ---- what a position's kind says
@@ -67,7 +67,7 @@ reads-rows e r = rw e r
 reads_none : {l : List ℕ} {words early rows t : ℕ} → Reads l words early rows t 0
 reads_none = record { step = λ h g. absurd (omega arith); pivot = λ h g. absurd (omega arith); solved = λ h. absurd (omega arith) }
 
-module _ {c : Checks} {states plan : List ℕ} {early steps pivots : ℕ} (made : Plan c states plan early steps pivots) (closed : Closed c plan) where
+module _ {c : Checks} {states : List ℕ} {plan : Arrays} {early steps pivots : ℕ} (made : Plan c states plan early steps pivots) (closed : Closed c plan) where
   -- a position is known, settled or put off
   data Settled (x : ℕ) : Type 0 where
     known : kind_of plan x ≡ 0 → Settled x
@@ -176,7 +176,7 @@ module _ {c : Checks} {states plan : List ℕ} {early steps pivots : ℕ} (made 
 
 -- ---- the check rows that no step used
 
-module _ {c : Checks} {states plan : List ℕ} {early steps pivots : ℕ} (made : Plan c states plan early steps pivots) (closed : Closed c plan)
+module _ {c : Checks} {states : List ℕ} {plan : Arrays} {early steps pivots : ℕ} (made : Plan c states plan early steps pivots) (closed : Closed c plan)
     (unsolved : Unsolved plan pivots) where
   unsolved-kind : (x : ℕ) → x < c.n → kind_of plan x ≤ 4096
   unsolved-kind x h = go (settled made closed x h)
@@ -223,6 +223,6 @@ module _ {c : Checks} {states plan : List ℕ} {early steps pivots : ℕ} (made 
             ∙ sum_ext (c.has k) (λ x. coefficient plan l words early x i) (λ x. coefficient plan l' words early x i) c.n same
 
 -- a used row has none
-pub rest_skip : (c : Checks) (plan l : List ℕ) (words early steps j : ℕ) → used_by plan j ≢ 0 → RestTo c plan l words early steps j → RestTo c plan l words early steps (j + 1)
+pub rest_skip : (c : Checks) (plan : Arrays) (l : List ℕ) (words early steps j : ℕ) → used_by plan j ≢ 0 → RestTo c plan l words early steps j → RestTo c plan l words early steps (j + 1)
 rest_skip c plan l words early steps j ne done k i h z hi =
     ⊎_elim (λ q. absurd (ne (ap (used_by plan) (sym q) ∙ z))) (λ lt. done k i lt z hi) (eq-or-lt_of_le (let g : k ≤ j = omega arith in g))

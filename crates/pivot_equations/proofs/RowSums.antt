@@ -16,7 +16,7 @@ use Rattle.symbol_sums.specs.Gather.{gathered}
 use Rattle.encoder.specs.inner.Positions.{RowOf}
 use Rattle.elimination.specs.Bits.{test_bit, row_bit}
 use Rattle.elimination.proofs.Digits.{test_bit-none}
-use Rattle.peeling.specs.Plan.{kind_of}
+use Rattle.peeling.specs.Plan.{Arrays, kind_of}
 use Rattle.pivot_equations.specs.Express.{depends_on, coefficient, Reads, OnlyRow, Added, RowIs, is_left_out, kind_but, ReadsAll}
 use Rattle.peeling.proofs.Zeroing.{zeros_size, zeros_in, zeros_out, zeroed}
 use Rattle.pivot_equations.proofs.Dependence.{depends_none}
@@ -24,7 +24,7 @@ use Rattle.pivot_equations.proofs.RowChanges.{only_none, only-more, depends_same
 
 -- ---- every position but the one that is left out
 
-module _ {l : List ℕ} {words early t : ℕ} (plan : List ℕ) (but : Option ℕ) (x : ℕ) where
+module _ {l : List ℕ} {words early t : ℕ} (plan : Arrays) (but : Option ℕ) (x : ℕ) where
   pub reads_other : {rows : ℕ} → is_left_out but x ≡ false → Reads l words early rows t (kind_but plan but x) → Reads l words early rows t (kind_of plan x)
   reads_other ne r = rw ne at r
 
@@ -34,7 +34,7 @@ module _ {l : List ℕ} {words early t : ℕ} (plan : List ℕ) (but : Option �
   pub added_own : is_left_out but x ≡ true → Added l l words early t (kind_but plan but x)
   added_own e = rw e (add_none (omega arith))
 
-module _ {c : Checks} {plan l l' : List ℕ} {words early rows t : ℕ} {but : Option ℕ} where
+module _ {c : Checks} {plan : Arrays} {l l' : List ℕ} {words early rows t : ℕ} {but : Option ℕ} where
   pub reads_all_same : OnlyRow l l' words t → ReadsAll c plan l words early rows t but → ReadsAll c plan l' words early rows t but
   reads_all_same o r = record { each = λ x h. reads_same o (r.each x h) }
 
@@ -56,11 +56,11 @@ cleared l ys words t k e fit r = subst (λ (x : List ℕ). Cleared l x words t) 
 -- ---- the sum, position by position
 
 -- row t of l' is the sum of the first k positions of xs, but for the one that is left out
-pub record SumTo (plan l l' xs : List ℕ) (words early t : ℕ) (but : Option ℕ) (k : ℕ) : Type 0 where
+pub record SumTo (plan : Arrays) (l l' xs : List ℕ) (words early t : ℕ) (but : Option ℕ) (k : ℕ) : Type 0 where
   pub only : OnlyRow l l' words t
   pub bits : (i : ℕ) → i < 64 * words → pick (row_bit l' (t * (words + 1)) i) 1 ≡ gathered (λ x. pick (depends_on l words early (kind_but plan but x) i) 1) xs k
 
-module _ {plan l xs : List ℕ} {words early t : ℕ} {but : Option ℕ} where
+module _ {plan : Arrays} {l xs : List ℕ} {words early t : ℕ} {but : Option ℕ} where
   pub sum-none : {l₀ : List ℕ} → Cleared l₀ l words t → SumTo plan l l xs words early t but 0
   unfolding row_bit sum
   sum-none z = record {
@@ -81,7 +81,7 @@ module _ {plan l xs : List ℕ} {words early t : ℕ} {but : Option ℕ} where
 
 -- ---- all of them
 
-coefficient_but : (plan l : List ℕ) (words early : ℕ) (but : Option ℕ) (x i : ℕ) → pick (depends_on l words early (kind_but plan but x) i) 1 ≡ cond (is_left_out but x) 0 (coefficient plan l words early x i)
+coefficient_but : (plan : Arrays) (l : List ℕ) (words early : ℕ) (but : Option ℕ) (x i : ℕ) → pick (depends_on l words early (kind_but plan but x) i) 1 ≡ cond (is_left_out but x) 0 (coefficient plan l words early x i)
 coefficient_but plan l words early but x i = go (is_left_out but x)
   where
     go : (b : Bool) → pick (depends_on l words early (cond b 0 (kind_of plan x)) i) 1 ≡ cond b 0 (coefficient plan l words early x i)
@@ -93,7 +93,7 @@ gathered_take : (f : ℕ → ℕ) (xs : List ℕ) (n : ℕ) → gathered f (take
 gathered_take f xs n = sum_ext (λ i. true) _ _ n (λ i h. ap f (get_or-take n xs i 0 h))
 
 -- l₁ is l with row t cleared, and l' has all n positions of check row j
-pub row_is : {c : Checks} {plan l l₁ l' xs : List ℕ} {words early rows t j n k : ℕ} {but : Option ℕ} → OnlyRow l l₁ words t → ReadsAll c plan l words early rows t but → RowOf c j n xs
+pub row_is : {c : Checks} {plan : Arrays} {l l₁ l' xs : List ℕ} {words early rows t j n k : ℕ} {but : Option ℕ} → OnlyRow l l₁ words t → ReadsAll c plan l words early rows t but → RowOf c j n xs
     → SumTo plan l₁ l' (take n xs) words early t but k → k ≡ n → RowIs c plan l l' words early t j but
 row_is {c} {plan} {l} {l₁} {l'} {xs} {words} {early} {rows} {t} {j} {n} {k} {but} o r of s e = record {
   only = only-more o s.only;

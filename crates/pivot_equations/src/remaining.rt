@@ -1,25 +1,22 @@
 // The check rows that no step used.
-ghost use Rattle.std.specs.Prelude.{◌≡◌, ◌+◌, ◌*◌, ◌<◌, length};
-ghost use Rattle.encoder.specs.inner.Positions.{checks, Table};
+ghost use Rattle.std.specs.Prelude.{◌≡◌, ◌*◌, length};
+ghost use Rattle.encoder.specs.inner.Positions.{checks};
 ghost use Rattle.peeling.specs.Values.{HoldIs, Sides};
-ghost use Rattle.peeling.specs.Plan.{plan_size};
 
-use encoder::positions;
-use encoder::positions::{Shape, TABLE_SIZE};
-use peeling::plan::USED;
+use encoder::positions::CheckRows;
+use peeling::plan::Plan;
 use symbol_sums::MAX_POSITIONS;
 
 // Each of them adds up to zero.
-pub fn hold(s: Shape, table: &[u16; TABLE_SIZE], plan: &[u16], symbols: &[u8]) -> bool
-    requires table { Table s table.now }
-    requires plan_len { (length plan.now ≡ plan_size) × (length symbols.now ≡ (checks s).n * s.w) }
-    ensures { HoldIs (checks s) s.w plan.now symbols.now result }
+pub fn hold(block: &CheckRows, plan: &Plan, symbols: &[u8]) -> bool
+    requires { length symbols.now ≡ (checks block.now.shape).n * block.now.shape.w }
+    ensures { HoldIs (checks block.now.shape) block.now.shape.w plan.now symbols.now result }
 {
     let mut xs = [0u16; MAX_POSITIONS];
-    for j in 0..s.layout.m {
-        if plan[USED + j] == 0 {
-            let n = positions::of_row(s, table, j, &mut xs);
-            if !symbol_sums::cancels(s.w, &xs, n, symbols) {
+    for j in 0..block.shape.layout.m {
+        if !plan.used[j] {
+            let n = block.of_row(j, &mut xs);
+            if !symbol_sums::cancels(block.shape.w, &xs[..n], symbols) {
                 return false;
             }
         }
@@ -28,18 +25,17 @@ pub fn hold(s: Shape, table: &[u16; TABLE_SIZE], plan: &[u16], symbols: &[u8]) -
 }
 
 // Their sums, one after the other.
-pub fn sums(s: Shape, table: &[u16; TABLE_SIZE], plan: &[u16], symbols: &[u8], bytes: &mut [u8])
-    requires table { Table s table.now }
-    requires plan_len { (length plan.now ≡ plan_size) × (length symbols.now ≡ (checks s).n * s.w) }
-    requires bytes_len { length bytes.old ≡ (checks s).m * s.w }
-    ensures { Sides (checks s) s.w plan.now symbols.now bytes.new }
+pub fn sums(block: &CheckRows, plan: &Plan, symbols: &[u8], bytes: &mut [u8])
+    requires symbols_len { length symbols.now ≡ (checks block.now.shape).n * block.now.shape.w }
+    requires bytes_len { length bytes.old ≡ (checks block.now.shape).m * block.now.shape.w }
+    ensures { Sides (checks block.now.shape) block.now.shape.w plan.now symbols.now bytes.new }
 {
     let mut xs = [0u16; MAX_POSITIONS];
     let mut i = 0;
-    for j in 0..s.layout.m {
-        if plan[USED + j] == 0 {
-            let n = positions::of_row(s, table, j, &mut xs);
-            symbol_sums::put_sum(s.w, i, 0, &xs, n, symbols, bytes);
+    for j in 0..block.shape.layout.m {
+        if !plan.used[j] {
+            let n = block.of_row(j, &mut xs);
+            symbol_sums::put_sum(block.shape.w, i, None, &xs[..n], symbols, bytes);
             i += 1;
         }
     }

@@ -7,16 +7,17 @@ use native.Mathlib.Nat.{le_trans}
 use native.Mathlib.Omega.{arith}
 use lib.ListN.{length}
 use Rattle.algebra.proofs.Codeword.{slot}
-use Rattle.peeling.specs.Plan.{kind_of}
+use Rattle.peeling.specs.Plan.{Arrays, kind_of}
+use Rattle.pivot_equations.specs.Express.{all_rows}
 use Rattle.pivot_equations.specs.declared.rows.Rows.{Rows}
 use Rattle.decoder.specs.Pivots.{Readable}
 use Rattle.decoder.proofs.Determined.{determined_early, determined-step, determined-pivot, determined-solved}
 use Rattle.decoder.proofs.dependence.determined.Goals as goal
 
 -- the row of a kind ends within the words
-module _ {r : Rows} {l plan : List ℕ} {p : ℕ} (fit : (r.steps + r.rest) * (r.packed + 1) ≤ length l) (R : Readable r l plan p) where
-  ends : (k : ℕ) → k < r.steps + r.rest → k * (r.packed + 1) + (r.packed + 1) ≤ length l
-  ends k h = le_trans (slot k (r.steps + r.rest) (r.packed + 1) h) fit
+module _ {r : Rows} {l : List ℕ} {plan : Arrays} {p : ℕ} (fit : all_rows r * (r.packed + 1) ≤ length l) (R : Readable r l plan p) where
+  ends : (k : ℕ) → k < all_rows r → k * (r.packed + 1) + (r.packed + 1) ≤ length l
+  ends k h = le_trans (slot k (all_rows r) (r.packed + 1) h) fit
 
   step : r.early < kind_of plan p → kind_of plan p ≤ 1024 → (kind_of plan p - 1) * (r.packed + 1) + (r.packed + 1) ≤ length l
   step late h = ends (kind_of plan p - 1) (R.reads.step late h).1
@@ -24,26 +25,23 @@ module _ {r : Rows} {l plan : List ℕ} {p : ℕ} (fit : (r.steps + r.rest) * (r
   row : 4096 < kind_of plan p → (kind_of plan p - 4097) * (r.packed + 1) + (r.packed + 1) ≤ length l
   row h = ends (kind_of plan p - 4097) (R.reads.solved h).1.0
 
-pub overflow_cast-kind : goal.overflow_cast-kind
-overflow_cast-kind c = omega (arith, c.type_inv.plan c.args.p)
-
-pub returns-then-kind-r : goal.returns-then-kind-r
-returns-then-kind-r c = determined_early _ _ _ _ c.if-kind-r.true
+pub returns-then-kind-system : goal.returns-then-kind-system
+returns-then-kind-system c = determined_early _ _ _ _ c.if-kind-system.true
 
 pub overflow_mul-kind : goal.overflow_mul-kind
-overflow_mul-kind c = omega (arith, step c.requires.words_len c.requires.readable c.if-kind-r.false c.if-kind-le-LAST_STEP.true)
+overflow_mul-kind c = omega (arith, step c.requires.words_len c.requires.readable c.if-kind-system.false c.if-kind-le-LAST_STEP.true)
 
 pub no_bits-requires : goal.no_bits-requires
-no_bits-requires c = omega (arith, step c.requires.words_len c.requires.readable c.if-kind-r.false c.if-kind-le-LAST_STEP.true)
+no_bits-requires c = omega (arith, step c.requires.words_len c.requires.readable c.if-kind-system.false c.if-kind-le-LAST_STEP.true)
 
 pub returns-then-kind-le-LAST_STEP : goal.returns-then-kind-le-LAST_STEP
 returns-then-kind-le-LAST_STEP c =
-    determined-step c.args.words.now c.args.r.packed _ _ c.if-kind-r.false c.if-kind-le-LAST_STEP.true c.no_bits.result c.no_bits.ensures
+    determined-step c.args.words.now c.args.system.now.rows.packed _ _ c.if-kind-system.false c.if-kind-le-LAST_STEP.true c.no_bits.result c.no_bits.ensures
 
 pub returns-then-kind-le-LAST_PIVOT : goal.returns-then-kind-le-LAST_PIVOT
 returns-then-kind-le-LAST_PIVOT c =
-    let g : 1024 < kind_of c.args.plan.now c.args.p = c.if-kind-le-LAST_STEP.false in
-    determined-pivot _ _ _ _ c.if-kind-r.false g c.if-kind-le-LAST_PIVOT.true (c.requires.readable.reads.pivot g c.if-kind-le-LAST_PIVOT.true)
+    let g : 1024 < kind_of c.args.system.now.plan.now c.args.p = c.if-kind-le-LAST_STEP.false in
+    determined-pivot _ _ _ _ c.if-kind-system.false g c.if-kind-le-LAST_PIVOT.true (c.requires.readable.reads.pivot g c.if-kind-le-LAST_PIVOT.true)
 
 pub overflow_mul-h : goal.overflow_mul-h
 overflow_mul-h c = omega (arith, row c.requires.words_len c.requires.readable c.if-kind-le-LAST_PIVOT.false)
@@ -69,4 +67,4 @@ only-requires c =
 pub returns : goal.returns
 returns c =
     let h = c.if-kind-le-LAST_PIVOT.false in
-    determined-solved _ _ _ _ c.if-kind-r.false h _ refl (c.requires.readable.here h) c.only.result c.only.ensures
+    determined-solved _ _ _ _ c.if-kind-system.false h _ refl (c.requires.readable.here h) c.only.result c.only.ensures

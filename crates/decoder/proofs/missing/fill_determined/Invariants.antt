@@ -5,4 +5,4 @@ use Rattle.decoder.proofs.Filling.{FilledTo}
 use Rattle.decoder.proofs.missing.fill_determined.Given as goal
 
 abbrev pub invariant-loop-i : goal.invariant-loop-i
-invariant-loop-i l = Upto l.initial.symbols l.initial.states l.symbols l.states l.i × FilledTo l.w l.r.early l.r.packed l.words l.plan l.initial.symbols l.initial.states l.symbols l.states l.i
+invariant-loop-i l = Upto l.initial.symbols l.initial.states l.symbols l.states l.i × FilledTo l.system.block.now.shape.w l.system.rows.early l.system.rows.packed l.words l.system.plan.now l.initial.symbols l.initial.states l.symbols l.states l.i

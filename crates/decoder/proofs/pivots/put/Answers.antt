@@ -23,9 +23,6 @@ loop-i-preserved c =
           _ _ (p.by_index l.i c.loop-i-test.true) c.put_one.ensures,
     )
 
-pub shape_of-plan : goal.shape_of-plan
-shape_of-plan c = c.loop-i.invariant.1.plan_size_lem
-
 pub shape_of-symbols : goal.shape_of-symbols
 shape_of-symbols c = c.loop-i.invariant.1.symbols-size
 

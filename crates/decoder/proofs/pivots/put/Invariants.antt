@@ -6,4 +6,4 @@ use Rattle.decoder.specs.Pivots.{Put}
 use Rattle.decoder.proofs.pivots.put.Given as goal
 
 abbrev pub invariant-loop-i : goal.invariant-loop-i
-invariant-loop-i l = (l.i ≤ l.fn.r.rest) × Put (checks l.s) l.s.w l.r.packed l.r.steps l.i l.r.pivots l.words l.bytes l.initial.plan l.initial.symbols l.plan l.symbols
+invariant-loop-i l = (l.i ≤ l.fn.r.rest) × Put (checks l.block.shape) l.block.shape.w l.r.packed l.r.steps l.i l.r.pivots l.words l.bytes l.initial.plan l.initial.symbols l.plan l.symbols

@@ -7,27 +7,24 @@ use native.Mathlib.Omega.{arith}
 use lib.ListN.{set}
 use Rattle.buffers.specs.Parts.{put}
 use Rattle.elimination.specs.Reduced.{pivot_word}
-use Rattle.peeling.specs.Plan.{pivot_of}
+use Rattle.peeling.specs.Plan.{Arrays, pivot_of}
 use Rattle.pivot_equations.specs.declared.rows.Rows.{Rows}
 use Rattle.decoder.specs.Pivots.{PutRoom}
 use Rattle.decoder.proofs.pivots.put_one.Goals as goal
 
 -- the row's pivot is one of the block, and so is its position
-room : {w bytes symbols i : ℕ} {r : Rows} {l plan : List ℕ} → PutRoom w r i l bytes plan symbols → 0 < pivot_word l r.packed (r.steps + i)
+room : {w bytes symbols i : ℕ} {r : Rows} {l : List ℕ} {plan : Arrays} → PutRoom w r i l bytes plan symbols → 0 < pivot_word l r.packed (r.steps + i)
     → let u = pivot_word l r.packed (r.steps + i) - 1 in (u < 3072) × ((pivot_of plan u < 3072) × (pivot_of plan u * w + w ≤ symbols))
 room {i = i} {r} {l} R h = R.pivot (pivot_word l r.packed (r.steps + i) - 1) (omega arith)
 
 pub returns-then-v-eq0 : goal.returns-then-v-eq0
 returns-then-v-eq0 c = record { none = λ z. (refl, refl); one = λ u e. absurd (omega (arith, c.if-v-eq0.true)) }
 
-pub overflow_add-p : goal.overflow_add-p
-overflow_add-p c = omega (arith, room c.requires (omega arith))
+pub bounds-plan-u : goal.bounds-plan-u
+bounds-plan-u c = omega (arith, room c.requires (omega arith), c.args.plan.now.kinds_len)
 
 pub offset_bounds-plan-u : goal.offset_bounds-plan-u
 offset_bounds-plan-u c = omega (arith, room c.requires (omega arith))
-
-pub bounds-plan-u : goal.bounds-plan-u
-bounds-plan-u c = omega (arith, room c.requires (omega arith), c.requires.size)
 
 pub overflow_mul-p : goal.overflow_mul-p
 overflow_mul-p c = omega (arith, room c.requires (omega arith))
@@ -39,7 +36,7 @@ pub offset_bounds-plan-p : goal.offset_bounds-plan-p
 offset_bounds-plan-p c = omega (arith, room c.requires (omega arith))
 
 pub bounds-plan-p : goal.bounds-plan-p
-bounds-plan-p c = omega (arith, room c.requires (omega arith), c.requires.size)
+bounds-plan-p c = omega (arith, room c.requires (omega arith), c.args.plan.now.kinds_len)
 
 pub returns : goal.returns
 returns c =
@@ -48,7 +45,8 @@ returns c =
       none = λ z. absurd (omega arith);
       one = λ u e.
           let same : pivot_word a.words.now a.r.packed (a.r.steps + a.i) - 1 ≡ u = omega arith in (
-            ap (λ (k : ℕ). set a.plan.now (pivot_of a.plan.now k) (4097 + (a.r.steps + a.i))) same,
+            record { pivots = refl; rows = refl; positions = refl; used = refl },
+            ap (λ (k : ℕ). set a.plan.now.kinds (pivot_of a.plan.now k) (4097 + (a.r.steps + a.i))) same,
             c.put_from.ensures ∙ ap (λ (k : ℕ). put a.symbols.now (pivot_of a.plan.now k * a.w) a.bytes.now (a.i * a.w) a.w) same,
           );
     }

@@ -12,11 +12,11 @@ use Rattle.decoder.proofs.Assembly.{Ready, ready, room_at, rows-room, by-rows_no
 use Rattle.decoder.proofs.solve.by_pivots.Goals as goal
 use Rattle.decoder.proofs.solve.by_pivots.Goals.{After-new-r, After-reduce}
 
-at-rows : (c : After-new-r) → Ready c.args.s c.args.symbols.now c.args.states.now c.args.plan.now c.args.symbols.now c.new-r.result
-at-rows c = ready c.requires.table c.requires.peeled c.new-r.result c.new-r.ensures.numbers c.new-r.ensures.rest c.new-r.ensures.packed
+at-rows : (c : After-new-r) → Ready c.args.block.now.shape c.args.symbols.now c.args.states.now c.args.plan.now c.args.symbols.now c.new-r.result
+at-rows c = ready c.args.block.now.laid c.requires.peeled c.new-r.result c.new-r.ensures.numbers c.new-r.ensures.rest c.new-r.ensures.packed
 
-solvable : (c : After-reduce) → Ready c.args.s c.args.symbols.now c.args.states.now c.args.plan.now c.args.symbols.now c.new-r.result
-    → Solvable (checks c.args.s) c.args.s.w c.args.states.now c.args.plan.now c.args.symbols.now c.new-r.result c.reduce.new.words c.reduce.new.bytes
+solvable : (c : After-reduce) → Ready c.args.block.now.shape c.args.symbols.now c.args.states.now c.args.plan.now c.args.symbols.now c.new-r.result
+    → Solvable (checks c.args.block.now.shape) c.args.block.now.shape.w c.args.states.now c.args.plan.now c.args.symbols.now c.new-r.result c.reduce.new.words c.reduce.new.bytes
 solvable c R =
     record {
       peeled = R.peeled;
@@ -29,15 +29,18 @@ solvable c R =
 pub new-r-requires : goal.new-r-requires
 new-r-requires c =
     let m = c.requires.peeled.made in
-    let l = layout-rows c.requires.table in
+    let l = layout-rows c.args.block.now.laid in
     (omega (arith, (few-steps m).0), omega (arith, m.rows), omega (arith, m.pivots_few, m.positions))
+
+pub invariant_of-system : goal.invariant_of-system
+invariant_of-system c = record { all = c.new-r.ensures.rest ∙ layout-rows c.args.block.now.laid }
 
 pub reduce-requires : goal.reduce-requires
 reduce-requires c =
     let p = c.requires in
     let R = at-rows (goal.at.reduce-requires c).After-new-r in
     let L = R.peeled in
-    record { table = p.table; planned = (record { states = _; made = L.made; closed = L.closed }, L.unsolved); room = (room_at p.words_len.0 R.room, R.all); symbols_len = (L.values.size, p.words_len.1) }
+    record { planned = (record { states = _; made = L.made; closed = L.closed }, L.unsolved); room = room_at p.words_len.0 R.room; symbols_len = (L.values.size, p.words_len.1) }
 
 pub consistent_behind-consistent-requires : goal.consistent_behind-consistent-requires
 consistent_behind-consistent-requires c =
@@ -50,14 +53,13 @@ fill-requires c =
     let r = c.new-r.result in
     let G = solvable (goal.at.fill-requires c).After-reduce (at-rows (goal.at.fill-requires c).After-new-r) in
     record {
-      table = c.requires.table;
       solvable = G;
-      consistent = subst (ConsistentIs (behind r.packed r.steps c.reduce.new.words) c.reduce.new.bytes r.rest r.packed c.args.s.w) c.if-consistent.true c.consistent_behind-consistent.ensures;
+      consistent = subst (ConsistentIs (behind r.packed r.steps c.reduce.new.words) c.reduce.new.bytes r.rest r.packed c.args.block.now.shape.w) c.if-consistent.true c.consistent_behind-consistent.ensures;
       states_len = c.requires.w_nonzero.1;
     }
 
 pub clear_missing-requires : goal.clear_missing-requires
-clear_missing-requires c = c.requires.peeled.values.size ∙ ap (λ (n : ℕ). n * c.args.s.w) (sym c.requires.w_nonzero.1)
+clear_missing-requires c = c.requires.peeled.values.size ∙ ap (λ (n : ℕ). n * c.args.block.now.shape.w) (sym c.requires.w_nonzero.1)
 
 pub returns : goal.returns
 returns c =

@@ -7,4 +7,4 @@ use Rattle.pivot_equations.proofs.UnusedSums.{Passed}
 use Rattle.pivot_equations.proofs.remaining.hold.Given as goal
 
 abbrev pub invariant-loop-j : goal.invariant-loop-j
-invariant-loop-j l = (length l.xs ≡ 64) × Passed (checks l.s) l.s.w l.plan l.symbols l.j
+invariant-loop-j l = (length l.xs ≡ 64) × Passed (checks l.block.shape) l.block.shape.w l.plan l.symbols l.j

@@ -7,4 +7,4 @@ use Rattle.pivot_equations.specs.Unused.{SidesTo}
 use Rattle.pivot_equations.proofs.remaining.sums.Given as goal
 
 abbrev pub invariant-loop-j : goal.invariant-loop-j
-invariant-loop-j l = (length l.xs ≡ 64) × SidesTo (checks l.s) l.s.w l.plan l.symbols l.bytes l.j l.i
+invariant-loop-j l = (length l.xs ≡ 64) × SidesTo (checks l.block.shape) l.block.shape.w l.plan l.symbols l.bytes l.j l.i
