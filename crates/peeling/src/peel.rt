@@ -1,11 +1,11 @@
 // Peeling: a check row with just one open symbol settles it, as the sum of the row's other symbols; where no row is ready, the lowest open position is
 // put off as a pivot, with zero for its symbol. The plan (specs/Plan.antt) says of each position what became of it.
-ghost use Rattle.std.specs.Prelude.{◌≡◌, ℕ, ◌+◌, ◌*◌, ◌<◌, ◌≤◌, ◌≢◌, IfSome, None, length, replicate, if◌then◌else◌, nat_eq, slice_index, slice_set};
+ghost use Rattle.std.specs.Prelude.{◌≡◌, ℕ, ◌+◌, ◌*◌, ◌<◌, ◌≤◌, ◌≢◌, IfSome, None, length, if◌then◌else◌, nat_eq, slice_index};
 ghost use Rattle.algebra.specs.Codeword.{byte_at};
-ghost use Rattle.symbol_sums.specs.Gather.{gathered, Inside, Replaced, max_positions};
+ghost use Rattle.symbol_sums.specs.Gather.{gathered, Inside, Replaced};
 ghost use Rattle.ccsds.specs.Tables.{code_of};
-ghost use Rattle.ccsds.specs.inner.Layout.{LayoutOf, max_n, max_m};
-ghost use Rattle.encoder.specs.inner.Positions.{checks, Table};
+ghost use Rattle.ccsds.specs.inner.Layout.{max_n, max_m};
+ghost use Rattle.encoder.specs.inner.Positions.{checks};
 ghost use Rattle.peeling.specs.Values.{Peeled};
 ghost use Rattle.peeling.specs.Peel.{NothingUsed, Opened, AllKnownIs, SingleIs, NextOpen, StepMade, PivotMade, Reached, Continued};
 

@@ -17,16 +17,9 @@ few s = row-few _ _ s.requires.shaped.0.given _ s.requires.row_in_bounds
 inside : (c : In-loop-i) → c.loop-i.i < length (get_or (code_of c.args.s.number).rows c.args.row [])
 inside c = omega (arith, c.row_degree-i-end.ensures)
 
-pub row_degree-i-end-requires : goal.row_degree-i-end-requires
-row_degree-i-end-requires c = record { layout_of = c.requires.shaped.0.given; row_in_bounds = c.requires.row_in_bounds }
-
 pub loop-i-init : goal.loop-i-init
 unfolding row_entered
 loop-i-init c = refl
-
-pub address-y-requires : goal.address-y-requires
-address-y-requires c =
-    record { layout_of = (c.requires.shaped.0.given, c.requires.shaped.1); row_in_bounds = c.requires.row_in_bounds; i_in_bounds = inside c }
 
 pub enter-requires : goal.enter-requires
 enter-requires c =

@@ -20,12 +20,6 @@ rows_to-requires c =
 pub enter_rows-requires : goal.enter_rows-requires
 enter_rows-requires c = record { shaped = (block (goal.at.enter_rows-requires c).After-rows_to, c.requires.blank) }
 
-pub loop-r-init : goal.loop-r-init
-loop-r-init c = record { laid = c.enter_rows.ensures; whole = λ x h. absurd (omega arith) }
-
-pub count_whole-requires : goal.count_whole-requires
-count_whole-requires c = (c.loop-r.invariant, omega (arith, c.layout_of-layout.ensures.a))
-
 pub returns : goal.returns
 returns c =
     let t = c.loop-r.invariant in
