@@ -11,6 +11,7 @@ use Rattle.ccsds.specs.inner.Layout.{LayoutOf}
 use Rattle.ccsds.proofs.Valid.{valid_of, few_of}
 use Rattle.encoder.specs.inner.Positions.{checks, Table, RowOf}
 use Rattle.encoder.specs.declared.positions.Shape.{Shape}
+use Rattle.encoder.specs.declared.positions.ClassTable.{ClassTable}
 
 -- its check rows are its parameter m
 pub row_count : (s : Shape) → (checks s).m ≡ (code_of s.number).m
@@ -26,7 +27,7 @@ pub symbols_of : (s : Shape) → LayoutOf (code_of s.number) s.layout → s.layo
 unfolding staircase
 symbols_of s g = omega (arith, g.k, g.m)
 
-module _ {s : Shape} {table : List ℕ} (t : Table s table) where
+module _ {s : Shape} {table : ClassTable} (t : Table s table) where
   pub few-rows : (checks s).m ≤ 1024
   few-rows = omega (arith, row_count s, (valid_of s.number t.shaped.known).few-rows)
 

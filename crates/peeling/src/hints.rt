@@ -6,8 +6,8 @@ ghost use Rattle.ccsds.specs.inner.Layout.{max_n, max_m, max_rows, max_degree};
 use crate::states::KNOWN;
 use ccsds::code::Code;
 use ccsds::tables;
-use ccsds::tables::{Layout, MAX_DEGREE};
-use encoder::positions::{ADDRESSES, CheckRows, TABLE_SIZE};
+use ccsds::tables::{Layout, MAX_ADDRESSES, MAX_DEGREE};
+use encoder::positions::CheckRows;
 
 // The words of the rows that are ready, 64 to a word.
 const READY: usize = Code::MAX_M / 64;
@@ -29,13 +29,19 @@ fn shifted(y: u16, o: u16, m: u16) -> u16 {
 
 // The check rows of an information position, which stands o check rows further than the first of its table row. All places of the row are
 // made, whatever lies behind its addresses: this is compiled to a few vector instructions.
-fn shifted_row(m: u16, table: &[u16; TABLE_SIZE], row: usize, o: u16, js: &mut [u16; MAX_DEGREE])
+fn shifted_row(
+    m: u16,
+    addresses: &[u16; MAX_ADDRESSES],
+    row: usize,
+    o: u16,
+    js: &mut [u16; MAX_DEGREE],
+)
     requires { row < max_rows }
     ensures { length js.new ≡ max_degree }
 {
-    let at = ADDRESSES + row * MAX_DEGREE;
+    let at = row * MAX_DEGREE;
     for (i, j) in js.iter_mut().enumerate() {
-        *j = shifted(table[at + i], o, m);
+        *j = shifted(addresses[at + i], o, m);
     }
 }
 
@@ -60,7 +66,13 @@ fn column<'a>(rows: &CheckRows, x: usize, js: &'a mut [u16; MAX_DEGREE]) -> &'a 
         return if t + 1 == l.m { &js[..1] } else { &js[..2] };
     }
     let row = x / l.q;
-    shifted_row(l.m as u16, rows.table, row, (x % l.q * l.a) as u16, js);
+    shifted_row(
+        l.m as u16,
+        &rows.table.addresses,
+        row,
+        (x % l.q * l.a) as u16,
+        js,
+    );
     &js[..degree(l, row)]
 }
 

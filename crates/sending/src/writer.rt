@@ -5,38 +5,35 @@ ghost use Rattle.ccsds.specs.Refusals.{checked_as, first_of, outcome, afterwards
 ghost use Rattle.ccsds.specs.Units.{header_of, value_bytes, extension_of, unit_of};
 ghost use Rattle.sending.specs.Writer.{unit_conditions, write_refusal, written_as};
 ghost use Rattle.wire.specs.inner.Appended.{Appended};
-ghost use Rattle.ccsds.specs.inner.Compact.{Compact};
-ghost use Rattle.ccsds.specs.inner.Layout.{LayoutOf};
+ghost use Rattle.ccsds.specs.Codes.{n_of};
 
 use ccsds::refusal::Refusal;
-use ccsds::tables::Layout;
-use ccsds::{checks, tables, unit_size};
+use ccsds::unit_size::Coding;
+use ccsds::{checks, tables};
 use wire::{copy, put};
 
 // 4, 9, 14 or 10: for a record that is not refused.
 fn check_unit(
     number: usize,
-    l: Layout,
-    w: usize,
+    c: Coding,
     fill: usize,
     lwc: usize,
     symbol_len: usize,
     out_len: usize,
 ) -> Result<(), Refusal>
-    requires { LayoutOf (code_of number) l × Compact w l.k (l.k + l.m) }
-    ensures { checked_as result ≡ first_of (unit_conditions number w fill lwc symbol_len out_len) }
+    requires { (c.k ≡ (code_of number).k) × (c.n ≡ n_of (code_of number)) }
+    ensures { checked_as result ≡ first_of (unit_conditions number c.w fill lwc symbol_len out_len) }
 {
-    let n = l.k + l.m;
-    if out_len != unit_size::unit_length(w, l.k, n) {
+    if out_len != c.unit_length() {
         return Err(Refusal::Length);
     }
-    if checks::wrong_position(n, lwc) {
+    if checks::wrong_position(c.n, lwc) {
         return Err(Refusal::Position);
     }
-    if checks::idle_lwc(l.k, fill, lwc) {
+    if checks::idle_lwc(c.k, fill, lwc) {
         return Err(Refusal::Idle);
     }
-    if symbol_len != w {
+    if symbol_len != c.w {
         return Err(Refusal::Symbol);
     }
     Ok(())
@@ -52,25 +49,23 @@ fn put_header(out: &mut [u8], protocol: usize, lsc: usize, lwc: usize) -> usize
     put::pair(out, c, lsc)
 }
 
-fn put_value(out: &mut [u8], at: usize, w: usize, k: usize, n: usize) -> usize
-    requires compact { Compact w k n }
-    requires n_in_bounds { at + length (value_bytes w k n) ≤ length out.old }
-    ensures { Appended out.old out.new at result (value_bytes w k n) }
+fn put_value(out: &mut [u8], at: usize, c: Coding) -> usize
+    requires { at + length (value_bytes c.w c.k c.n) ≤ length out.old }
+    ensures { Appended out.old out.new at result (value_bytes c.w c.k c.n) }
 {
-    let a = put::sdnv(out, at, w);
-    let b = put::sdnv_2(out, a, k);
-    let c = put::sdnv_2(out, b, n);
-    put::byte(out, c, 0)
+    let a = put::sdnv(out, at, c.w);
+    let b = put::sdnv_2(out, a, c.k);
+    let d = put::sdnv_2(out, b, c.n);
+    put::byte(out, d, 0)
 }
 
-fn put_extension(out: &mut [u8], at: usize, w: usize, k: usize, n: usize) -> usize
-    requires compact { Compact w k n }
-    requires n_in_bounds { at + length (extension_of w k n) ≤ length out.old }
-    ensures { Appended out.old out.new at result (extension_of w k n) }
+fn put_extension(out: &mut [u8], at: usize, c: Coding) -> usize
+    requires { at + length (extension_of c.w c.k c.n) ≤ length out.old }
+    ensures { Appended out.old out.new at result (extension_of c.w c.k c.n) }
 {
     let a = put::byte(out, at, 1);
-    let b = put::sdnv(out, a, unit_size::value_bytes(w, k, n));
-    put_value(out, b, w, k, n)
+    let b = put::sdnv(out, a, c.value_bytes());
+    put_value(out, b, c)
 }
 
 // Writes the unit of one symbol into an output of exactly its length; or a refusal, which changes nothing.
@@ -89,9 +84,14 @@ pub fn write(
 {
     let l = tables::layout_of(code);
     checks::check_record(code, l, w, protocol, lsc, fill)?;
-    check_unit(code, l, w, fill, lwc, symbol.len(), out.len())?;
+    let c = Coding {
+        w,
+        k: l.k,
+        n: l.k + l.m,
+    };
+    check_unit(code, c, fill, lwc, symbol.len(), out.len())?;
     let a = put_header(out, protocol, lsc, lwc);
-    let b = put_extension(out, a, w, l.k, l.k + l.m);
+    let b = put_extension(out, a, c);
     copy::symbol(out, b, symbol);
     Ok(())
 }

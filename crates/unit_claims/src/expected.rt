@@ -8,6 +8,7 @@ ghost use Rattle.ccsds.specs.inner.Compact.{Compact};
 ghost use Rattle.unit_claims.specs.inner.Expected.{Starts, Agrees};
 
 use ccsds::tables::Layout;
+use ccsds::unit_size::Coding;
 use unit_reader::{Parameters, UnitParts};
 use wire::big_endian;
 
@@ -37,20 +38,19 @@ fn joined_at(s: &[u8], at: usize) -> usize
 }
 
 // Where the symbol starts after the extension of these parameters, if they are there. Its bytes are compared four at a time.
-fn symbol_after(s: &[u8], w: usize, k: usize, n: usize) -> Option<usize>
-    requires compact { Compact w k n }
-    requires in_bounds { 15 ≤ length s.now }
-    ensures { Starts s.now (extension_of w k n) result }
+fn symbol_after(s: &[u8], c: Coding) -> Option<usize>
+    requires { 15 ≤ length s.now }
+    ensures { Starts s.now (extension_of c.w c.k c.n) result }
 {
     let first = joined_at(s, 6);
     let second = joined_at(s, 10);
-    if w < 128 {
-        let stands = first == joined(1, 6, w, 128 + k / 128)
-            && second == joined(k % 128, 128 + n / 128, n % 128, 0);
+    if c.w < 128 {
+        let stands = first == joined(1, 6, c.w, 128 + c.k / 128)
+            && second == joined(c.k % 128, 128 + c.n / 128, c.n % 128, 0);
         return stands.then_some(14);
     }
-    let stands = first == joined(1, 7, 128 + w / 128, w % 128)
-        && second == joined(128 + k / 128, k % 128, 128 + n / 128, n % 128)
+    let stands = first == joined(1, 7, 128 + c.w / 128, c.w % 128)
+        && second == joined(128 + c.k / 128, c.k % 128, 128 + c.n / 128, c.n % 128)
         && s[14] == 0;
     stands.then_some(15)
 }
@@ -65,7 +65,7 @@ pub fn read(l: Layout, w: usize, protocol: usize, lsc: usize, s: &[u8]) -> Optio
     }
     let k = l.k;
     let n = k + l.m;
-    let symbol = symbol_after(s, w, k, n)?;
+    let symbol = symbol_after(s, Coding { w, k, n })?;
     Some(UnitParts {
         protocol,
         count: 1,

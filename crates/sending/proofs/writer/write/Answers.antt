@@ -13,7 +13,7 @@ use Rattle.ccsds.proofs.Valid.{few_of}
 use Rattle.ccsds.proofs.RefusalOrder.{numbered, in_order, part_refuses, part-passed}
 use Rattle.ccsds.proofs.Refusals.{code-known, width_right, record_none, refused-by, kept_by, answered-by, changed_by}
 use Rattle.wire.proofs.AppendedLaws.{then_appended, appended-whole}
-use Rattle.ccsds.proofs.UnitLaws.{header-length, compact_of, extension_of_lem, unit_length_lem}
+use Rattle.ccsds.proofs.UnitLaws.{header-length, compact_of, n_of_lem, extension_of_lem, unit_length_lem}
 use Rattle.sending.proofs.Writable.{Writable, writable}
 use Rattle.sending.proofs.writer.write.Goals as goal
 use Rattle.sending.proofs.writer.write.Goals.{In_err-check_record, In_ok-check_unit}
@@ -49,11 +49,13 @@ pub returns-in_err-check_record-clause-output : goal.returns-in_err-check_record
 returns-in_err-check_record-clause-output c =
     kept_by _ _ (refused_first (goal.at.returns-in_err-check_record-clause-output c).In_err-check_record) (numbered _) _ _
 
-pub check_unit-requires : goal.check_unit-requires
-check_unit-requires c =
-    let g = c.layout_of-l.ensures in
+pub invariant_of-c : goal.invariant_of-c
+invariant_of-c c =
     let n = record_none _ _ _ _ _ (sym (in_order _ refl) ∙ sym c.in_ok-check_record.ensures) in
-    (g, compact_of _ _ g (code-known _ n.0) (width_right _ n.1).1)
+    record { compact = compact_of _ _ c.layout_of-l.ensures (code-known _ n.0) (width_right _ n.1).1 }
+
+pub check_unit-requires : goal.check_unit-requires
+check_unit-requires c = (c.layout_of-l.ensures.k, n_of_lem c.layout_of-l.ensures)
 
 pub returns-in_err-check_unit-clause-answer : goal.returns-in_err-check_unit-clause-answer
 returns-in_err-check_unit-clause-answer c =
@@ -75,7 +77,7 @@ put_extension-b-requires c =
     let a = c.args in
     let g = c.layout_of-l.ensures in
     let r = ready (goal.at.put_extension-b-requires c).In_ok-check_unit in
-    record { compact = compact_of _ _ g r.known r.width.1; n_in_bounds = omega (arith, room _ _ _ _ _ _ _ r, ap length (extension_of_lem g a.w), c.put_header-a.ensures, header-length a.protocol a.lsc a.lwc) }
+    omega (arith, room _ _ _ _ _ _ _ r, ap length (extension_of_lem g a.w), c.put_header-a.ensures, header-length a.protocol a.lsc a.lwc)
 
 pub symbol-requires : goal.symbol-requires
 symbol-requires c =
