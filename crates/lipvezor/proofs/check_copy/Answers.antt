@@ -18,36 +18,36 @@ use Rattle.lipvezor.proofs.check_copy.Goals.{After-idle_lwc, After-wrong_positio
 
 -- the output's length, the position and whether it is idle decide
 passed : (c : In_ok-check_encoder) → let a = c.args in
-    copy_refusal a.code a.w a.fill a.info_length a.parity_length a.lwc a.out_length
-    ≡ chain ((refusal.length, wrong_length a.out_length a.w) ∷ (refusal.position, wrong_position (n_of (code_of a.code)) a.lwc) ∷ (refusal.idle, idle_lwc (code_of a.code).k a.fill a.lwc) ∷ [])
+    copy_refusal a.b.code a.b.w a.b.fill a.info_len a.parity_len a.lwc a.out_len
+    ≡ chain ((refusal.length, wrong_length a.out_len a.b.w) ∷ (refusal.position, wrong_position (n_of (code_of a.b.code)) a.lwc) ∷ (refusal.idle, idle_lwc (code_of a.b.code).k a.b.fill a.lwc) ∷ [])
 unfolding copy_refusal
 passed c =
     let a = c.args in
-    part-passed (encoder_conditions a.code a.w a.fill a.info_length a.parity_length) _ refl refl _ c.in_ok-check_encoder.ensures refl
+    part-passed (encoder_conditions a.b.code a.b.w a.b.fill a.info_len a.parity_len) _ refl refl _ c.in_ok-check_encoder.ensures refl
 
 -- the position and whether it is idle decide
 sized : (c : After-wrong_position) → let a = c.args in
-    copy_refusal a.code a.w a.fill a.info_length a.parity_length a.lwc a.out_length
-    ≡ chain ((refusal.position, c.wrong_position.result) ∷ (refusal.idle, idle_lwc (code_of a.code).k a.fill a.lwc) ∷ [])
+    copy_refusal a.b.code a.b.w a.b.fill a.info_len a.parity_len a.lwc a.out_len
+    ≡ chain ((refusal.position, c.wrong_position.result) ∷ (refusal.idle, idle_lwc (code_of a.b.code).k a.b.fill a.lwc) ∷ [])
 sized c =
-    passed c.before.before ∙ first_on _ _ _ (length-same _ _ c.if-out_length-w.false)
-    ∙ (let a = c.args in ap (λ (b : Bool). chain ((refusal.position, b) ∷ (refusal.idle, idle_lwc (code_of a.code).k a.fill a.lwc) ∷ [])) (sym c.wrong_position.ensures))
+    passed c.before.before ∙ first_on _ _ _ (length-same _ _ c.if-out_len-b.false)
+    ∙ (let a = c.args in ap (λ (b : Bool). chain ((refusal.position, b) ∷ (refusal.idle, idle_lwc (code_of a.b.code).k a.b.fill a.lwc) ∷ [])) (sym c.wrong_position.ensures))
 
 -- whether it is idle decides
 placed : (c : After-idle_lwc) → let a = c.args in
-    copy_refusal a.code a.w a.fill a.info_length a.parity_length a.lwc a.out_length ≡ chain ((refusal.idle, c.idle_lwc.result) ∷ [])
+    copy_refusal a.b.code a.b.w a.b.fill a.info_len a.parity_len a.lwc a.out_len ≡ chain ((refusal.idle, c.idle_lwc.result) ∷ [])
 placed c =
     sized c.before.before.before ∙ first_on _ _ _ c.if-wrong_position.false
-    ∙ ap (λ (b : Bool). chain ((refusal.idle, b) ∷ [])) (sym (c.idle_lwc.ensures ∙ (let a = c.args in ap (λ (k : ℕ). idle_lwc k a.fill a.lwc) c.k.ensures)))
+    ∙ ap (λ (b : Bool). chain ((refusal.idle, b) ∷ [])) (sym (c.idle_lwc.ensures ∙ (let a = c.args in ap (λ (k : ℕ). idle_lwc k a.b.fill a.lwc) c.k.ensures)))
 
 pub returns-in_err-check_encoder : goal.returns-in_err-check_encoder
 unfolding copy_refusal
 returns-in_err-check_encoder c =
     let a = c.args in
-    passed_on checked_as c.from_residual.ensures.1 (part_refuses (encoder_conditions a.code a.w a.fill a.info_length a.parity_length) _ refl refl _ c.in_err-check_encoder.ensures (numbered _))
+    passed_on checked_as c.from_residual.ensures.1 (part_refuses (encoder_conditions a.b.code a.b.w a.b.fill a.info_len a.parity_len) _ refl refl _ c.in_err-check_encoder.ensures (numbered _))
 
-pub returns-then-out_length-w : goal.returns-then-out_length-w
-returns-then-out_length-w c = sym (passed (goal.at.returns-then-out_length-w c).In_ok-check_encoder ∙ first_is _ _ _ (length-wrong _ _ c.if-out_length-w.true))
+pub returns-then-out_len-b : goal.returns-then-out_len-b
+returns-then-out_len-b c = sym (passed (goal.at.returns-then-out_len-b c).In_ok-check_encoder ∙ first_is _ _ _ (length-wrong _ _ c.if-out_len-b.true))
 
 pub returns-then-wrong_position : goal.returns-then-wrong_position
 returns-then-wrong_position c = sym (sized (goal.at.returns-then-wrong_position c).After-wrong_position ∙ first_is _ _ _ c.if-wrong_position.true)
