@@ -17,8 +17,8 @@ use Rattle.closing.specs.declared.Report as coded-report
 
 -- 4, length, of the work buffers: m × (n / 64 + 1) words and m × W bytes
 unfoldable pub wrong_work : Block → ℕ → ℕ → Bool
-wrong_work b wordsLength bytesLength =
-    wrong_length wordsLength ((checks b).m * ((checks b).n / 64 + 1)) || wrong_length bytesLength ((checks b).m * b.w)
+wrong_work b words_len bytes_len =
+    wrong_length words_len ((checks b).m * ((checks b).n / 64 + 1)) || wrong_length bytes_len ((checks b).m * b.w)
 
 -- 11, mark: one above 2 anywhere
 unfoldable pub wrong_marks : List ℕ → Bool

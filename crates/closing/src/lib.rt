@@ -147,7 +147,7 @@ impl Filled {
         let b = self.block;
         let from = b.fill * b.w;
         let to = self.k * b.w;
-        states::set_part(symbols, from, to, 0);
+        symbols[from..to].fill(0);
         self.put_states(marks, states);
         let ok = decoder::solve::solve(
             b.code, b.w, b.fill, symbols, states, work_words, work_bytes,

@@ -3,7 +3,6 @@ ghost use Rattle.std.specs.Prelude.{◌≡◌, cond, eqb, ◌≤◌, length};
 ghost use Rattle.ccsds.specs.Tables.{code_of};
 ghost use Rattle.block.specs.Status.{status_by};
 ghost use Rattle.closing.specs.Close.{is_known, mark_after};
-ghost use Rattle.closing.specs.inner.Idle.{PartSet};
 ghost use Rattle.closing.specs.inner.States.{StatesAre, MarksAre};
 
 use block::status::{FILLED, HEARD, MISSING, Status};
@@ -18,14 +17,6 @@ fn state(mark: u8) -> u8
         Status::Heard => KNOWN,
         Status::Missing => LEFT,
     }
-}
-
-// Sets each byte of a buffer from index `from` to before `to`.
-pub fn set_part(buf: &mut [u8], from: usize, to: usize, value: u8)
-    requires { (from ≤ to) × (to ≤ length buf.old) }
-    ensures { PartSet from to value buf.old buf.new }
-{
-    buf[from..to].fill(value);
 }
 
 // The mark after a verdict, from the mark before it and from what the decoder told.
@@ -57,7 +48,7 @@ impl Filled {
         for (i, mark) in marks.iter().enumerate() {
             states[i] = state(*mark);
         }
-        set_part(states, self.block.fill, self.k, KNOWN);
+        states[self.block.fill..self.k].fill(KNOWN);
     }
 
     // The marks after a verdict.
@@ -69,6 +60,6 @@ impl Filled {
         for (i, mark) in marks.iter_mut().enumerate() {
             *mark = after(*mark, states[i]);
         }
-        set_part(marks, self.block.fill, self.k, MISSING);
+        marks[self.block.fill..self.k].fill(MISSING);
     }
 }

@@ -211,25 +211,23 @@ pub extern "C" fn lipvezor_encode(numbers: &[usize; 5], codeword: &mut Codeword)
 
 // Show's refusals, and an output that is not W bytes.
 fn check_copy(
-    code: usize,
-    w: usize,
-    fill: usize,
-    info_length: usize,
-    parity_length: usize,
+    b: Block,
+    info_len: usize,
+    parity_len: usize,
     lwc: usize,
-    out_length: usize,
+    out_len: usize,
 ) -> Result<(), Refusal>
-    ensures { checked_as result ≡ copy_refusal code w fill info_length parity_length lwc out_length }
+    ensures { checked_as result ≡ copy_refusal b.code b.w b.fill info_len parity_len lwc out_len }
 {
-    ccsds::checks::check_encoder(code, w, fill, info_length, parity_length)?;
-    if out_length != w {
+    ccsds::checks::check_encoder(b.code, b.w, b.fill, info_len, parity_len)?;
+    if out_len != b.w {
         return Err(Refusal::Length);
     }
-    let c = Code { number: code };
+    let c = Code { number: b.code };
     if c.wrong_position(lwc) {
         return Err(Refusal::Position);
     }
-    if ccsds::checks::idle_lwc(c.k(), fill, lwc) {
+    if ccsds::checks::idle_lwc(c.k(), b.fill, lwc) {
         return Err(Refusal::Idle);
     }
     Ok(())
@@ -246,15 +244,7 @@ fn copy_shown<'a, 'b>(
     ensures answer { outcome_of result ≡ (showing b info.entry parity.entry lwc out.old).answer }
     ensures output { out.new ≡ (showing b info.entry parity.entry lwc out.old).output }
 {
-    check_copy(
-        b.code,
-        b.w,
-        b.fill,
-        info.len(),
-        parity.len(),
-        lwc,
-        out.len(),
-    )?;
+    check_copy(b, info.len(), parity.len(), lwc, out.len())?;
     let shown = sending::show::show(b.code, b.w, b.fill, info, parity, lwc);
     buffers::put_from(out, 0, shown, 0, shown.len());
     Ok(())

@@ -8,9 +8,6 @@ use Rattle.closing.proofs.Marks.{count-end, count-one, count_other}
 use Rattle.closing.proofs.count_marks.Goals as goal
 use Rattle.closing.proofs.count_marks.Goals.{then-mark-eq-HEARD, else-mark-eq-HEARD, then-mark-eq-FILLED, else-mark-eq-FILLED}
 
-pub loop-mark-init : goal.loop-mark-init
-loop-mark-init c = (record { few = omega arith; all = omega arith }, record { few = omega arith; all = omega arith })
-
 pub loop-mark-preserved : goal.loop-mark-preserved
 loop-mark-preserved c =
     let l = c.loop-mark in

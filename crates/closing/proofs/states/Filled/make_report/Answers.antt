@@ -1,22 +1,16 @@
 -- `closing::states::Filled::make_report` meets its contract: no mark is above 2, so what is neither heard nor filled is left.
 -- Assumes nothing.
-use mathlib.Core.Path.{◌≡◌, sym}
-use Prim.Native.Nat.{ℕ, ◌+◌, ◌-◌, ◌≤◌}
+use mathlib.Core.Path.{◌≡◌}
+use Prim.Native.Nat.{◌+◌, ◌-◌}
 use native.Mathlib.Omega.{arith}
-use mathlib.Core.List.{List}
-use lib.ListN.{length, take}
-use lib.Seq.{length-take-le}
+use lib.ListN.{length}
 use Rattle.algebra.specs.Lists.{count}
-use Rattle.block.specs.declared.Block.{Block}
 use Rattle.closing.specs.Close.{sent_marks, verdict_as}
 use Rattle.closing.proofs.Idle.{idle}
 use Rattle.closing.proofs.Marks.{sent_counted, sent_all}
 use Rattle.closing.proofs.Closing.{told}
 use Rattle.closing.proofs.states.Filled.make_report.Goals as goal
 use Rattle.closing.proofs.states.Filled.make_report.Goals.{After-count_marks-parity}
-
-front : (b : Block) (marks : List ℕ) → b.fill ≤ length marks → length (take b.fill marks) ≡ b.fill
-front b marks h = length-take-le _ marks h
 
 -- the counts of the two parts together
 heard : (c : After-count_marks-parity) → let a = c.args in
@@ -33,12 +27,6 @@ filled c =
 all : (c : After-count_marks-parity) → let a = c.args in
     count 1 (sent_marks a.self.block a.marks.now) + count 2 (sent_marks a.self.block a.marks.now) + count 0 (sent_marks a.self.block a.marks.now) ≡ a.self.block.fill + (length a.marks.now - a.self.k)
 all c = sent_all c.args.marks.now (idle c.args.self c.requires.within) c.requires.marks_right.1
-
-pub slice_bounds-count_marks-end : goal.slice_bounds-count_marks-end
-slice_bounds-count_marks-end c = sym (front c.args.self.block c.args.marks.now (omega arith))
-
-pub count_marks-information-requires : goal.count_marks-information-requires
-count_marks-information-requires c = omega (arith, front c.args.self.block c.args.marks.now (omega arith))
 
 pub overflow_add-heard : goal.overflow_add-heard
 overflow_add-heard c = omega (arith, heard (goal.at.overflow_add-heard c).After-count_marks-parity, all (goal.at.overflow_add-heard c).After-count_marks-parity)
