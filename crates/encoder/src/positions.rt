@@ -168,6 +168,7 @@ impl CheckRows<'_> {
 
     // All positions of check row j that are sent, at the front of xs; answers how many. The last two, or the last where j is 0, are those of the
     // parity symbols.
+    // A count and no slice: RowOf speaks of an array and a count, and peeling takes a position out of the array.
     pub fn of_row(&self, j: usize, xs: &mut [u16; MAX_POSITIONS]) -> usize
         requires j_bound { j < (code_of self.now.shape.number).m }
         ensures { RowOf (checks self.now.shape) j result xs.new }
