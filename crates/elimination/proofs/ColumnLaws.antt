@@ -18,7 +18,7 @@ use Rattle.buffers.specs.Parts.{added, Apart}
 use Rattle.buffers.proofs.Added.{added-length, added_out, added_above, added_in}
 use Rattle.elimination.specs.Bits.{test_bit, row_bit}
 use Rattle.elimination.proofs.Digits.{test_bit-xor}
-use Rattle.elimination.specs.Column.{add_row, add_row_where, has_pivot, FirstFrom}
+use Rattle.elimination.specs.Column.{add_row, add_row_where, has_pivot}
 
 -- what holds of either choice holds of the choice
 pub cond-elim {ℓ} : {A : Type ℓ} (P : A → Type 0) (b : Bool) (x y : A) → (b ≡ true → P x) → (b ≡ false → P y) → P (cond b x y)
@@ -130,9 +130,20 @@ has_pivot_ahead l x w len r p j k small e h =
     has_pivot-same l x w r p k (ap (λ (y : List ℕ). get_or y (k * w + p / 64) 0) e
     ∙ add_row_where_ahead (has_pivot l w r p) l r w len small (has_pivot_own l w r p r refl) j (k * w + p / 64) (omega (arith, mul-le-mul_right w h)))
 
--- ---- what the loop needs, which goes from one row that has the pivot to the next
+-- ---- what the loop needs: one row more. y is the list, the rows themselves or the right-hand side, after j rows
 
--- the rows between are as they were
+-- row r is added to row j
+pub add_row_where-one : (h : ℕ → Bool) (d y z : List ℕ) (r w n j : ℕ) → h j ≡ true → y ≡ add_row_where h d r w n j → z ≡ added y (j * w) y (r * w) n → z ≡ add_row_where h d r w n (j + 1)
+unfolding add_row_where
+add_row_where-one h d y z r w n j t ey ez = ez ∙ rw (add-one, t, ey)
+
+-- row j stays
+pub add_row_where-stays : (h : ℕ → Bool) (d y : List ℕ) (r w n j : ℕ) → h j ≡ false → y ≡ add_row_where h d r w n j → y ≡ add_row_where h d r w n (j + 1)
+unfolding add_row_where
+add_row_where-stays h d y r w n j t ey = ey ∙ rw (add-one, t)
+
+-- ---- rows that all stay
+
 add_row_where_skip : (h : ℕ → Bool) (l : List ℕ) (r w len n j : ℕ) → j ≤ n → ((k : ℕ) → j ≤ k → k < n → h k ≡ false) → add_row_where h l r w len j ≡ add_row_where h l r w len n
 unfolding add_row_where
 add_row_where_skip h l r w len zero j g off = let e : j ≡ 0 = omega arith in ap (add_row_where h l r w len) e
@@ -140,30 +151,6 @@ add_row_where_skip h l r w len (suc n) j g off =
     ⊎_elim (λ e. ap (add_row_where h l r w len) e)
     (λ lt. add_row_where_skip h l r w len n j (omega arith) (λ k a b. off k a (omega arith)) ∙ sym (ap (λ (b : Bool). add_row b (add_row_where h l r w len n) r w len n) (off n (omega arith) (omega arith))))
     (eq-or-lt_of_le g)
-
--- from the start to the first
-pub add_row_where-first : (h : ℕ → Bool) (l : List ℕ) (r w len m j : ℕ) → FirstFrom h m 0 j → l ≡ add_row_where h l r w len j
-unfolding add_row_where
-add_row_where-first h l r w len m j t = add_row_where_skip h l r w len j 0 t.from t.between
-
--- one row: y is the list (the rows themselves, or the right-hand side) after j rows, and z the same with row r added to row j
-pub add_row_where-one : (h : ℕ → Bool) (d y z : List ℕ) (r w n j : ℕ) → h j ≡ true → y ≡ add_row_where h d r w n j → z ≡ added y (j * w) y (r * w) n → z ≡ add_row_where h d r w n (j + 1)
-unfolding add_row_where
-add_row_where-one h d y z r w n j t ey ez = ez ∙ rw (add-one, t, ey)
-
--- and on to the next. x is the rows after j + 1 rows, in which it was looked for
-pub add_row_where_on : (l x d z : List ℕ) (v len r p w n m j k : ℕ) → len ≤ v → x ≡ add_row_where (has_pivot l v r p) l r v len (j + 1) → FirstFrom (has_pivot x v r p) m (j + 1) k
-    → z ≡ add_row_where (has_pivot l v r p) d r w n (j + 1) → z ≡ add_row_where (has_pivot l v r p) d r w n k
-add_row_where_on l x d z v len r p w n m j k small ex t ez =
-    ez ∙ add_row_where_skip (has_pivot l v r p) d r w n k (j + 1) t.from (λ i a b. sym (has_pivot_ahead l x v len r p (j + 1) i small ex a) ∙ t.between i a b)
-
-pub has_pivot-next : (l x : List ℕ) (v len r p m j k : ℕ) → len ≤ v → x ≡ add_row_where (has_pivot l v r p) l r v len (j + 1) → FirstFrom (has_pivot x v r p) m (j + 1) k → k < m → has_pivot l v r p k ≡ true
-has_pivot-next l x v len r p m j k small ex t h = sym (has_pivot_ahead l x v len r p (j + 1) k small ex t.from) ∙ t.here h
-
--- ---- what the search for the next one needs
-
-pub between_more : (h : ℕ → Bool) (j k : ℕ) → ((i : ℕ) → j ≤ i → i < k → h i ≡ false) → h k ≡ false → (i : ℕ) → j ≤ i → i < k + 1 → h i ≡ false
-between_more h j k off here i a b = ⊎_elim (λ e. ap h e ∙ here) (λ lt. off i a lt) (eq-or-lt_of_le (let g : i ≤ k = omega arith in g))
 
 -- ---- one row alone
 

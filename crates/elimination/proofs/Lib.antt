@@ -4,7 +4,6 @@ pub mod FitsLaws
 pub mod BitsLaws
 pub mod ColumnLaws
 pub mod SystemLaws
-pub mod Kept
 pub mod ReducedLaws
 pub mod PivotStepLaws
 pub mod SharedUnknownsLaws

@@ -2,14 +2,13 @@
 -- Assumes nothing.
 use mathlib.Core.Path.{◌≡◌, refl, sym, ap, ◌∙◌}
 use mathlib.Core.Logic.{◌≢◌, ◌⊎◌, inl, inr, ⊎_elim}
-use mathlib.Core.Bool.{Bool, true}
+use mathlib.Core.Bool.{Bool, true, false, true≢false}
 use mathlib.Core.List.{List}
 use Prim.Native.Nat.{ℕ, ◌+◌, ◌*◌, ◌≤◌, ◌<◌}
 use native.Mathlib.Omega.{arith}
 use lib.ListN.{length, get_or, set, length-set}
 use lib.Seq.{get_or-set_same, get_or-set_other}
-use Rattle.elimination.specs.declared.bits.Found.{Found}
-use Rattle.elimination.specs.declared.bits.Found.TheVariants.{At, Nothing}
+use Rattle.std.proofs.Common.{Option, Some, None}
 use Rattle.elimination.proofs.Order.{eq_or_ne}
 use Rattle.algebra.proofs.Codeword.{slot}
 use Rattle.elimination.specs.Bits.{row_bit, LowestIs}
@@ -23,11 +22,11 @@ use Rattle.elimination.specs.PivotStep.{PivotIs, pivot_word_of, cleared_by, Pivo
 
 -- ---- a step keeps the solutions
 
-cleared_same : (f : Found) (l d : List ℕ) (m words width r : ℕ) → r < m → m * (words + 1) ≤ length l → m * width ≤ length d
+cleared_same : (f : Option ℕ) (l d : List ℕ) (m words width r : ℕ) → r < m → m * (words + 1) ≤ length l → m * width ≤ length d
     → SameSolutions l d (cleared_by f l l m words r (words + 1) words) (cleared_by f l d m words r width width) m words width
-cleared_same (At p) l d m words width r inside rows bytes =
+cleared_same (Some p) l d m words width r inside rows bytes =
     add_row_where-same (has_pivot l (words + 1) r p) l d m words width r (has_pivot_own l (words + 1) r p r refl) inside rows bytes
-cleared_same Nothing l d m words width r inside rows bytes = same_refl
+cleared_same None l d m words width r inside rows bytes = same_refl
 
 module _ (l d l' d' : List ℕ) (m words width r : ℕ) (step : PivotStep l d l' d' m words width r)
     (inside : r < m) (rows : m * (words + 1) ≤ length l) (bytes : m * width ≤ length d) where
@@ -39,9 +38,9 @@ module _ (l d l' d' : List ℕ) (m words width r : ℕ) (step : PivotStep l d l'
       (same_trans (coefficients_same l l₁ d m words width (coefficients_pivot_set l words r (pivot_word_of step.found))) (cleared_same step.found l₁ d m words width r inside rows₁ bytes))
 
   -- ---- and reduces one row more, whichever it is
-  step-reduced : (f : Found) → PivotIs (row_bit l (r * (words + 1))) (64 * words) f
+  step-reduced : (f : Option ℕ) → PivotIs (row_bit l (r * (words + 1))) (64 * words) f
       → (s : ℕ) → s < m → (s ≡ r) ⊎ RowReduced l m words s → RowReduced (cleared_by f (set l (pivot_at words r) (pivot_word_of f)) (set l (pivot_at words r) (pivot_word_of f)) m words r (words + 1) words) m words s
-  step-reduced (At p) low s h w =
+  step-reduced (Some p) low s h w =
       let end : r * (words + 1) + (words + 1) ≤ m * (words + 1) = slot r m (words + 1) inside in
       let l₂ : List ℕ = set l (pivot_at words r) (p + 1) in
       let rows₂ : m * (words + 1) ≤ length l₂ = simp length-set rows in
@@ -50,7 +49,7 @@ module _ (l d l' d' : List ℕ) (m words width r : ℕ) (step : PivotStep l d l'
       λ e. rw e (cleared_own l₂ m words r p inside rows₂ low.0 there (get_or-set_same l (pivot_at words r) (p + 1) 0 (omega arith))) in
       ⊎_elim own
       (λ d. ⊎_elim own (λ ne. cleared_reduced l₂ m words r p inside rows₂ low.0 there s h ne (pivot_set_reduced l words r (p + 1) m s h ne d)) (eq_or_ne s r)) w
-  step-reduced Nothing low s h w =
+  step-reduced None low s h w =
       let end : r * (words + 1) + (words + 1) ≤ m * (words + 1) = slot r m (words + 1) inside in
       let own : (e : s ≡ r) → RowReduced (set l (pivot_at words r) 0) m words s =
       λ e. rw e (inl (record {
@@ -59,26 +58,26 @@ module _ (l d l' d' : List ℕ) (m words width r : ℕ) (step : PivotStep l d l'
       })) in
       ⊎_elim own (λ d. ⊎_elim own (λ ne. pivot_set_reduced l words r 0 m s h ne d) (eq_or_ne s r)) w
 
-  pub step_where : (f : List ℕ) → ReducedWhere f l m words → ReducedWhere (set f r 1) l' m words
+  pub step_where : (f : List Bool) → ReducedWhere f l m words → ReducedWhere (set f r true) l' m words
   step_where f red = record {
     long = simp length-set red.long;
     rows = λ s h. ⊎_elim (λ e. inr (rw step.rows (step-reduced step.found step.chosen s h (inl e))))
-        (λ ne. ⊎_elim (λ z. inl (get_or-set_other f r s 1 0 ne ∙ z)) (λ d. inr (rw step.rows (step-reduced step.found step.chosen s h (inr d)))) (red.rows s h))
+        (λ ne. ⊎_elim (λ z. inl (get_or-set_other f r s true false ne ∙ z)) (λ d. inr (rw step.rows (step-reduced step.found step.chosen s h (inr d)))) (red.rows s h))
         (eq_or_ne s r);
   }
 
 -- the account of the rows that are reduced
-pub row_marked : (f : List ℕ) (r : ℕ) → r < length f → RowMarked f (set f r 1) r
-row_marked f r h = record { here = one; kept = λ s z. ⊎_elim (λ e. absurd (one (ap (λ (x : ℕ). get_or (set f r 1) x 0) (sym e) ∙ z))) (λ ne. sym (get_or-set_other f r s 1 0 ne) ∙ z) (eq_or_ne s r) }
+pub row_marked : (f : List Bool) (r : ℕ) → r < length f → RowMarked f (set f r true) r
+row_marked f r h = record { here = one; kept = λ s z. ⊎_elim (λ e. absurd (one (ap (λ (x : ℕ). get_or (set f r true) x false) (sym e) ∙ z))) (λ ne. sym (get_or-set_other f r s true false ne) ∙ z) (eq_or_ne s r) }
   where
-    one : get_or (set f r 1) r 0 ≢ 0
-    one z = let k : ◌≡◌ {A = ℕ} 1 0 = sym (get_or-set_same f r 1 0 h) ∙ z in omega arith
+    one : get_or (set f r true) r false ≢ false
+    one z = true≢false (sym (get_or-set_same f r true false h) ∙ z)
 
 -- the lowest unknown is one
-pub pivot_lowest : (b : ℕ → Bool) (n : ℕ) (f : Found) → LowestIs b n f → PivotIs b n f
-pivot_lowest b n (At p) h = (h.0, h.1.0)
-pivot_lowest b n Nothing h = h
+pub pivot_lowest : (b : ℕ → Bool) (n : ℕ) (f : Option ℕ) → LowestIs b n f → PivotIs b n f
+pivot_lowest b n (Some p) h = (h.0, h.1.0)
+pivot_lowest b n None h = h
 
 -- one row more in order
-pub marked_more : (f g : List ℕ) (s : ℕ) → RowMarked f g s → ((i : ℕ) → i < s → get_or f i 0 ≡ 0 → ⊥) → (i : ℕ) → i < s + 1 → get_or g i 0 ≡ 0 → ⊥
-marked_more f g s w before i h z = ⊎_elim (λ e. w.here (ap (λ (x : ℕ). get_or g x 0) (sym e) ∙ z)) (λ ne. before i (omega arith) (w.kept i z)) (eq_or_ne i s)
+pub marked_more : (f g : List Bool) (s : ℕ) → RowMarked f g s → ((i : ℕ) → i < s → get_or f i false ≡ false → ⊥) → (i : ℕ) → i < s + 1 → get_or g i false ≡ false → ⊥
+marked_more f g s w before i h z = ⊎_elim (λ e. w.here (ap (λ (x : ℕ). get_or g x false) (sym e) ∙ z)) (λ ne. before i (omega arith) (w.kept i z)) (eq_or_ne i s)

@@ -10,11 +10,11 @@ use native.Mathlib.Omega.{arith}
 use lib.ListN.{length, get_or, set}
 use lib.Seq.{get_or-set_same, get_or-set_other}
 use lib.Bits.{bit_or, bit_and}
+use Rattle.std.proofs.Common.{Some}
 use Rattle.elimination.proofs.Order.{eq_or_ne}
 use Rattle.elimination.specs.Bits.{test_bit, row_bit}
 use Rattle.elimination.proofs.Digits.{test_bit_or, test_bit_and}
 use Rattle.elimination.specs.Column.{has_pivot}
-use Rattle.elimination.specs.declared.bits.Found.TheVariants.{At}
 use Rattle.elimination.proofs.ColumnLaws.{has_pivot_own, has_pivot_other, add_row_where-none}
 use Rattle.elimination.specs.System.{SameCoefficients}
 use Rattle.elimination.proofs.SystemLaws.{coefficients_pivot_set, coefficients_bit}
@@ -104,7 +104,7 @@ singleton_step f l m words r p inside within s off on d width =
     λ k h. ⊎_elim (λ e. has_pivot_own l₂ (words + 1) r p k e)
     (λ ne. has_pivot_other l₂ (words + 1) r p k ne ∙ coefficients_bit l l₂ words same k p within ∙ s (p / 64) (omega arith) (p % 64) r k inside h (λ e. ne (sym e)) off on) (eq_or_ne k r) in
     record {
-      found = At p;
+      found = Some p;
       chosen = (within, on);
       rows = add_row_where-none (has_pivot l₂ (words + 1) r p) l₂ r (words + 1) words m none;
       rhs = add_row_where-none (has_pivot l₂ (words + 1) r p) d r width width m none;

@@ -1,7 +1,7 @@
 -- Row additions: row r is added to each row of a chosen set. Where these are the other rows that have its pivot, that clears the pivot's column.
 -- A row is w elements of the list, of which the first len take part.
 -- Assumes nothing.
-use Rattle.std.specs.Prelude.{◌≡◌, Bool, true, false, cond, not, ◌&&◌, List, ℕ, zero, suc, ◌*◌, ◌≤◌, ◌<◌, eqb}
+use Rattle.std.specs.Prelude.{Bool, cond, not, ◌&&◌, List, ℕ, zero, suc, ◌*◌, eqb}
 use Rattle.buffers.specs.Parts.{added}
 use Rattle.elimination.specs.Bits.{row_bit}
 
@@ -17,10 +17,3 @@ add_row_where h l r w len (suc j) = add_row (h j) (add_row_where h l r w len j) 
 -- the rows other than r that have unknown p, which are those that clearing its column by row r changes
 unfoldable pub has_pivot : List ℕ → ℕ → ℕ → ℕ → ℕ → Bool
 has_pivot l w r p j = not (eqb j r) && row_bit l (j * w) p
-
--- k is the first number from j on for which h is true, or m
-pub record FirstFrom (h : ℕ → Bool) (m j k : ℕ) : Type 0 where
-  pub from : j ≤ k
-  pub up_to : k ≤ m
-  pub here : k < m → h k ≡ true
-  pub between : (i : ℕ) → j ≤ i → i < k → h i ≡ false

@@ -9,7 +9,7 @@ ghost use Rattle.elimination.specs.System.{SameSolutions};
 ghost use Rattle.elimination.specs.Reduced.{Reduced};
 
 use back_substitution::{back_substitute, reduce_remaining};
-use forward::forward_pass;
+use forward::{Step, forward_pass};
 use singletons::set_singletons;
 
 pub mod parts; // parts of a buffer: exclusive or
@@ -43,10 +43,11 @@ pub fn eliminate(rows: &mut [u64], rhs: &mut [u8], s: Shape)
     ensures reduced { Reduced rows.new s.rows s.words s.rows }
     ensures same_solutions { SameSolutions rows.old rhs.old rows.new rhs.new s.rows s.words s.width }
 {
-    let mut order = [0u32; MAX_ROWS];
+    let mut order = [Step { row: 0, pivot: 0 }; MAX_ROWS];
     let count = forward_pass(rows, rhs, &mut order, s);
-    let mut done = [0u8; MAX_ROWS];
-    set_singletons(rows, &mut done, &order, s, count);
-    back_substitute(rows, rhs, &mut done, &order, s, count);
+    let steps = &order[..count];
+    let mut done = [false; MAX_ROWS];
+    set_singletons(rows, &mut done, s, steps);
+    back_substitute(rows, rhs, &mut done, s, steps);
     reduce_remaining(rows, rhs, &mut done, s);
 }

@@ -8,11 +8,7 @@ pub fn xor_words(rows: &mut [u64], from: usize, to: usize, len: usize)
     requires len_in_bounds { (from + len ≤ length rows.old) × (to + len ≤ length rows.old) }
     ensures { rows.new ≡ added rows.old to rows.old from len }
 {
-    let mut i = 0;
-    while i < len {
-        let s = from + i;
-        let d = to + i;
-        rows[d] = rows[d] ^ rows[s];
-        i += 1;
+    for i in 0..len {
+        rows[to + i] ^= rows[from + i];
     }
 }

@@ -12,17 +12,11 @@ pub fn consistent(rows: &[u64], rhs: &[u8], s: Shape) -> bool
     requires reduced { Reduced rows.now s.rows s.words s.rows }
     ensures { ConsistentIs rows.now rhs.now s.rows s.words s.width result }
 {
-    let m = s.rows;
-    let stride = s.words + 1;
-    let mut j = 0;
-    while j < m {
-        let k = j * stride + s.words;
-        if rows[k] == 0 {
-            if buffers::all_zero(rhs, j * s.width, s.width) {} else {
-                return false;
-            }
+    for j in 0..s.rows {
+        let pivot = rows[j * (s.words + 1) + s.words];
+        if pivot == 0 && !buffers::all_zero(rhs, j * s.width, s.width) {
+            return false;
         }
-        j += 1;
     }
     true
 }

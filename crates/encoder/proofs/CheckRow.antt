@@ -10,7 +10,8 @@ use Rattle.ccsds.specs.Codes.{Params}
 use Rattle.ccsds.specs.Tables.{code_of}
 use Rattle.ccsds.proofs.Valid.{Valid, valid_of, some-a}
 use Rattle.encoder.specs.declared.positions.Shape.{Shape}
-use Rattle.encoder.specs.inner.Positions.{class_of, positions, entries_of, first_at, end_at, count_at, whole_at, EntryBounds, WithinRow, Whole, Table, Entries, Kept, max_classes}
+use Rattle.encoder.specs.declared.positions.ClassTable.{ClassTable}
+use Rattle.encoder.specs.inner.Positions.{class_of, positions, entries_of, entry_place, EntryBounds, WithinRow, Whole, Table, Entries, Kept, max_classes}
 use Rattle.encoder.proofs.Touched.{row_lt', quotient_lt, row-each, entry_fits}
 use Rattle.encoder.proofs.ClassTable.{entries-few, class_room}
 use Rattle.encoder.proofs.Sent.{entries-to, entries_lt, kept_all}
@@ -29,7 +30,7 @@ entries-more {f} {n} {e} {x} {xs} h l g = record { size = length-set xs e x ∙ 
         let z : e ≡ k = omega arith in
         ap (λ (t : ℕ). get_or (set xs e x) t 0) (sym z) ∙ get_or-set_same xs e x 0 (omega (arith, h.size)) ∙ g (omega arith) ∙ ap f z
 
-module _ {s : Shape} {t : List ℕ} (T : Table s t) {r : ℕ} (hr : r < (code_of s.number).a) where
+module _ {s : Shape} {t : ClassTable} (T : Table s t) {r : ℕ} (hr : r < (code_of s.number).a) where
   abbrev code : Params
   code = code_of s.number
 
@@ -49,7 +50,7 @@ module _ {s : Shape} {t : List ℕ} (T : Table s t) {r : ℕ} (hr : r < (code_of
   pub narrow : s.layout.q < 65536
   narrow = omega (arith, T.shaped.given.q, v.few-rows, mul-le-mul_left code.q (some-a _ v), v.step)
 
-  pub count_of : (i : ℕ) {n : ℕ} {xs : List ℕ} → Entries code s.rows (i * code.a + r) n xs → n ≡ get_or t (count_at r) 0
+  pub count_of : (i : ℕ) {n : ℕ} {xs : List ℕ} → Entries code s.rows (i * code.a + r) n xs → n ≡ get_or t.counts r 0
   count_of i e = e.count ∙ ap (λ (x : ℕ). entries_of code x s.rows) (digits_mod i hr) ∙ sym (T.laid.counts _ hr)
 
   -- where the fill ends with a table row, nothing is idle
@@ -58,7 +59,7 @@ module _ {s : Shape} {t : List ℕ} (T : Table s t) {r : ℕ} (hr : r < (code_of
       let q : s.rows * s.layout.q ≡ s.rows * code.q = ap (λ (x : ℕ). s.rows * x) T.shaped.given.q in
       kept_all s.fill _ _ (λ k h. omega (arith, entries_lt code v e T.shaped.within k h, q))
 
-  module _ {n : ℕ} (counted : n ≡ get_or t (count_at r) 0) where
+  module _ {n : ℕ} (counted : n ≡ get_or t.counts r 0) where
     count-is : n ≡ entries_of code r s.rows
     count-is = counted ∙ T.laid.counts _ hr
 
@@ -67,8 +68,8 @@ module _ {s : Shape} {t : List ℕ} (T : Table s t) {r : ℕ} (hr : r < (code_of
 
     -- what `further` makes of entry e is its position
     pub position : {i : ℕ} → i < code.q → (e : ℕ) → e < n → {x : ℕ}
-        → (WithinRow (get_or t (first_at r e) 0) (get_or t (end_at r e) 0) s.layout.q i
-        → x ≡ get_or t (end_at r e) 0 - s.layout.q + (get_or t (first_at r e) 0 + s.layout.q - get_or t (end_at r e) 0 + i) % s.layout.q)
+        → (WithinRow (get_or t.starts (entry_place r e) 0) (get_or t.ends (entry_place r e) 0) s.layout.q i
+        → x ≡ get_or t.ends (entry_place r e) 0 - s.layout.q + (get_or t.starts (entry_place r e) 0 + s.layout.q - get_or t.ends (entry_place r e) 0 + i) % s.layout.q)
         → x ≡ get_or (positions code (i * code.a + r)) e 0
     position {i} hi e h {x} g =
         g fits ∙ ap (λ (k : ℕ). end - k + (first + k - end + i) % k) T.shaped.given.q ∙ row-each _ v r i hr hi _ inside bounds
@@ -80,10 +81,10 @@ module _ {s : Shape} {t : List ℕ} (T : Table s t) {r : ℕ} (hr : r < (code_of
         inside = omega (arith, laid, entries-few code r s.rows)
 
         first : ℕ
-        first = get_or t (first_at r e) 0
+        first = get_or t.starts (entry_place r e) 0
 
         end : ℕ
-        end = get_or t (end_at r e) 0
+        end = get_or t.ends (entry_place r e) 0
 
         bounds : EntryBounds code.q (get_or (class_of code r) e (0, 0)) first end
         bounds = T.laid.each _ hr e laid
@@ -92,11 +93,11 @@ module _ {s : Shape} {t : List ℕ} (T : Table s t) {r : ℕ} (hr : r < (code_of
         fits = subst⁻¹ (λ (k : ℕ). WithinRow first end k i) T.shaped.given.q (entry_fits _ v r i hr hi _ inside bounds)
 
     -- of the entries those of table rows that end by fill are below it
-    pub whole-below : (i : ℕ) {xs : List ℕ} → Entries code s.rows (i * code.a + r) n xs → {d : ℕ} → d ≡ get_or t (whole_at r) 0
+    pub whole-below : (i : ℕ) {xs : List ℕ} → Entries code s.rows (i * code.a + r) n xs → {d : ℕ} → d ≡ get_or t.whole r 0
         → (d ≤ n) × ((k : ℕ) → k < d → get_or xs k 0 < s.fill)
     whole-below i {xs} e {d} z = (few-whole, λ k h. entries-to code v e T.shaped.within s.fill (d - 1) (omega (arith, few-whole)) (ends h) k (omega arith))
       where
-        w : Whole s.fill r (get_or t (count_at r) 0) t (get_or t (whole_at r) 0)
+        w : Whole s.fill r (get_or t.counts r 0) t.ends (get_or t.whole r 0)
         w = T.whole _ hr
 
         few-whole : d ≤ n
@@ -105,7 +106,7 @@ module _ {s : Shape} {t : List ℕ} (T : Table s t) {r : ℕ} (hr : r < (code_of
         ends : {k : ℕ} → k < d → (get_or (class_of code ((i * code.a + r) % code.a)) (d - 1) (0, 0)).0 * code.q + code.q ≤ s.fill
         ends h =
             let b = T.laid.each r hr (d - 1) (omega (arith, count-is, few-whole)) in
-            omega (arith, w.last (omega (arith, z)), ap (λ (x : ℕ). get_or t (end_at r (x - 1)) 0) z, b.last, ap (λ (x : ℕ). (get_or (class_of code x) (d - 1) (0, 0)).0 * code.q) (digits_mod i hr))
+            omega (arith, w.last (omega (arith, z)), ap (λ (x : ℕ). get_or t.ends (entry_place r (x - 1)) 0) z, b.last, ap (λ (x : ℕ). (get_or (class_of code x) (d - 1) (0, 0)).0 * code.q) (digits_mod i hr))
 
     pub all_entries : (i : ℕ) {e : ℕ} {xs : List ℕ} → EntriesTo (λ k. get_or (positions code (i * code.a + r)) k 0) n e xs → n ≤ e
         → Entries code s.rows (i * code.a + r) n xs
@@ -124,7 +125,7 @@ pub record ByQuotient (c : Params) (j d r : ℕ) : Type 0 where
   pub step : d < c.q
   pub row : d * c.a + r ≡ j
 
-module _ {s : Shape} {t : List ℕ} (T : Table s t) where
+module _ {s : Shape} {t : ClassTable} (T : Table s t) where
   pub some_a : 0 < s.layout.a
   some_a = omega (arith, some-a _ (valid_of _ T.shaped.known), T.shaped.given.a)
 

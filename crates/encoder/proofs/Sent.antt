@@ -14,6 +14,7 @@ use Rattle.ccsds.specs.declared.tables.Layout.{Layout}
 use Rattle.ccsds.specs.inner.Layout.{LayoutOf, max_m}
 use Rattle.ccsds.proofs.Valid.{Valid, valid_of, some-a}
 use Rattle.encoder.specs.declared.positions.Shape.{Shape}
+use Rattle.encoder.specs.declared.positions.ClassTable.{ClassTable}
 use Rattle.encoder.specs.inner.Positions.{Entry, class_of, positions, entries_of, Shaped, Table, Entries, Kept, Information}
 use Rattle.encoder.proofs.Touched.{row_lt', Below, table_below, entry_good, class_good, positions-count, positions-each, positions_touch, positions-sum, hit_at}
 use Rattle.encoder.proofs.ClassTable.{entries-few, entry_front, entry_behind}
@@ -230,7 +231,7 @@ at_numbers P {number} {w} {w' = w'} {fill' = fill'} n e f h =
     subst⁻¹ (λ (x : ℕ). P x w' fill') n (subst⁻¹ (λ (x : ℕ). P number x fill') e (subst⁻¹ (λ (x : ℕ). P number w x) f h))
 
 -- so for a block's shape and its table
-module _ (s : Shape) {t : List ℕ} (T : Table s t) (i r : ℕ) (hr : r < (code_of s.number).a) (hi : i < (code_of s.number).q) where
+module _ (s : Shape) {t : ClassTable} (T : Table s t) (i r : ℕ) (hr : r < (code_of s.number).a) (hi : i < (code_of s.number).q) where
   pub table_sent : {n m : ℕ} {xs ys : List ℕ} → Entries (code_of s.number) s.rows (i * (code_of s.number).a + r) n xs → Kept s.fill n xs m ys
       → Information (code_of s.number) s.fill (i * (code_of s.number).a + r) m ys
   table_sent e k =

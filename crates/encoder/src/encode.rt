@@ -7,7 +7,7 @@ ghost use Rattle.encoder.specs.inner.Steps.{Sized, Done};
 ghost use Rattle.symbol_sums.specs.Gather.{max_positions};
 
 use crate::positions;
-use crate::positions::{CheckRows, TABLE_SIZE};
+use crate::positions::{CheckRows, ClassTable};
 use ccsds::checks;
 use ccsds::refusal::Refusal;
 use symbol_sums::MAX_POSITIONS;
@@ -71,7 +71,7 @@ pub fn encode(
     ensures parity { parity.new ≡ afterwards (encode_refusal code w fill (length info.now) (length parity.old)) (parity_of (code_of code) w fill info.now) parity.old }
 {
     checks::check_encoder(code, w, fill, info.len(), parity.len())?;
-    let mut table = [0u16; TABLE_SIZE];
+    let mut table = ClassTable::new();
     let shape = positions::lay(code, w, fill, &mut table);
     let rows = CheckRows {
         shape,

@@ -1,10 +1,10 @@
 // The positions of a check row. An address belongs to the check rows of one remainder modulo a, its class: the table is laid out by class
 // once, and then the information positions of each check row follow by one addition each. Internal: the crates of this repository call what
 // is here, and a user of the layer has no need to.
-ghost use Rattle.std.specs.Prelude.{◌≡◌, ℕ, ◌+◌, ◌-◌, ◌*◌, ◌/◌, ◌%◌, ◌<◌, ◌≤◌, [], length, replicate, if◌then◌else◌, nat_lt, slice_index, slice_index_or};
+ghost use Rattle.std.specs.Prelude.{◌≡◌, ℕ, ◌+◌, ◌-◌, ◌*◌, ◌/◌, ◌%◌, ◌<◌, ◌≤◌, [], length, slice_index, slice_index_or};
 ghost use Rattle.ccsds.specs.Tables.{code_of, Known};
 ghost use Rattle.ccsds.specs.inner.Layout.{LayoutOf, FrontIs, joined, max_n, max_m, max_rows, max_degree, max_addresses};
-ghost use Rattle.encoder.specs.inner.Positions.{entered, row_entered, Classes, WithinRow, checks, Shaped, Whole, Counted, Table, Entries, Kept, Information, RowOf, max_classes, table_size};
+ghost use Rattle.encoder.specs.inner.Positions.{entered, row_entered, Classes, WithinRow, checks, Shaped, Whole, Counted, Table, Entries, Kept, Information, RowOf, max_classes, no_entries};
 ghost use Rattle.symbol_sums.specs.Gather.{max_positions};
 
 use ccsds::tables;
@@ -14,22 +14,37 @@ use symbol_sums::MAX_POSITIONS;
 // The most classes of a code.
 pub const MAX_CLASSES: usize = 8;
 
-// What the table by class holds. From 0 on: where the positions of each entry start, MAX_POSITIONS places a class.
+// Places for the entries of all classes, MAX_POSITIONS a class.
+const MAX_ENTRIES: usize = MAX_CLASSES * MAX_POSITIONS;
 
-// Where they end.
-const ENDS: usize = MAX_CLASSES * MAX_POSITIONS;
+// The table by class.
+#[derive(Drop)]
+pub struct ClassTable {
+    // Where the positions of each entry start, and where they end.
+    pub starts: [u16; MAX_ENTRIES],
+    pub ends: [u16; MAX_ENTRIES],
+    // How many entries each class has.
+    pub counts: [u16; MAX_CLASSES],
+    // How many of these are of table rows that end by fill, so that none of their positions is idle.
+    pub whole: [u16; MAX_CLASSES],
+    // The addresses as they stand in the standard's table, MAX_DEGREE places a row.
+    pub addresses: [u16; MAX_ADDRESSES],
+}
 
-// How many entries each class has.
-const COUNTS: usize = ENDS + MAX_CLASSES * MAX_POSITIONS;
-
-// The addresses as they stand in the standard's table, MAX_DEGREE places a row.
-pub const ADDRESSES: usize = COUNTS + MAX_CLASSES;
-
-// How many entries of each class are of table rows that end by fill, so that none of their positions is idle.
-const WHOLE: usize = ADDRESSES + MAX_ADDRESSES;
-
-// All of it.
-pub const TABLE_SIZE: usize = WHOLE + MAX_CLASSES;
+impl ClassTable {
+    // Before any entry.
+    pub fn new() -> ClassTable
+        ensures { result ≡ no_entries }
+    {
+        ClassTable {
+            starts: [0; MAX_ENTRIES],
+            ends: [0; MAX_ENTRIES],
+            counts: [0; MAX_CLASSES],
+            whole: [0; MAX_CLASSES],
+            addresses: [0; MAX_ADDRESSES],
+        }
+    }
+}
 
 // The shape of a block: its code's number and layout, the bytes of a symbol, its fill, and how many table rows have a position that is sent.
 #[derive(Clone, Copy)]
@@ -46,7 +61,7 @@ pub struct Shape {
 #[derive(Clone, Copy)]
 pub struct CheckRows<'a> {
     pub shape: Shape,
-    pub table: &'a [u16; TABLE_SIZE],
+    pub table: &'a ClassTable,
     pub ghost laid: { Table shape table.now },
 }
 
@@ -58,13 +73,13 @@ impl CheckRows<'_> {
         requires r_bound { (r < (code_of self.now.shape.number).a) × (i < (code_of self.now.shape.number).q) }
         ensures { Entries (code_of self.now.shape.number) self.now.shape.rows (i * (code_of self.now.shape.number).a + r) result xs.new }
     {
-        let n = tables::wide(self.table[COUNTS + r]);
+        let n = usize::from(self.table.counts[r]);
         let full = (n + 15) / 16 * 16;
         let q = self.shape.layout.q as u16;
         for e in 0..full {
             xs[e] = further(
-                self.table[r * MAX_POSITIONS + e],
-                self.table[ENDS + r * MAX_POSITIONS + e],
+                self.table.starts[r * MAX_POSITIONS + e],
+                self.table.ends[r * MAX_POSITIONS + e],
                 q,
                 i as u16,
             );
@@ -79,7 +94,7 @@ impl CheckRows<'_> {
         ensures { Information (code_of self.now.shape.number) self.now.shape.fill (i * (code_of self.now.shape.number).a + r) result xs.new }
     {
         let n = self.entries(i, r, xs);
-        keep_sent(self.shape.fill, tables::wide(self.table[WHOLE + r]), n, xs)
+        keep_sent(self.shape.fill, usize::from(self.table.whole[r]), n, xs)
     }
 
     // The same for the encoder. Where the fill ends with a table row nothing is idle: a test that is the same for all check rows, so that the
@@ -102,7 +117,8 @@ impl CheckRows<'_> {
         ensures { RowOf (checks self.now.shape) j result xs.new }
     {
         let l = self.shape.layout;
-        let n = self.sent(quotient(j, l.a), remainder(j, l.a), xs);
+        let (i, r) = divided(j, l.a);
+        let n = self.sent(i, r, xs);
         xs[n] = (l.k + j) as u16;
         if j == 0 {
             return n + 1;
@@ -121,50 +137,39 @@ fn rows_to(fill: usize, q: usize) -> usize
 }
 
 // y / a and y % a. Every code has a = MAX_CLASSES, and a division by a constant is a shift.
-fn quotient(y: usize, a: usize) -> usize
+fn divided(y: usize, a: usize) -> (usize, usize)
     requires { 0 < a }
-    ensures { result ≡ y / a }
+    ensures quotient { result.0 ≡ y / a }
+    ensures remainder { result.1 ≡ y % a }
+    ensures below { result.1 < a }
 {
     if a == MAX_CLASSES {
-        y / MAX_CLASSES
+        (y / MAX_CLASSES, y % MAX_CLASSES)
     } else {
-        y / a
-    }
-}
-
-fn remainder(y: usize, a: usize) -> usize
-    requires { 0 < a }
-    ensures is { result ≡ y % a }
-    ensures below { result < a }
-{
-    if a == MAX_CLASSES {
-        y % MAX_CLASSES
-    } else {
-        y % a
+        (y / a, y % a)
     }
 }
 
 // Enters address y, which stands at place i of a table row, into its class.
-fn enter(q: usize, a: usize, row: usize, i: usize, y: usize, table: &mut [u16; TABLE_SIZE])
+fn enter(q: usize, a: usize, row: usize, i: usize, y: usize, table: &mut ClassTable)
     requires a_nonzero { (0 < a) × (a ≤ max_classes) × (row * q + q ≤ max_n) × (y / a ≤ q) × (y < 65536) }
     requires row_lt_max_rows { (row < max_rows) × (i < max_degree) }
     ensures { table.new ≡ entered q a row i y table.old }
 {
-    let r = remainder(y, a);
-    let d = quotient(y, a);
-    table[ADDRESSES + row * MAX_DEGREE + i] = y as u16;
-    let n = tables::wide(table[COUNTS + r]);
+    let (d, r) = divided(y, a);
+    table.addresses[row * MAX_DEGREE + i] = y as u16;
+    let n = usize::from(table.counts[r]);
     if n >= MAX_POSITIONS {
         return;
     }
     let end = row * q + q;
-    table[r * MAX_POSITIONS + n] = (end - d) as u16;
-    table[ENDS + r * MAX_POSITIONS + n] = end as u16;
-    table[COUNTS + r] = (n + 1) as u16;
+    table.starts[r * MAX_POSITIONS + n] = (end - d) as u16;
+    table.ends[r * MAX_POSITIONS + n] = end as u16;
+    table.counts[r] = (n + 1) as u16;
 }
 
 // Those of one table row.
-fn enter_row(s: Shape, flat: &[u16; MAX_ADDRESSES], row: usize, table: &mut [u16; TABLE_SIZE])
+fn enter_row(s: Shape, flat: &[u16; MAX_ADDRESSES], row: usize, table: &mut ClassTable)
     requires shaped { Shaped s × FrontIs (joined (code_of s.number).rows) flat.now }
     requires row_in_bounds { row < length (code_of s.number).rows }
     ensures { table.new ≡ row_entered (code_of s.number) row (length (slice_index_or (code_of s.number).rows row [])) table.old }
@@ -177,8 +182,8 @@ fn enter_row(s: Shape, flat: &[u16; MAX_ADDRESSES], row: usize, table: &mut [u16
 }
 
 // Enters the table rows that have a position that is sent.
-fn enter_rows(s: Shape, table: &mut [u16; TABLE_SIZE])
-    requires shaped { Shaped s × (table.old ≡ replicate table_size 0) }
+fn enter_rows(s: Shape, table: &mut ClassTable)
+    requires shaped { Shaped s × (table.old ≡ no_entries) }
     ensures { Classes (code_of s.number) s.rows table.new }
 {
     let mut flat = [0u16; MAX_ADDRESSES];
@@ -189,12 +194,12 @@ fn enter_rows(s: Shape, table: &mut [u16; TABLE_SIZE])
 }
 
 // How many of the first n entries of class r come before the last table row, if that goes beyond fill.
-fn before_last_row(fill: usize, table: &[u16; TABLE_SIZE], r: usize, n: usize) -> usize
+fn before_last_row(fill: usize, ends: &[u16; MAX_ENTRIES], r: usize, n: usize) -> usize
     requires { (r < max_classes) × (n ≤ max_positions) }
-    ensures { Whole fill r n table.now result }
+    ensures { Whole fill r n ends.now result }
 {
     for e in (0..n).rev() {
-        if tables::wide(table[ENDS + r * MAX_POSITIONS + e]) <= fill {
+        if usize::from(ends[r * MAX_POSITIONS + e]) <= fill {
             return e + 1;
         }
     }
@@ -202,19 +207,19 @@ fn before_last_row(fill: usize, table: &[u16; TABLE_SIZE], r: usize, n: usize) -
 }
 
 // The same of all entries of class r, into the table: asked once, and not for each check row.
-fn count_whole(s: Shape, r: usize, table: &mut [u16; TABLE_SIZE])
+fn count_whole(s: Shape, r: usize, table: &mut ClassTable)
     requires { Counted s r table.old × (r < (code_of s.number).a) }
     ensures { Counted s (r + 1) table.new }
 {
-    let n = tables::wide(table[COUNTS + r]);
-    let e = before_last_row(s.fill, table, r, n);
-    table[WHOLE + r] = e as u16;
+    let n = usize::from(table.counts[r]);
+    let e = before_last_row(s.fill, &table.ends, r, n);
+    table.whole[r] = e as u16;
 }
 
 // Lays out the table of a code, as far as positions are sent: the first `fill` information symbols, and all parity symbols. Answers the block's shape.
-pub fn lay(number: usize, w: usize, fill: usize, table: &mut [u16; TABLE_SIZE]) -> Shape
+pub fn lay(number: usize, w: usize, fill: usize, table: &mut ClassTable) -> Shape
     requires known { Known number × (fill ≤ (code_of number).k) }
-    requires blank { table.old ≡ replicate table_size 0 }
+    requires blank { table.old ≡ no_entries }
     ensures laid { Table result table.new }
     ensures numbers { (result.number ≡ number) × (result.w ≡ w) × (result.fill ≡ fill) }
 {

@@ -5,8 +5,6 @@ use Rattle.std.specs.declared.option.Option.{Option}
 use Rattle.std.specs.Int.Bits.{bit_or}
 use Rattle.algebra.specs.Sums.{◌⊕◌, sum}
 use Rattle.algebra.specs.Codeword.{byte_at}
-use Rattle.buffers.specs.Parts.{put, Sum}
-use Rattle.symbol_sums.specs.declared.Chunk64.{Chunk64}
 
 -- the sum of u at the first n positions of xs
 abbrev pub gathered : (ℕ → ℕ) → List ℕ → ℕ → ℕ
@@ -46,36 +44,6 @@ summed f w src xs n b = f b ⊕ gathered (byte_at w src b) xs n
 pub record Chunk16Is (f : ℕ → ℕ) (c : ℕ) (t : List ℕ) : Type 0 where
   pub size : length t ≡ 16
   pub each : (b : ℕ) → b < 16 → get_or t b 0 ≡ f (c + b)
-
--- s is f c, .., f (c + 63)
-pub record Chunk64Is (f : ℕ → ℕ) (c : ℕ) (s : Chunk64) : Type 0 where
-  pub first : Chunk16Is f c s.a
-  pub second : Chunk16Is f (c + 16) s.b
-  pub third : Chunk16Is f (c + 32) s.c
-  pub fourth : Chunk16Is f (c + 48) s.d
-
--- four arrays of 16 bytes
-pub record Sized64 (s : Chunk64) : Type 0 where
-  pub first : length s.a ≡ 16
-  pub second : length s.b ≡ 16
-  pub third : length s.c ≡ 16
-  pub fourth : length s.d ≡ 16
-
--- r is s plus the 64 bytes of src from index `from` on
-pub record Sum64 (s : Chunk64) (src : List ℕ) (from : ℕ) (r : Chunk64) : Type 0 where
-  pub first : Sum s.a 0 src from 16 r.a
-  pub second : Sum s.b 0 src (from + 16) 16 r.b
-  pub third : Sum s.c 0 src (from + 32) 16 r.c
-  pub fourth : Sum s.d 0 src (from + 48) 16 r.d
-
--- t is s plus bytes c, .., c + 15 of each of the first n symbols xs of src
-pub record PlusSymbols (w c : ℕ) (src xs : List ℕ) (n : ℕ) (s t : List ℕ) : Type 0 where
-  pub size : length t ≡ 16
-  pub each : (b : ℕ) → b < 16 → get_or t b 0 ≡ get_or s b 0 ⊕ gathered (byte_at w src (c + b)) xs n
-
--- d, where s stands from index `at` on
-abbrev pub put64 : List ℕ → ℕ → Chunk64 → List ℕ
-put64 d at s = put (put (put (put d at s.a 0 16) (at + 16) s.b 0 16) (at + 32) s.c 0 16) (at + 48) s.d 0 16
 
 -- f c, .., f (c + n - 1) were written from index at + c on, and nothing else changed
 pub record Written (f : ℕ → ℕ) (at c n : ℕ) (p p' : List ℕ) : Type 0 where

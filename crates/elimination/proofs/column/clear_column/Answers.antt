@@ -1,73 +1,60 @@
 -- `elimination::column::clear_column` meets its contract.
 -- Assumes nothing.
-use mathlib.Core.Path.{◌≡◌, refl, ap, ◌∙◌}
+use mathlib.Core.Bool.{false}
+use mathlib.Core.Path.{◌≡◌, refl, sym, ap, ◌∙◌}
 use Prim.Native.Nat.{◌+◌, ◌≤◌}
 use native.Mathlib.Omega.{arith}
-use Rattle.elimination.specs.Column.{add_row_where}
-use Rattle.elimination.proofs.FitsLaws.{rows_again, fits_again}
-use Rattle.elimination.proofs.ColumnLaws.{has_pivot_ne, has_pivot-next, add_row_where-first, add_row_where-one, add_row_where_on}
+use Rattle.elimination.specs.Column.{add_row_where, has_pivot}
+use Rattle.elimination.proofs.FitsLaws.{row-end, fits_again}
+use Rattle.elimination.proofs.ColumnLaws.{has_pivot_own, has_pivot_other, has_pivot_ahead, add_row_where-one, add_row_where-stays}
 use Rattle.elimination.proofs.column.clear_column.Goals as goal
-
-pub next_with_pivot-j-requires : goal.next_with_pivot-j-requires
-next_with_pivot-j-requires c = let pre = c.requires in record { fits_rows = pre.fits.in_rows; p_bound = (pre.p_bound.0, omega arith) }
+use Rattle.elimination.proofs.column.clear_column.Goals.{then-j-r+then-bit_at, else-j-r, else-j-r-via-then-j-r+else-bit_at, else-j-r-via-else-j-r}
 
 pub loop-j-init : goal.loop-j-init
-loop-j-init c =
-    let t = c.next_with_pivot-j.ensures in
-    record {
-      up_to = t.up_to;
-      here = t.here;
-      rows-length = refl;
-      rhs-length = refl;
-      rows-added = add_row_where-first _ _ _ _ _ _ _ t;
-      rhs-added = add_row_where-first _ _ _ _ _ _ _ t;
-    }
+unfolding add_row_where
+loop-j-init c = record { rows = refl; rhs = refl }
+
+pub overflow_mul-j : goal.overflow_mul-j
+overflow_mul-j c = omega (arith, row-end c.requires.fits.in_rows _ c.loop-j-test.true)
+
+pub bit_at-requires : goal.bit_at-requires
+bit_at-requires c = omega (arith, row-end c.requires.fits.in_rows _ c.loop-j-test.true)
 
 pub add_row-requires : goal.add_row-requires
 add_row-requires c =
-    let inv = c.loop-j.invariant in
-    let inside = c.loop-j-test.true in
     let pre = c.requires in
-    record { fits = fits_again inv.rows-length inv.rhs-length pre.fits; r_lt_rows = (pre.p_bound.1, inside); r_nonzero = has_pivot_ne _ _ _ _ _ (inv.here inside) }
-
-pub overflow_add-j : goal.overflow_add-j
-overflow_add-j c = omega (arith, c.requires.fits.in_rows.few)
-
-pub next_with_pivot-j-requires-in-loop-j : goal.next_with_pivot-j-requires-in-loop-j
-next_with_pivot-j-requires-in-loop-j c =
-    let pre = c.requires in
-    record { fits_rows = rows_again (c.add_row.auto.rows ∙ c.loop-j.invariant.rows-length) pre.fits.in_rows; p_bound = (pre.p_bound.0, omega (arith, c.loop-j-test.true)) }
-
-pub loop-j-smaller : goal.loop-j-smaller
-loop-j-smaller c = omega (arith, c.next_with_pivot-j-in-loop-j.ensures.from)
+    record { fits = fits_again c.loop-j.auto.rows c.loop-j.auto.rhs pre.fits; r_lt_rows = (pre.p_bound.1, c.loop-j-test.true); r_nonzero = λ e. c.if-j-r.true (sym e) }
 
 pub loop-j-preserved : goal.loop-j-preserved
 loop-j-preserved c =
-    let s = c.args.s in
-    let inv = c.loop-j.invariant in
-    let call = c.add_row in
-    let next = c.next_with_pivot-j-in-loop-j.ensures in
+    let a = c.args in
+    let s = a.s in
+    let now = c.loop-j in
+    let inv = now.invariant in
     let small : s.words ≤ s.words + 1 = omega arith in
-    let here = inv.here c.loop-j-test.true in
-    let rows = add_row_where-one _ _ _ _ _ _ _ _ here inv.rows-added call.ensures.rows_after in
-    let rhs = add_row_where-one _ _ _ _ _ _ _ _ here inv.rhs-added call.ensures.rhs_after in
-    record {
-      up_to = next.up_to;
-      here = has_pivot-next _ _ _ _ _ _ _ _ _ small rows next;
-      rows-length = call.auto.rows ∙ inv.rows-length;
-      rhs-length = call.auto.rhs ∙ inv.rhs-length;
-      rows-added = add_row_where_on _ _ _ _ _ _ _ _ _ _ _ _ _ small rows next rows;
-      rhs-added = add_row_where_on _ _ _ _ _ _ _ _ _ _ _ _ _ small rows next rhs;
-    }
-
-pub shape_of-rows : goal.shape_of-rows
-shape_of-rows c = c.loop-j.invariant.rows-length
-
-pub shape_of-rhs : goal.shape_of-rhs
-shape_of-rhs c = c.loop-j.invariant.rhs-length
+    let as_before = has_pivot_ahead a.rows.now now.rows (s.words + 1) s.words a.r a.p now.j now.j small inv.rows (omega arith) in
+    let other = has_pivot_other now.rows (s.words + 1) a.r a.p now.j in
+    elim c.if-j-r.branch [
+      | then-j-r+then-bit_at w ↦
+          let here = sym as_before ∙ other w.if-j-r.true ∙ sym w.bit_at.ensures ∙ w.if-bit_at.true in
+          record {
+            rows = add_row_where-one _ _ _ _ _ _ _ _ here inv.rows (w.rows-is ∙ w.add_row.ensures.rows_after);
+            rhs = add_row_where-one _ _ _ _ _ _ _ _ here inv.rhs (w.rhs-is ∙ w.add_row.ensures.rhs_after);
+          }
+      | else-j-r w ↦
+          let here : has_pivot a.rows.now (s.words + 1) a.r a.p now.j ≡ false =
+          elim w.else-j-r.branch [
+            | else-j-r-via-then-j-r+else-bit_at v ↦ sym as_before ∙ other v.if-j-r.true ∙ sym v.bit_at.ensures ∙ v.if-bit_at.false
+            | else-j-r-via-else-j-r v ↦ has_pivot_own _ _ _ _ _ v.if-j-r.false
+          ] in
+          record {
+            rows = w.rows-is ∙ add_row_where-stays _ _ _ _ _ _ _ here inv.rows;
+            rhs = w.rhs-is ∙ add_row_where-stays _ _ _ _ _ _ _ here inv.rhs;
+          }
+    ]
 
 pub returns : goal.returns
 returns c =
-    let l = c.loop-j in
-    let e : l.j ≡ c.args.s.rows = omega arith in
-    record { rows_after = l.invariant.rows-added ∙ ap (add_row_where _ _ _ _ _) e; rhs_after = l.invariant.rhs-added ∙ ap (add_row_where _ _ _ _ _) e }
+    let inv = c.loop-j.invariant in
+    let e : c.loop-j.j ≡ c.args.s.rows = omega arith in
+    record { rows_after = inv.rows ∙ ap (add_row_where _ _ _ _ _) e; rhs_after = inv.rhs ∙ ap (add_row_where _ _ _ _ _) e }

@@ -1,53 +1,29 @@
--- `elimination::forward::clear_active` meets its contract. The invariant: the solutions are those of the start, and place i of the list has one of the rows.
+-- `elimination::forward::clear_active` meets its contract. The invariant: the solutions are those of the start.
 -- Assumes nothing.
-use native.Mathlib.Omega.{arith}
-use Rattle.elimination.proofs.FitsLaws.{rows_again}
-use Rattle.elimination.proofs.Kept.{kept_refl, kept_more, kept-fits}
+use mathlib.Core.Path.{sym, ◌∙◌}
+use Rattle.elimination.proofs.FitsLaws.{rows_again, fits_again}
+use Rattle.elimination.proofs.SystemLaws.{same_refl, same_trans, add_same}
 use Rattle.elimination.proofs.forward.clear_active.Goals as goal
-
-pub next_active-i-requires : goal.next_active-i-requires
-next_active-i-requires c = record { fits_rows = c.requires.fits.in_rows; p_bound = (c.requires.p_bound.0, (omega arith, c.requires.p_bound.1.1)) }
+use Rattle.elimination.proofs.forward.clear_active.Goals.{then-has_unknown+then-j-r, then-has_unknown+else-j-r, else-has_unknown}
 
 pub loop-i-init : goal.loop-i-init
-loop-i-init c = let t = c.next_active-i.ensures in (t.1.0, (t.1.1, kept_refl))
+loop-i-init c = same_refl
 
-pub offset_bounds-active-i : goal.offset_bounds-active-i
-offset_bounds-active-i c = omega (arith, c.requires.p_bound.1.1)
+pub has_unknown-requires : goal.has_unknown-requires
+has_unknown-requires c = record { fits_rows = rows_again c.loop-i.auto.rows c.requires.fits.in_rows; p_bound = c.requires.p_bound.0 }
 
-pub bounds-active-i : goal.bounds-active-i
-bounds-active-i c = omega (arith, c.requires.p_bound.1.1)
-
-pub add_to_active-place-requires : goal.add_to_active-place-requires
-add_to_active-place-requires c = let inv = c.loop-i.invariant in record { fits = kept-fits inv.1.1 c.requires.fits; r_lt_rows = (c.requires.p_bound.1.0, inv.1.0 c.loop-i-test.true) }
-
-pub overflow_add-i : goal.overflow_add-i
-overflow_add-i c = omega (arith, c.requires.p_bound.1.1)
-
-pub next_active-i-requires-in-loop-i : goal.next_active-i-requires-in-loop-i
-next_active-i-requires-in-loop-i c = record { fits_rows = rows_again c.add_to_active-place.auto.rows (kept-fits c.loop-i.invariant.1.1 c.requires.fits).in_rows; p_bound = (c.requires.p_bound.0, (omega (arith, c.loop-i-test.true), c.requires.p_bound.1.1)) }
-
-pub loop-i-smaller : goal.loop-i-smaller
-loop-i-smaller c = omega (arith, c.next_active-i-in-loop-i.ensures.0, c.loop-i-test.true)
+pub add_row-requires : goal.add_row-requires
+add_row-requires c = record { fits = fits_again c.loop-i.auto.rows c.loop-i.auto.rhs c.requires.fits; r_lt_rows = (c.requires.p_bound.1.0, c.has_unknown.ensures c.if-has_unknown.true); r_nonzero = λ e. c.if-j-r.false (sym e) }
 
 pub loop-i-preserved : goal.loop-i-preserved
 loop-i-preserved c =
-    let next = c.next_active-i-in-loop-i.ensures in
-    let call = c.add_to_active-place in (next.1.0, (next.1.1, kept_more c.loop-i.invariant.1.1 call.auto.rows call.auto.rhs call.ensures))
-
-pub offset_bounds-weights-r : goal.offset_bounds-weights-r
-offset_bounds-weights-r c = omega (arith, c.requires.p_bound.1.0, c.requires.fits.in_rows.few)
-
-pub bounds-weights-r : goal.bounds-weights-r
-bounds-weights-r c = omega (arith, c.requires.p_bound.1.0, c.requires.fits.in_rows.few)
-
-pub remove_active-requires : goal.remove_active-requires
-remove_active-requires c = c.requires.p_bound.1.1
-
-pub shape_of-rows : goal.shape_of-rows
-shape_of-rows c = c.loop-i.invariant.1.1.rows
-
-pub shape_of-rhs : goal.shape_of-rhs
-shape_of-rhs c = c.loop-i.invariant.1.1.rhs
-
-pub returns : goal.returns
-returns c = record { upper_bound = c.remove_active.ensures; same_solutions = c.loop-i.invariant.1.1.same }
+    let inv = c.loop-i.invariant in
+    let pre = c.requires in
+    let fits = fits_again c.loop-i.auto.rows c.loop-i.auto.rhs pre.fits in
+    elim c.if-has_unknown.branch [
+      | then-has_unknown+then-j-r w ↦ rw (w.rows-is, w.rhs-is) inv
+      | then-has_unknown+else-j-r w ↦
+          same_trans inv (add_same _ _ _ _ _ _ _ _ _ pre.p_bound.1.0 (c.has_unknown.ensures w.if-has_unknown.true) w.if-j-r.false fits.in_rows.within fits.in_rhs
+          (w.rows-is ∙ w.add_row.ensures.rows_after) (w.rhs-is ∙ w.add_row.ensures.rhs_after))
+      | else-has_unknown w ↦ rw (w.rows-is, w.rhs-is) inv
+    ]

@@ -1,32 +1,19 @@
--- `elimination::weights::row_weights` meets its contract, which says nothing of the weights.
+-- `elimination::weights::row_weights` meets its contract, which says nothing of the weights: a weight fits 16 bits.
 -- Assumes nothing.
 use native.Mathlib.Omega.{arith}
-use Rattle.elimination.proofs.FitsLaws.{row-end}
+use Prim.Native.Nat.{ℕ, ◌+◌, ◌-◌, ◌*◌, ◌≤◌}
+use lib.ListN.{get_or, take, drop, length-take}
+use Rattle.std.specs.Int.Count.{ones}
+use Rattle.std.proofs.lemmas.List.Elements.{All-from_get_or, All-take, All-drop}
+use Rattle.std.proofs.lemmas.List.Sums.{sum_by-le}
+use Rattle.std.proofs.lemmas.Nat.{ones-le}
 use Rattle.elimination.proofs.weights.row_weights.Goals as goal
 
-pub overflow_add-stride : goal.overflow_add-stride
-overflow_add-stride c = omega (arith, c.requires.short)
-
-pub overflow_mul-j : goal.overflow_mul-j
-overflow_mul-j c = omega (arith, row-end c.requires _ c.loop-j-test.true)
-
-pub row_weight-w-requires : goal.row_weight-w-requires
-row_weight-w-requires c = omega (arith, row-end c.requires _ c.loop-j-test.true, c.requires.short)
-
-pub offset_bounds-weights-j : goal.offset_bounds-weights-j
-offset_bounds-weights-j c = omega (arith, c.requires.few)
-
-pub bounds-weights-j : goal.bounds-weights-j
-bounds-weights-j c = omega (arith, c.requires.few)
-
 pub overflow_cast-weights : goal.overflow_cast-weights
-overflow_cast-weights c = omega (arith, c.requires.short)
-
-pub offset_bounds-weights-j-else-w-eq0 : goal.offset_bounds-weights-j-else-w-eq0
-offset_bounds-weights-j-else-w-eq0 c = omega (arith, c.requires.few)
-
-pub bounds-weights-j-else-w-eq0 : goal.bounds-weights-j-else-w-eq0
-bounds-weights-j-else-w-eq0 c = omega (arith, c.requires.few)
-
-pub overflow_add-j : goal.overflow_add-j
-overflow_add-j c = omega (arith, c.requires.few)
+overflow_cast-weights c =
+    let l = c.args.rows.now in
+    let base : ℕ = c.loop-j.j * (c.args.s.words + 1) in
+    let n : ℕ = base + c.args.s.words - base in
+    let part = take n (drop base l) in
+    let light = sum_by-le ones 64 part (All-take (λ x. ones x ≤ 64) n (drop base l) (All-drop (λ x. ones x ≤ 64) base l (All-from_get_or (λ x. ones x ≤ 64) l 0 (λ k h. ones-le 64 (get_or l k 0) (omega (arith, c.type_inv.rows k)))))) in
+    omega (arith, light, length-take n (drop base l), c.requires.short, c.row_weight-w.ensures)

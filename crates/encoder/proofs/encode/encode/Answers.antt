@@ -24,7 +24,7 @@ unfolding encode_refusal
 sizes c = ready _ _ _ _ _ (sym c.in_ok-check_encoder.ensures)
 
 pub lay-shape-requires : goal.lay-shape-requires
-lay-shape-requires c = let r = sizes (goal.at.lay-shape-requires c).In_ok-check_encoder in record { known = (r.known, r.sized.most); blank = refl }
+lay-shape-requires c = let r = sizes (goal.at.lay-shape-requires c).In_ok-check_encoder in record { known = (r.known, r.sized.most); blank = c.new-table.ensures }
 
 pub encode_sized-requires : goal.encode_sized-requires
 encode_sized-requires c =

@@ -3,10 +3,9 @@
 use Rattle.std.proofs.Common.{arith}
 use Rattle.encoder.proofs.ClassTable.{entered-full, entered-room}
 use Rattle.encoder.proofs.positions.enter.Goals as goal
-use Rattle.encoder.proofs.positions.enter.Goals.{After-remainder-r}
 
 pub returns-then-n-ge-MAX_POSITIONS : goal.returns-then-n-ge-MAX_POSITIONS
-returns-then-n-ge-MAX_POSITIONS c = entered-full _ _ _ _ _ _ _ _ _ c.remainder-r.ensures.is c.quotient-d.ensures c.wide-n.ensures.0 (omega arith)
+returns-then-n-ge-MAX_POSITIONS c = entered-full _ _ _ _ _ _ _ _ _ c.divided-d.ensures.remainder c.divided-d.ensures.quotient c.from-n.ensures (omega arith)
 
 pub returns : goal.returns
-returns c = entered-room _ _ _ _ _ _ _ _ _ c.remainder-r.ensures.is c.quotient-d.ensures c.wide-n.ensures.0 (omega arith)
+returns c = entered-room _ _ _ _ _ _ _ _ _ c.divided-d.ensures.remainder c.divided-d.ensures.quotient c.from-n.ensures (omega arith)

@@ -1,9 +1,9 @@
 -- `encoder::positions::enter_rows` meets its contract: the addresses of `row` table rows are entered.
 -- Assumes nothing.
-use Rattle.std.proofs.Common.{◌≡◌, ℕ, length, refl, ap, ◌∙◌, arith}
+use Rattle.std.proofs.Common.{◌≡◌, ℕ, refl, ap, ◌∙◌, arith}
 use Rattle.ccsds.specs.Tables.{code_of}
-use Rattle.encoder.specs.inner.Positions.{table_entered, table_size}
-use Rattle.encoder.proofs.ClassTable.{row_more, table_size_lem, all_laid}
+use Rattle.encoder.specs.inner.Positions.{table_entered}
+use Rattle.encoder.proofs.ClassTable.{row_more, all_laid}
 use Rattle.encoder.proofs.positions.enter_rows.Goals as goal
 
 pub loop-row-init : goal.loop-row-init
@@ -18,5 +18,4 @@ returns c =
     let s = c.requires.shaped.0 in
     let e : c.loop-row.row ≡ c.args.s.rows = omega arith in
     let t = c.loop-row.invariant ∙ ap (λ (n : ℕ). table_entered (code_of c.args.s.number) n c.args.table.now) e in
-    let size : length c.args.table.now ≡ table_size = omega arith in
-    all_laid _ s.known _ s.within c.requires.shaped.1 t (ap length t ∙ table_size_lem _ _ _ ∙ size)
+    all_laid _ s.known _ s.within c.requires.shaped.1 t

@@ -4,10 +4,10 @@ use Rattle.std.proofs.Common.{arith}
 use Rattle.peeling.proofs.peel.advance.Goals as goal
 
 pub put_off-requires : goal.put_off-requires
-put_off-requires c = let p = c.requires in record { layout_of = p.table.shaped.given; cursor_bound = p.cursor_bound.0; reached = p.reached }
+put_off-requires c = let p = c.requires in record { cursor_bound = p.cursor_bound; reached = p.reached }
 
 pub try_row-requires : goal.try_row-requires
 try_row-requires c =
     let p = c.requires in
-    let h = c.if-r-l.false in
-    record { table = p.table; xs_len = p.xs_len; r_bound = (omega (arith, p.table.shaped.given.m, h), p.cursor_bound.1 (omega (arith, h))); reached = p.reached }
+    let r = rw c.in-Some.is at p.row in
+    record { r_bound = (omega (arith, c.args.rows.now.laid.shaped.given.m, r.0), r.1); reached = p.reached }

@@ -6,7 +6,7 @@ use borrow.Author.Tests.{eqb-false}
 use Rattle.peeling.specs.States.{is_known}
 use Rattle.peeling.specs.Peel.{AllKnownIs}
 use Rattle.peeling.proofs.peel.none_missing.Goals as goal
-use Rattle.peeling.proofs.peel.none_missing.Goals.{else-states-i-eq-KNOWN, then-states-i-eq-KNOWN}
+use Rattle.peeling.proofs.peel.none_missing.Goals.{else-state-eq-KNOWN, then-state-eq-KNOWN}
 use Rattle.peeling.proofs.peel.none_missing.Invariants.{KnownTo}
 
 module _ {states : List ℕ} {i k : ℕ} (h : KnownTo states i k) where
@@ -38,16 +38,16 @@ all_known {i = i} {k} {n} h e z false t =
         go (yes l) = l
         go (no l) = absurd (d (omega (arith, h.few)))
 
-pub loop-i-init : goal.loop-i-init
-loop-i-init c = (omega arith, record { few = omega arith; all = λ e p h. absurd (omega arith); some = λ h. absurd (omega arith) })
+pub loop-state-init : goal.loop-state-init
+loop-state-init c = record { few = omega arith; all = λ e p h. absurd (omega arith); some = λ h. absurd (omega arith) }
 
 pub overflow_add-known : goal.overflow_add-known
-overflow_add-known c = omega (arith, c.loop-i.invariant.1.few)
+overflow_add-known c = omega (arith, c.loop-state.invariant.few)
 
-pub loop-i-preserved : goal.loop-i-preserved
-loop-i-preserved c =
-    let l = c.loop-i in
-    (omega arith, elim c.if-states-i-eq-KNOWN.branch [ then-states-i-eq-KNOWN v ↦ known-one l.invariant.1 v.if-states-i-eq-KNOWN.true v.known-is | else-states-i-eq-KNOWN v ↦ known-other l.invariant.1 v.if-states-i-eq-KNOWN.false v.known-is ])
+pub loop-state-preserved : goal.loop-state-preserved
+loop-state-preserved c =
+    let l = c.loop-state in
+    elim c.if-state-eq-KNOWN.branch [ then-state-eq-KNOWN v ↦ known-one l.invariant v.if-state-eq-KNOWN.true v.known-is | else-state-eq-KNOWN v ↦ known-other l.invariant v.if-state-eq-KNOWN.false v.known-is ]
 
 pub returns : goal.returns
-returns c = all_known c.loop-i.invariant.1 (omega arith) refl _ refl
+returns c = all_known c.loop-state.invariant (omega arith) refl _ refl

@@ -1,34 +1,25 @@
 -- `peeling::peel::single` meets its contract.
 -- Assumes nothing.
-use Rattle.std.proofs.Common.{◌≡◌, ℕ, ◌+◌, cond, eqb, get_or, ap, ◌∙◌, arith}
-use Rattle.peeling.proofs.OpenLaws.{seen_none, seen_more, seen_all}
+use Rattle.std.proofs.Common.{ℕ, sym, ap, ◌∙◌, subst, arith}
+use Rattle.peeling.specs.Peel.{OnlyOpen}
+use Rattle.peeling.specs.Plan.{kind_of}
+use Rattle.peeling.proofs.OpenLaws.{seen_none, seen_open, seen_closed, seen_only}
 use Rattle.peeling.proofs.peel.single.Goals as goal
-use Rattle.peeling.proofs.peel.single.Goals.{After-wide-x}
-
--- the position that is read
-read : (c : After-wide-x) → c.wide-x.result ≡ get_or c.args.xs.now c.loop-i.i 0
-read c = c.wide-x.ensures.0
+use Rattle.peeling.proofs.peel.single.Goals.{then-plan-wide, else-plan-wide}
 
 pub loop-i-init : goal.loop-i-init
-loop-i-init c = (omega arith, seen_none _ _)
-
-pub offset_bounds-plan-x : goal.offset_bounds-plan-x
-offset_bounds-plan-x c = omega (arith, read c, c.requires.by_index _ c.loop-i-test.true)
-
-pub bounds-plan-x : goal.bounds-plan-x
-bounds-plan-x c = omega (arith, read (goal.at.bounds-plan-x c).After-wide-x, c.requires.by_index _ c.loop-i-test.true)
-
-pub overflow_add-found : goal.overflow_add-found
-overflow_add-found c = omega (arith, c.loop-i.invariant.1.few)
+loop-i-init c = seen_none _ _ _
 
 pub loop-i-preserved : goal.loop-i-preserved
 loop-i-preserved c =
-    let l = c.loop-i in
-    let plan = c.args.plan.now in (
-      omega arith,
-      seen_more l.invariant.1 _ _ (c.choose-at.ensures ∙ ap (λ (x : ℕ). cond (eqb (get_or plan x 0) 65535) l.i l.at) (read (goal.at.loop-i-preserved c).After-wide-x))
-          (c.choose-found.ensures ∙ ap (λ (x : ℕ). cond (eqb (get_or plan x 0) 65535) (l.found + 1) l.found) (read (goal.at.loop-i-preserved c).After-wide-x)),
-    )
+    let F = c.loop-i.invariant in
+    let e = ap (kind_of c.args.plan.now) c.wide.ensures.0 in
+    elim c.if-plan-wide.branch [
+      | then-plan-wide v ↦ rw (v.at-is, v.found-is) (seen_open F (sym e ∙ v.if-plan-wide.true))
+      | else-plan-wide v ↦ rw (v.at-is, v.found-is) (seen_closed F (λ o. v.if-plan-wide.false (e ∙ o)))
+    ]
 
-pub returns : goal.returns
-returns c = seen_all c.loop-i.invariant.1 _ _ (omega arith) c.requires.n_le_max_positions.0 c.choose.ensures
+pub returns-then-found-eq1 : goal.returns-then-found-eq1
+returns-then-found-eq1 c =
+    let l = c.loop-i in
+    subst (λ (n : ℕ). OnlyOpen c.args.plan.now c.args.xs.now n l.at) (omega arith) (seen_only l.invariant c.if-found-eq1.true)

@@ -7,4 +7,4 @@ pub returns : goal.returns
 returns c =
     let a = c.args in
     expected_reads a.w a.l.k a.l.m a.protocol a.lsc a.s.now c.requires.0 c.pair.ensures c.requires.1
-    (c.is_header.ensures c.if-not-is_header.false) c.symbol_after-symbol.ensures c.if-symbol-eq0.false
+    (c.is_header.ensures c.if-not-is_header.false) c.in_ok-symbol.ensures

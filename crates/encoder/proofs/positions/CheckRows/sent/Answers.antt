@@ -9,7 +9,7 @@ pub keep_sent-requires : goal.keep_sent-requires
 keep_sent-requires c =
     let r = c.requires.r_bound.0 in
     let e = c.entries-n.ensures in
-    let b = whole-below c.args.self.now.laid r (count_of c.args.self.now.laid r _ e) _ e c.wide.ensures.0 in
+    let b = whole-below c.args.self.now.laid r (count_of c.args.self.now.laid r _ e) _ e c.from.ensures in
     record { from_le_n = (b.0, omega (arith, e.few)); by_index = b.1 }
 
 pub returns : goal.returns
