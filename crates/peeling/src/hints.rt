@@ -5,7 +5,6 @@ ghost use Rattle.ccsds.specs.inner.Layout.{max_n, max_m, max_rows, max_degree};
 
 use crate::states::KNOWN;
 use ccsds::code::Code;
-use ccsds::tables;
 use ccsds::tables::{Layout, MAX_ADDRESSES, MAX_DEGREE};
 use encoder::positions::CheckRows;
 
@@ -83,7 +82,7 @@ fn open_column(rows: &CheckRows, x: usize, counts: &mut [u8; Code::MAX_M])
 {
     let mut js = [0u16; MAX_DEGREE];
     for &j in column(rows, x, &mut js) {
-        let c = &mut counts[tables::wide(j) % Code::MAX_M];
+        let c = &mut counts[usize::from(j) % Code::MAX_M];
         *c = c.saturating_add(1);
     }
 }
@@ -119,7 +118,7 @@ impl Hints {
     {
         let mut js = [0u16; MAX_DEGREE];
         for &j in column(rows, x, &mut js) {
-            let j = tables::wide(j) % Code::MAX_M;
+            let j = usize::from(j) % Code::MAX_M;
             let c = self.counts[j];
             self.counts[j] = c.saturating_sub(1);
             set_ready(&mut self.ready, j, c == 2);

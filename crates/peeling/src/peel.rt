@@ -12,7 +12,6 @@ ghost use Rattle.peeling.specs.Peel.{NothingUsed, Opened, AllKnownIs, SingleIs, 
 use crate::hints::Hints;
 use crate::plan::{FIRST_PIVOT, OPEN, Plan};
 use crate::states::KNOWN;
-use ccsds::tables;
 use encoder::positions::CheckRows;
 use symbol_sums::MAX_POSITIONS;
 
@@ -81,7 +80,7 @@ fn single(plan: &Plan, xs: &[u16]) -> Option<usize>
     let mut at = 0;
     let mut found: usize = 0;
     for (i, &x) in xs.iter().enumerate() {
-        if plan.kinds[tables::wide(x)] == OPEN {
+        if plan.kinds[usize::from(x)] == OPEN {
             at = i;
             found += 1;
         }
@@ -123,7 +122,7 @@ fn try_row(rows: &CheckRows, r: usize, g: Progress, plan: &mut Plan, symbols: &m
     if plan.used[r] {
         return late;
     }
-    let p = tables::wide(xs[i]);
+    let p = usize::from(xs[i]);
     xs[i] = xs[n - 1];
     settle(rows.shape.w, g.steps, r, p, &xs[..n - 1], plan, symbols);
     Progress {

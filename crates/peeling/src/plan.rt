@@ -1,5 +1,5 @@
-// The plan of a decoding (specs/Plan.antt), and the kinds of positions. A kind is one number, so that one comparison says whether a position is
-// closed before a step.
+// The plan of a decoding (specs/Plan.antt), and the kinds of positions.
+// A kind is a number, not an enum with one: that has twice the bytes, and the stack that the header gives close has no room for 6 KB more.
 ghost use Rattle.std.specs.Prelude.{◌≡◌, length};
 ghost use Rattle.ccsds.specs.inner.Layout.{max_n, max_m};
 

@@ -5,7 +5,7 @@ use Rattle.peeling.specs.Peel.{OnlyOpen}
 use Rattle.peeling.specs.Plan.{kind_of}
 use Rattle.peeling.proofs.OpenLaws.{seen_none, seen_open, seen_closed, seen_only}
 use Rattle.peeling.proofs.peel.single.Goals as goal
-use Rattle.peeling.proofs.peel.single.Goals.{then-plan-wide, else-plan-wide}
+use Rattle.peeling.proofs.peel.single.Goals.{then-plan-from, else-plan-from}
 
 pub loop-i-init : goal.loop-i-init
 loop-i-init c = seen_none _ _ _
@@ -13,10 +13,10 @@ loop-i-init c = seen_none _ _ _
 pub loop-i-preserved : goal.loop-i-preserved
 loop-i-preserved c =
     let F = c.loop-i.invariant in
-    let e = ap (kind_of c.args.plan.now) c.wide.ensures.0 in
-    elim c.if-plan-wide.branch [
-      | then-plan-wide v ↦ rw (v.at-is, v.found-is) (seen_open F (sym e ∙ v.if-plan-wide.true))
-      | else-plan-wide v ↦ rw (v.at-is, v.found-is) (seen_closed F (λ o. v.if-plan-wide.false (e ∙ o)))
+    let e = ap (kind_of c.args.plan.now) c.from.ensures in
+    elim c.if-plan-from.branch [
+      | then-plan-from v ↦ rw (v.at-is, v.found-is) (seen_open F (sym e ∙ v.if-plan-from.true))
+      | else-plan-from v ↦ rw (v.at-is, v.found-is) (seen_closed F (λ o. v.if-plan-from.false (e ∙ o)))
     ]
 
 pub returns-then-found-eq1 : goal.returns-then-found-eq1

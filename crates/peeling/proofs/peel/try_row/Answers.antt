@@ -44,20 +44,20 @@ returns-then-plan-r c = record { state = λ block states S. state_late S _ _; le
 pub settle-requires : goal.settle-requires
 settle-requires c =
     let p = goal.at.settle-requires c in
-    let q = settle_ready c.requires.reached.state c.of_row-n.ensures (row_lt p.Start) (only p.In-Some) (used_as c.args.plan.now c.args.r false c.if-plan-r.false) _ c.wide-p.ensures.0 in
+    let q = settle_ready c.requires.reached.state c.of_row-n.ensures (row_lt p.Start) (only p.In-Some) (used_as c.args.plan.now c.args.r false c.if-plan-r.false) _ c.from-p.ensures in
     record { t_lt_max_m = q.0; w_in_bounds = q.1.0; by_index = q.1.1 }
 
 pub early_steps-requires : goal.early_steps-requires
 early_steps-requires c =
     let p = goal.at.early_steps-requires c in
-    (settle_ready c.requires.reached.state c.of_row-n.ensures (row_lt p.Start) (only p.In-Some) (used_as c.args.plan.now c.args.r false c.if-plan-r.false) _ c.wide-p.ensures.0).0.0
+    (settle_ready c.requires.reached.state c.of_row-n.ensures (row_lt p.Start) (only p.In-Some) (used_as c.args.plan.now c.args.r false c.if-plan-r.false) _ c.from-p.ensures).0.0
 
 pub returns : goal.returns
 returns c =
     let p = goal.at.returns c in
     record {
-      state = λ block states S. state_settled S c.of_row-n.ensures (row_lt p.Start) (only p.In-Some) (used_as c.args.plan.now c.args.r false c.if-plan-r.false) _ c.wide-p.ensures.0 _ _ _ c.settle.ensures.made c.settle.ensures.replaced
+      state = λ block states S. state_settled S c.of_row-n.ensures (row_lt p.Start) (only p.In-Some) (used_as c.args.plan.now c.args.r false c.if-plan-r.false) _ c.from-p.ensures _ _ _ c.settle.ensures.made c.settle.ensures.replaced
           c.early_steps.ensures;
       less = omega (arith, c.requires.r_bound.1);
-      last = omega (arith, c.of_row-n.ensures.below _ (only p.In-Some).below, c.wide-p.ensures.0);
+      last = omega (arith, c.of_row-n.ensures.below _ (only p.In-Some).below, c.from-p.ensures);
     }
