@@ -12,10 +12,8 @@ pub fn sum_16(dst: &[u8], at: usize, src: &[u8], from: usize) -> [u8; 16]
     ensures { Sum dst.now at src.now from 16 result }
 {
     let mut t = [0u8; 16];
-    let mut i = 0;
-    while i < 16 {
+    for i in 0..16 {
         t[i] = dst[at + i] ^ src[from + i];
-        i += 1;
     }
     t
 }
@@ -25,10 +23,8 @@ pub fn put_16(dst: &mut [u8], at: usize, t: &[u8; 16])
     requires { (at + 16 ≤ length dst.old) × (length t.now ≡ 16) }
     ensures { dst.new ≡ put dst.old at t.now 0 16 }
 {
-    let mut i = 0;
-    while i < 16 {
+    for i in 0..16 {
         dst[at + i] = t[i];
-        i += 1;
     }
 }
 
@@ -59,10 +55,8 @@ pub fn part_16(src: &[u8], from: usize) -> [u8; 16]
     ensures { Part src.now from 16 result }
 {
     let mut t = [0u8; 16];
-    let mut i = 0;
-    while i < 16 {
+    for i in 0..16 {
         t[i] = src[from + i];
-        i += 1;
     }
     t
 }
@@ -73,27 +67,23 @@ fn add_chunks_64(buf: &mut [u8], at: usize, from: usize, len: usize) -> usize
     requires len_in_bounds { (at + len ≤ length buf.old) × (from + len ≤ length buf.old) }
     ensures { (result ≤ len) × (buf.new ≡ added buf.old at buf.old from result) }
 {
-    let mut i = 0;
-    while len - i >= 64 {
-        add_within_64(buf, at + i, from + i);
-        i += 64;
+    for k in 0..len / 64 {
+        add_within_64(buf, at + 64 * k, from + 64 * k);
     }
-    i
+    len / 64 * 64
 }
 
-// Where `done` of the len bytes are added already, adds as many more as whole chunks of 16 hold; answers how many are added then. It goes on
-// with the same index, so that the loops of add_within keep one.
+// Where `done` of the len bytes are added already, adds as many more as whole chunks of 16 hold; answers how many are added then.
 fn add_chunks_16(buf: &mut [u8], at: usize, from: usize, done: usize, len: usize) -> usize
     requires apart { Apart at from len }
     requires done_le_len { (done ≤ len) × (at + len ≤ length buf.old) × (from + len ≤ length buf.old) }
     ensures { (result ≤ len) × ((d : List ℕ) → buf.old ≡ added d at d from done → buf.new ≡ added d at d from result) }
 {
-    let mut i = done;
-    while len - i >= 16 {
+    for k in 0..(len - done) / 16 {
+        let i = done + 16 * k;
         add_within_16(buf, at + i, from + i);
-        i += 16;
     }
-    i
+    done + (len - done) / 16 * 16
 }
 
 // Adds the rest, one by one.
@@ -102,10 +92,8 @@ fn add_bytes(buf: &mut [u8], at: usize, from: usize, done: usize, len: usize)
     requires done_le_len { (done ≤ len) × (at + len ≤ length buf.old) × (from + len ≤ length buf.old) }
     ensures { (d : List ℕ) → buf.old ≡ added d at d from done → buf.new ≡ added d at d from len }
 {
-    let mut i = done;
-    while i < len {
+    for i in done..len {
         buf[at + i] = buf[at + i] ^ buf[from + i];
-        i += 1;
     }
 }
 
@@ -125,13 +113,11 @@ fn put_chunks(dst: &mut [u8], at: usize, src: &[u8], from: usize, len: usize) ->
     requires { (at + len ≤ length dst.old) × (from + len ≤ length src.now) }
     ensures { (result ≤ len) × (dst.new ≡ put dst.old at src.now from result) }
 {
-    let mut i = 0;
-    while len - i >= 16 {
-        let t = part_16(src, from + i);
-        put_16(dst, at + i, &t);
-        i += 16;
+    for k in 0..len / 16 {
+        let t = part_16(src, from + 16 * k);
+        put_16(dst, at + 16 * k, &t);
     }
-    i
+    len / 16 * 16
 }
 
 // The bytes from the first `done` on, one by one.
@@ -139,14 +125,13 @@ fn put_bytes(dst: &mut [u8], at: usize, src: &[u8], from: usize, done: usize, le
     requires { (done ≤ len) × (at + len ≤ length dst.old) × (from + len ≤ length src.now) }
     ensures { (d : List ℕ) → dst.old ≡ put d at src.now from done → dst.new ≡ put d at src.now from len }
 {
-    let mut i = done;
-    while i < len {
+    for i in done..len {
         dst[at + i] = src[from + i];
-        i += 1;
     }
 }
 
-// Puts len bytes of src, from index `from` on, over those of dst from index `at` on.
+// Puts len bytes of src, from index `from` on, over those of dst from index `at` on. No copy_from_slice: that is a call of memmove, and the archive
+// needs memcpy and memset alone (tests/header/symbols.sh).
 pub fn put_from(dst: &mut [u8], at: usize, src: &[u8], from: usize, len: usize)
     requires { (at + len ≤ length dst.old) × (from + len ≤ length src.now) }
     ensures { dst.new ≡ put dst.old at src.now from len }
@@ -159,22 +144,14 @@ pub fn put_from(dst: &mut [u8], at: usize, src: &[u8], from: usize, len: usize)
 pub fn clear(buf: &mut [u8])
     ensures { buf.new ≡ replicate (length buf.old) 0 }
 {
-    let mut i = 0;
-    while i < buf.len() {
-        buf[i] = 0;
-        i += 1;
-    }
+    buf.fill(0);
 }
 
 // Sets every word to 0.
 pub fn clear_words(buf: &mut [u64])
     ensures { buf.new ≡ replicate (length buf.old) 0 }
 {
-    let mut i = 0;
-    while i < buf.len() {
-        buf[i] = 0;
-        i += 1;
-    }
+    buf.fill(0);
 }
 
 // The len bytes from index `from` are all 0. All of them are read: a loop that may end early is not compiled to vector instructions.
@@ -182,12 +159,5 @@ pub fn all_zero(s: &[u8], from: usize, len: usize) -> bool
     requires { from + len ≤ length s.now }
     ensures { AllZeroIs s.now from len result }
 {
-    let mut all: u8 = 0;
-    let mut i = 0;
-    while i < len {
-        let k = from + i;
-        all = all | s[k];
-        i += 1;
-    }
-    all == 0
+    s[from..from + len].iter().fold(0, |all, x| all | *x) == 0
 }

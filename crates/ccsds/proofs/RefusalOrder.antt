@@ -9,7 +9,9 @@ use lib.Dec.{eqb}
 use borrow.Author.Tests.{eqb-true}
 use Rattle.ccsds.specs.RefusalTable.{Refusal, number_of, order}
 use Rattle.ccsds.specs.RefusalTable as refusal
-use Rattle.ccsds.specs.Refusals.{Conditions, applies, first_in, first_of}
+use Rattle.ccsds.specs.declared.refusal.Refusal as Answer
+use Rattle.ccsds.specs.declared.refusal.Refusal.TheVariants.{Code, Width, Label, Length, Header, Extension, Parameters, Foreign, Position, Symbol, Mark, Conflict, Fill, Idle, Narrow, Tiles, Overfull, Number, Kind}
+use Rattle.ccsds.specs.Refusals.{Conditions, applies, first_in, first_of, refusal_number}
 
 -- the number of the first condition that holds, in the sequence of the list
 unfoldable pub chain : Conditions → ℕ
@@ -115,6 +117,27 @@ no_zero refusal.idle e = omega arith
 no_zero refusal.symbol e = omega arith
 no_zero refusal.mark e = omega arith
 no_zero refusal.conflict e = omega arith
+
+pub numbered : (r : Answer.Refusal) → refusal_number r ≡ 0 → ⊥
+numbered Code e = omega arith
+numbered Width e = omega arith
+numbered Label e = omega arith
+numbered Length e = omega arith
+numbered Header e = omega arith
+numbered Extension e = omega arith
+numbered Parameters e = omega arith
+numbered Foreign e = omega arith
+numbered Position e = omega arith
+numbered Symbol e = omega arith
+numbered Mark e = omega arith
+numbered Conflict e = omega arith
+numbered Fill e = omega arith
+numbered Idle e = omega arith
+numbered Narrow e = omega arith
+numbered Tiles e = omega arith
+numbered Overfull e = omega arith
+numbered Number e = omega arith
+numbered Kind e = omega arith
 
 or_else_lem : (n next : ℕ) → (n ≡ 0 → ⊥) → n ≡ or_else n next
 or_else_lem zero next h = absurd (h refl)

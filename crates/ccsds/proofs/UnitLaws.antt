@@ -47,6 +47,11 @@ pub unit_length_lem : (c : Params) (w protocol lsc lwc : ℕ) (symbol : List ℕ
 unfolding unit_of
 unit_length_lem c w protocol lsc lwc symbol = simp length-append (omega (arith, header-length protocol lsc lwc))
 
+-- the length of a unit, by its code's k and n
+pub size_of : (c : Params) (w : ℕ) {k n : ℕ} → k ≡ c.k → n ≡ n_of c → 6 + length (extension_of w k n) + w ≡ unit_length c w
+unfolding unit_length
+size_of c w p q = ap₂ (λ (k n : ℕ). 6 + length (extension_of w k n) + w) p q
+
 -- a code's n and the extension of its units, by its layout
 module _ {c : Params} {l : Layout} (g : LayoutOf c l) where
   pub n_of_lem : l.k + l.m ≡ n_of c
@@ -54,10 +59,6 @@ module _ {c : Params} {l : Layout} (g : LayoutOf c l) where
 
   pub extension_of_lem : (w : ℕ) → extension_of w l.k (l.k + l.m) ≡ extension_of w c.k (n_of c)
   extension_of_lem w = ap₂ (extension_of w) g.k n_of_lem
-
-  pub length_of : (w : ℕ) → 6 + length (extension_of w l.k (l.k + l.m)) + w ≡ unit_length c w
-  unfolding unit_length
-  length_of w = ap (λ (x : List ℕ). 6 + length x + w) (extension_of_lem w)
 
 -- the size of the output, for a code and a width that are not refused
 pub unit_right : (number w : ℕ) → wrong_code number ≡ false → wrong_width w ≡ false → unit_bytes number w ≡ unit_length (code_of number) w

@@ -1,10 +1,12 @@
 -- Document 01, "Why a call is turned down": the conditions, which of them decides, what a call answers, and what it leaves in a lent buffer.
 -- Assumes nothing.
-use Rattle.std.specs.Prelude.{Bool, true, false, cond, not, ◌||◌, List, [], ◌∷◌, ◌++◌, ℕ, zero, suc, ◌*◌, eqb, ltb}
+use Rattle.std.specs.Prelude.{Result, Ok, Err, Bool, true, false, cond, not, ◌||◌, List, [], ◌∷◌, ◌++◌, ℕ, zero, suc, ◌*◌, eqb, ltb}
 use Rattle.ccsds.specs.Tables.{code_of, is_code}
 use Rattle.ccsds.specs.Fill.{wrong_fill}
 use Rattle.ccsds.specs.RefusalTable.{Refusal, number_of, order}
 use Rattle.ccsds.specs.RefusalTable as refusal
+use Rattle.ccsds.specs.declared.refusal.Refusal as Answer
+use Rattle.ccsds.specs.declared.refusal.Refusal.TheVariants.{Code, Width, Label, Length, Header, Extension, Parameters, Foreign, Position, Symbol, Mark, Conflict, Fill, Idle, Narrow, Tiles, Overfull, Number, Kind}
 
 -- ---- the first that applies
 
@@ -64,11 +66,11 @@ record_conditions number w protocol lsc fill =
 
 -- 1, 2, 13 and 4: with a fill and the lengths of the encoder's two buffers
 abbrev pub encoder_conditions : ℕ → ℕ → ℕ → ℕ → ℕ → Conditions
-encoder_conditions number w fill infoLength parityLength =
+encoder_conditions number w fill info_len parity_len =
     code_conditions number w
     ++ (refusal.fill, wrong_fill (code_of number).k fill)
-    ∷ (refusal.length, wrong_length infoLength (fill * w))
-    ∷ (refusal.length, wrong_length parityLength ((code_of number).m * w))
+    ∷ (refusal.length, wrong_length info_len (fill * w))
+    ∷ (refusal.length, wrong_length parity_len ((code_of number).m * w))
     ∷ []
 
 -- ---- answers and buffers
@@ -97,6 +99,38 @@ refused_for r = refused (number_of r)
 abbrev pub refuse_if : {A : Type 0} → Refusal → Bool → Outcome A → Outcome A
 refuse_if r true o = refused_for r
 refuse_if r false o = o
+
+-- the number of a refusal that a call answers with
+abbrev pub refusal_number : Answer.Refusal → ℕ
+refusal_number Code = 1
+refusal_number Width = 2
+refusal_number Label = 3
+refusal_number Length = 4
+refusal_number Header = 5
+refusal_number Extension = 6
+refusal_number Parameters = 7
+refusal_number Foreign = 8
+refusal_number Position = 9
+refusal_number Symbol = 10
+refusal_number Mark = 11
+refusal_number Conflict = 12
+refusal_number Fill = 13
+refusal_number Idle = 14
+refusal_number Narrow = 15
+refusal_number Tiles = 16
+refusal_number Overfull = 17
+refusal_number Number = 19
+refusal_number Kind = 20
+
+-- what a check answers, by the number of the refusal, 0 for none
+abbrev pub checked_as : Result Unit Answer.Refusal → ℕ
+checked_as (Ok a) = 0
+checked_as (Err r) = refusal_number r
+
+-- what a call answers
+abbrev pub outcome_of : {A : Type 0} → Result A Answer.Refusal → Outcome A
+outcome_of (Ok a) = answered a
+outcome_of (Err r) = refused (refusal_number r)
 
 -- a lent buffer after a call, by the number of the refusal: a refused call leaves it as it was
 abbrev pub afterwards : ℕ → List ℕ → List ℕ → List ℕ

@@ -2,43 +2,31 @@
 ghost use Rattle.std.specs.Prelude.{◌≡◌};
 ghost use Rattle.ccsds.specs.Tables.{code_of};
 ghost use Rattle.ccsds.specs.Fill.{wrong_fill, idle_lwc};
-ghost use Rattle.ccsds.specs.Refusals.{first_of, code_conditions, record_conditions, encoder_conditions, wrong_label, wrong_position};
-ghost use Rattle.ccsds.specs.inner.Layout.{LayoutOf};
+ghost use Rattle.ccsds.specs.Refusals.{checked_as, first_of, code_conditions, record_conditions, encoder_conditions, wrong_label, wrong_position};
 
 use crate::code::Code;
-use crate::tables::Layout;
-use crate::{refusal, tables};
+use crate::refusal::Refusal;
+use crate::tables;
+use crate::tables::CodeLayout;
 
 pub fn wrong_label(protocol: usize, lsc: usize) -> bool
     ensures { result ≡ wrong_label protocol lsc }
 {
-    if lsc == 0 {
-        return true;
-    }
-    if lsc > 65534 {
-        return true;
-    }
-    protocol > 7
+    lsc == 0 || lsc > 65534 || protocol > 7
 }
 
 // Of k.
 pub fn wrong_fill(k: usize, fill: usize) -> bool
     ensures { result ≡ wrong_fill k fill }
 {
-    if fill == 0 {
-        return true;
-    }
-    fill > k
+    fill == 0 || fill > k
 }
 
 // Of n.
 pub fn wrong_position(n: usize, lwc: usize) -> bool
     ensures { result ≡ wrong_position n lwc }
 {
-    if lwc == 0 {
-        return true;
-    }
-    lwc > n
+    lwc == 0 || lwc > n
 }
 
 // Of k: LWC fill + 1 to k.
@@ -54,71 +42,66 @@ pub fn idle_lwc(k: usize, fill: usize, lwc: usize) -> bool
     fill < lwc
 }
 
-// 1 or 2, or 0.
-pub fn check_code(number: usize, w: usize) -> u8
-    ensures { result ≡ first_of (code_conditions number w) }
+// 1 or 2.
+pub fn check_code(number: usize, w: usize) -> Result<(), Refusal>
+    ensures { checked_as result ≡ first_of (code_conditions number w) }
 {
     let code = Code { number };
     if !code.known() {
-        return refusal::CODE;
+        return Err(Refusal::Code);
     }
     if Code::wrong_width(w) {
-        return refusal::WIDTH;
+        return Err(Refusal::Width);
     }
-    0
+    Ok(())
 }
 
-// 1, 2, 3 or 13, or 0: of a block's record and its code's numbers.
+// 1, 2, 3 or 13: of a block's record and its code's numbers.
 pub fn check_record(
-    number: usize,
-    l: Layout,
+    code: CodeLayout,
     w: usize,
     protocol: usize,
     lsc: usize,
     fill: usize,
-) -> u8
-    requires { LayoutOf (code_of number) l }
-    ensures { result ≡ first_of (record_conditions number w protocol lsc fill) }
+) -> Result<(), Refusal>
+    ensures { checked_as result ≡ first_of (record_conditions code.number w protocol lsc fill) }
 {
-    if !tables::is_code(number, l) {
-        return refusal::CODE;
+    if !code.is_code() {
+        return Err(Refusal::Code);
     }
     if Code::wrong_width(w) {
-        return refusal::WIDTH;
+        return Err(Refusal::Width);
     }
     if wrong_label(protocol, lsc) {
-        return refusal::LABEL;
+        return Err(Refusal::Label);
     }
-    if wrong_fill(l.k, fill) {
-        return refusal::FILL;
+    if wrong_fill(code.layout.k, fill) {
+        return Err(Refusal::Fill);
     }
-    0
+    Ok(())
 }
 
-// 1, 2, 13 or 4, or 0: of a fill and the lengths of the encoder's two buffers.
+// 1, 2, 13 or 4: of a fill and the lengths of the encoder's two buffers.
 pub fn check_encoder(
     number: usize,
     w: usize,
     fill: usize,
-    infoLength: usize,
-    parityLength: usize,
-) -> u8
-    ensures { result ≡ first_of (encoder_conditions number w fill infoLength parityLength) }
+    info_len: usize,
+    parity_len: usize,
+) -> Result<(), Refusal>
+    ensures { checked_as result ≡ first_of (encoder_conditions number w fill info_len parity_len) }
 {
-    let earlier = check_code(number, w);
-    if earlier != 0 {
-        return earlier;
-    }
+    check_code(number, w)?;
     let layout = tables::layout_of(number);
-    let paritySize = layout.m * w;
+    let parity_size = layout.m * w;
     if wrong_fill(layout.k, fill) {
-        return refusal::FILL;
+        return Err(Refusal::Fill);
     }
-    if infoLength != fill * w {
-        return refusal::LENGTH;
+    if info_len != fill * w {
+        return Err(Refusal::Length);
     }
-    if parityLength != paritySize {
-        return refusal::LENGTH;
+    if parity_len != parity_size {
+        return Err(Refusal::Length);
     }
-    0
+    Ok(())
 }

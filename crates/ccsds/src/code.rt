@@ -86,10 +86,7 @@ impl Code {
     pub fn wrong_width(w: usize) -> bool
         ensures { result ≡ wrong_width w }
     {
-        if w == 0 {
-            return true;
-        }
-        Self::MAX_WIDTH < w
+        w == 0 || w > Self::MAX_WIDTH
     }
 
     // Symbols of a block.

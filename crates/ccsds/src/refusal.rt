@@ -1,38 +1,55 @@
-// The numbers of the refusals, by the words of document 01's table and of document 02, jobs 2, 3 and 6.
-pub const CODE: u8 = 1;
+// The refusals, by the words of document 01's table and of document 02, jobs 2, 3 and 6.
+ghost use Rattle.std.specs.Prelude.{◌≡◌};
+ghost use Rattle.ccsds.specs.Refusals.{refusal_number};
 
-pub const WIDTH: u8 = 2;
+#[derive(Clone, Copy, Debug, PartialEq, Eq)]
+pub enum Refusal {
+    Code,
+    Width,
+    Label,
+    Length,
+    Header,
+    Extension,
+    Parameters,
+    Foreign,
+    Position,
+    Symbol,
+    Mark,
+    Conflict,
+    Fill,
+    Idle,
+    Narrow,
+    Tiles,
+    Overfull,
+    Number,
+    Kind,
+}
 
-pub const LABEL: u8 = 3;
-
-pub const LENGTH: u8 = 4;
-
-pub const HEADER: u8 = 5;
-
-pub const EXTENSION: u8 = 6;
-
-pub const PARAMETERS: u8 = 7;
-
-pub const FOREIGN: u8 = 8;
-
-pub const POSITION: u8 = 9;
-
-pub const SYMBOL: u8 = 10;
-
-pub const MARK: u8 = 11;
-
-pub const CONFLICT: u8 = 12;
-
-pub const FILL: u8 = 13;
-
-pub const IDLE: u8 = 14;
-
-pub const NARROW: u8 = 15;
-
-pub const TILES: u8 = 16;
-
-pub const OVERFULL: u8 = 17;
-
-pub const NUMBER: u8 = 19;
-
-pub const KIND: u8 = 20;
+impl Refusal {
+    // The refusal's number in the table.
+    pub fn number(self) -> u8
+        ensures { result ≡ refusal_number self }
+    {
+        match self {
+            Refusal::Code => 1,
+            Refusal::Width => 2,
+            Refusal::Label => 3,
+            Refusal::Length => 4,
+            Refusal::Header => 5,
+            Refusal::Extension => 6,
+            Refusal::Parameters => 7,
+            Refusal::Foreign => 8,
+            Refusal::Position => 9,
+            Refusal::Symbol => 10,
+            Refusal::Mark => 11,
+            Refusal::Conflict => 12,
+            Refusal::Fill => 13,
+            Refusal::Idle => 14,
+            Refusal::Narrow => 15,
+            Refusal::Tiles => 16,
+            Refusal::Overfull => 17,
+            Refusal::Number => 19,
+            Refusal::Kind => 20,
+        }
+    }
+}

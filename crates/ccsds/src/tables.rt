@@ -1,7 +1,7 @@
 // Table 4-1, and tables 4-2, 4-3, 4-5, 4-6, 4-8 and 4-9, as constant data. Internal: the crates of this repository call what is here, and a user of the layer has no
 // need to.
 ghost use Rattle.std.specs.Prelude.{◌≡◌, [], ◌<◌, ◌≤◌, length, get_or};
-ghost use Rattle.ccsds.specs.Tables.{code_of, is_code, rows1, rows2, rows4, rows5, rows7, rows8};
+ghost use Rattle.ccsds.specs.Tables.{code_of, is_code};
 ghost use Rattle.ccsds.specs.inner.Layout.{LayoutOf, FrontIs, joined, start_in, max_rows, max_degree, max_addresses};
 
 use crate::code::Code;
@@ -191,12 +191,12 @@ pub fn layout_of(number: usize) -> Layout
     }
 }
 
-// Whether the number is a code's, by its layout: a code has symbols.
-pub fn is_code(number: usize, l: Layout) -> bool
-    requires { LayoutOf (code_of number) l }
-    ensures { result ≡ is_code number }
-{
-    l.k + l.m != 0
+// A code's number with its layout.
+#[derive(Clone, Copy)]
+pub struct CodeLayout {
+    pub number: usize,
+    pub layout: Layout,
+    pub ghost layout_of: { LayoutOf (code_of number) layout },
 }
 
 // A number of 16 bits.
@@ -206,60 +206,13 @@ pub fn wide(x: u16) -> usize
     x as usize
 }
 
-// ---- the addresses of a table, row by row. A read of a constant array copies all of it first, so each is read once, whole.
-
-// The addresses of C1.
-fn c1() -> [u16; 80]
-    ensures { result ≡ joined rows1 }
-{
-    C1
-}
-
-// The addresses of C2.
-fn c2() -> [u16; 72]
-    ensures { result ≡ joined rows2 }
-{
-    C2
-}
-
-// The addresses of C4.
-fn c4() -> [u16; 160]
-    ensures { result ≡ joined rows4 }
-{
-    C4
-}
-
-// The addresses of C5.
-fn c5() -> [u16; 144]
-    ensures { result ≡ joined rows5 }
-{
-    C5
-}
-
-// The addresses of C7.
-fn c7() -> [u16; 432]
-    ensures { result ≡ joined rows7 }
-{
-    C7
-}
-
-// The addresses of C8.
-fn c8() -> [u16; 388]
-    ensures { result ≡ joined rows8 }
-{
-    C8
-}
-
 // Puts xs at the front of an array.
 fn put_front(xs: &[u16], flat: &mut [u16; MAX_ADDRESSES])
     requires { (length xs.now ≤ max_addresses) × (length flat.old ≡ max_addresses) }
     ensures { FrontIs xs.now flat.new }
 {
-    let n = xs.len();
-    let mut i = 0;
-    while i < n {
-        flat[i] = xs[i];
-        i += 1;
+    for (i, x) in xs.iter().enumerate() {
+        flat[i] = *x;
     }
 }
 
@@ -269,30 +222,12 @@ pub fn put_addresses(number: usize, flat: &mut [u16; MAX_ADDRESSES])
     ensures { FrontIs (joined (code_of number).rows) flat.new }
 {
     match number {
-        1 => {
-            let xs = c1();
-            put_front(&xs, flat);
-        }
-        2 => {
-            let xs = c2();
-            put_front(&xs, flat);
-        }
-        4 => {
-            let xs = c4();
-            put_front(&xs, flat);
-        }
-        5 => {
-            let xs = c5();
-            put_front(&xs, flat);
-        }
-        7 => {
-            let xs = c7();
-            put_front(&xs, flat);
-        }
-        8 => {
-            let xs = c8();
-            put_front(&xs, flat);
-        }
+        1 => put_front(&C1, flat),
+        2 => put_front(&C2, flat),
+        4 => put_front(&C4, flat),
+        5 => put_front(&C5, flat),
+        7 => put_front(&C7, flat),
+        8 => put_front(&C8, flat),
         _ => (),
     }
 }
@@ -300,7 +235,8 @@ pub fn put_addresses(number: usize, flat: &mut [u16; MAX_ADDRESSES])
 // Where a row's addresses start in the flat array.
 fn start(row: usize, long: usize, degree: usize, rest: usize) -> usize
     requires { (row ≤ max_rows) × (long ≤ max_rows) × (degree ≤ max_degree) × (rest ≤ max_degree) }
-    ensures { result ≡ start_in row long degree rest }
+    ensures value { result ≡ start_in row long degree rest }
+    ensures room { result ≤ max_addresses }
 {
     if row < long {
         row * degree
@@ -309,21 +245,31 @@ fn start(row: usize, long: usize, degree: usize, rest: usize) -> usize
     }
 }
 
-// How many addresses a table row has.
-pub fn row_degree(number: usize, l: Layout, row: usize) -> usize
-    requires layout_of { LayoutOf (code_of number) l }
-    requires row_in_bounds { row < length (code_of number).rows }
-    ensures { result ≡ length (get_or (code_of number).rows row []) }
-{
-    if row < l.long { l.degree } else { l.rest }
-}
+impl CodeLayout {
+    // Whether the number is a code's: a code has symbols.
+    pub fn is_code(self) -> bool
+        ensures { result ≡ is_code self.number }
+    {
+        self.layout.k + self.layout.m != 0
+    }
 
-// Address i of a table row.
-pub fn address(number: usize, l: Layout, flat: &[u16; MAX_ADDRESSES], row: usize, i: usize) -> usize
-    requires layout_of { LayoutOf (code_of number) l × FrontIs (joined (code_of number).rows) flat.now }
-    requires row_in_bounds { row < length (code_of number).rows }
-    requires i_in_bounds { i < length (get_or (code_of number).rows row []) }
-    ensures { result ≡ get_or (get_or (code_of number).rows row []) i 0 }
-{
-    wide(flat[start(row, l.long, l.degree, l.rest) + i])
+    // How many addresses a table row has.
+    fn degree(self, row: usize) -> usize
+        requires { row < length (code_of self.number).rows }
+        ensures { result ≡ length (get_or (code_of self.number).rows row []) }
+    {
+        let l = self.layout;
+        if row < l.long { l.degree } else { l.rest }
+    }
+
+    // The addresses of a table row.
+    pub fn row(self, flat: &[u16; MAX_ADDRESSES], row: usize) -> &[u16]
+        requires front { FrontIs (joined (code_of self.number).rows) flat.now }
+        requires row_in_bounds { row < length (code_of self.number).rows }
+        ensures { result.now ≡ get_or (code_of self.number).rows row [] }
+    {
+        let l = self.layout;
+        let at = start(row, l.long, l.degree, l.rest);
+        &flat[at..at + self.degree(row)]
+    }
 }

@@ -7,21 +7,30 @@ use crate::code::Code;
 use crate::tables;
 use wire::put;
 
-// The length of the coding parameters' value: k and n have two bytes each in every code, and the seed has one.
-pub fn value_bytes(w: usize, k: usize, n: usize) -> usize
-    requires { Compact w k n }
-    ensures { result ≡ length (value_bytes w k n) }
-{
-    put::sdnv_bytes(w) + 5
+// The coding parameters of a code's units: W has at most two bytes, k and n have two each, in every code.
+#[derive(Clone, Copy)]
+pub struct Coding {
+    pub w: usize,
+    pub k: usize,
+    pub n: usize,
+    pub ghost compact: { Compact w k n },
 }
 
-// The length of a unit with these parameters.
-pub fn unit_length(w: usize, k: usize, n: usize) -> usize
-    requires { Compact w k n }
-    ensures { result ≡ 6 + length (extension_of w k n) + w }
-{
-    let value = value_bytes(w, k, n);
-    7 + put::sdnv_bytes(value) + value + w
+impl Coding {
+    // The length of their value. The seed has one byte.
+    pub fn value_bytes(self) -> usize
+        ensures { result ≡ length (value_bytes self.w self.k self.n) }
+    {
+        put::sdnv_bytes(self.w) + 5
+    }
+
+    // The length of a unit with them.
+    pub fn unit_length(self) -> usize
+        ensures { result ≡ 6 + length (extension_of self.w self.k self.n) + self.w }
+    {
+        let value = self.value_bytes();
+        7 + put::sdnv_bytes(value) + value + self.w
+    }
 }
 
 impl Code {
@@ -36,6 +45,11 @@ impl Code {
             return 0;
         }
         let l = tables::layout_of(self.number);
-        unit_length(w, l.k, l.k + l.m)
+        let c = Coding {
+            w,
+            k: l.k,
+            n: l.k + l.m,
+        };
+        c.unit_length()
     }
 }

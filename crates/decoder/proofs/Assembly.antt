@@ -14,19 +14,21 @@ use Rattle.algebra.specs.Codeword.{Checks, byte_at}
 use Rattle.algebra.specs.Staircase.{staircase}
 use Rattle.peeling.specs.States.{is_known}
 use Rattle.ccsds.specs.Codes.{n_of}
-use Rattle.ccsds.specs.Tables.{code_of, Known}
+use Rattle.ccsds.specs.Tables.{code_of}
 use Rattle.ccsds.proofs.Valid.{valid_of}
 use Rattle.algebra.specs.Unique.{Some, Common}
 use Rattle.decoder.specs.Outcome.{AgreesWith}
 use Rattle.elimination.specs.Consistency.{Consistent, ConsistentIs}
 use Rattle.elimination.specs.Reduced.{pivot_word}
-use Rattle.encoder.specs.inner.Positions.{checks}
-use Rattle.peeling.specs.Plan.{unused_below, pivot_of, Plan, Unsolved}
+use Rattle.encoder.specs.inner.Positions.{checks, Table}
+use Rattle.peeling.proofs.CodeSizes.{layout-rows}
+use Rattle.peeling.specs.Plan.{Arrays, kind_of, unused_below, pivot_of, Unsolved}
 use Rattle.peeling.specs.Values.{Peeled, HoldIs, StepsHold}
 use Rattle.encoder.specs.declared.positions.Shape.{Shape}
+use Rattle.encoder.specs.declared.positions.ClassTable.{ClassTable}
 use Rattle.decoder.specs.Pivots.{Put, AllSolvedIs, DeterminedIs, Readable}
-use Rattle.pivot_equations.specs.Express.{Planned, Room, Places, StepsExpressed, SameFrom}
-use Rattle.pivot_equations.specs.declared.express.Rows.{Rows}
+use Rattle.pivot_equations.specs.Express.{Planned, Reads, Room, Places, StepsExpressed, SameFrom}
+use Rattle.pivot_equations.specs.declared.rows.Rows.{Rows}
 use Rattle.decoder.specs.Equations.{behind, RowsRoom, Solvable, PutIn}
 use Rattle.decoder.specs.MissingPositions.{missing, Cleared, FilledMissing, FillRoom, FilledDetermined, DeterminedAt, DependsOnPivot}
 use Rattle.decoder.specs.Outcome.{Stays, Fills, Leaves, Differs, Outcome}
@@ -79,7 +81,7 @@ module _ (c : Checks) (w : ℕ) (block y states : List ℕ) (same : (p b : ℕ) 
         go i (inr (L, D)) = inr (L, (D.0, (to D.1.0, D.1.1)))
 
 -- what peeling leaves is the same for the symbols that it leaves
-pub peeled-here : {c : Checks} {w : ℕ} {block states plan y : List ℕ} {early steps pivots : ℕ} → Peeled c w block states plan y early steps pivots → Peeled c w y states plan y early steps pivots
+pub peeled-here : {c : Checks} {w : ℕ} {block states : List ℕ} {plan : Arrays} {y : List ℕ} {early steps pivots : ℕ} → Peeled c w block states plan y early steps pivots → Peeled c w y states plan y early steps pivots
 peeled-here L = record {
   made = L.made;
   closed = L.closed;
@@ -121,11 +123,11 @@ module _ (c : Checks) (w : ℕ) (y states s' m' : List ℕ) (sy : length y ≡ c
       below i h = subst (λ (n : ℕ). i < n) (sym sm) h
 
   -- x agrees, and what depends on no pivot was filled
-  pub outcome-some : (x : List ℕ) → AgreesWith c w y states x → (words early : ℕ) (l plan : List ℕ) → length x ≡ c.n * w
-      → ((p : ℕ) → p < c.n → is_known states p ≡ false → DeterminedIs l words early (get_or plan p 0) true → Common w (AgreesWith c w y states) p)
-      → ((p : ℕ) → p < c.n → is_known states p ≡ false → DeterminedIs l words early (get_or plan p 0) false → Differs c w y states x p)
-      → FilledDetermined w early words l plan x states s' m' → Outcome c w y states s' m' true
-  outcome-some x A words early l plan sx f g F = (
+  pub outcome-some : (x : List ℕ) → AgreesWith c w y states x → (r : Rows) (l : List ℕ) (plan : Arrays) → length x ≡ c.n * w
+      → ((p : ℕ) → p < c.n → is_known states p ≡ false → DeterminedIs l r.packed r.early (kind_of plan p) true → Common w (AgreesWith c w y states) p)
+      → ((p : ℕ) → p < c.n → is_known states p ≡ false → DeterminedIs l r.packed r.early (kind_of plan p) false → Differs c w y states x p)
+      → FilledDetermined w r l plan x states s' m' → Outcome c w y states s' m' true
+  outcome-some x A r l plan sx f g F = (
     x,
     record {
       symbols-size = F.symbols-size ∙ sx;
@@ -139,14 +141,14 @@ module _ (c : Checks) (w : ℕ) (y states s' m' : List ℕ) (sy : length y ≡ c
       below : (i : ℕ) → i < c.n → i < length states
       below i h = subst (λ (n : ℕ). i < n) (sym sm) h
 
-      go : (i : ℕ) → i < c.n → is_known states i ≡ false → DeterminedAt w early words l plan x s' m' i ⊎ DependsOnPivot w early words l plan s' m' i
+      go : (i : ℕ) → i < c.n → is_known states i ≡ false → DeterminedAt w r.early r.packed l plan x s' m' i ⊎ DependsOnPivot w r.early r.packed l plan s' m' i
           → Fills c w y states x s' m' i ⊎ (Leaves w s' m' i × Differs c w y states x i)
       go i h e (inl S) = inl (record { state = S.state; bytes = S.bytes; common = f i h e S.determined })
       go i h e (inr H) = inr (H.leaves, g i h e H.determined)
 
 -- ---- without pivots
 
-module _ {c : Checks} {w : ℕ} {states plan y : List ℕ} {early steps pivots : ℕ} (none : pivots ≡ 0) (L : Peeled c w y states plan y early steps pivots) (sm : length states ≡ c.n) where
+module _ {c : Checks} {w : ℕ} {states : List ℕ} {plan : Arrays} {y : List ℕ} {early steps pivots : ℕ} (none : pivots ≡ 0) (L : Peeled c w y states plan y early steps pivots) (sm : length states ≡ c.n) where
   pub by-steps_no : (r : Bool) → HoldIs c w plan y r → r ≡ false → (s' m' : List ℕ) → Cleared w y states s' m' (length states) → length s' ≡ length y → length m' ≡ length states → Outcome c w y states s' m' false
   by-steps_no r H e s' m' C es em =
       outcome_no c w y states s' m' L.values.size sm
@@ -160,35 +162,39 @@ module _ {c : Checks} {w : ℕ} {states plan y : List ℕ} {early steps pivots :
 
 -- ---- with pivots: where the rows stand
 
--- words for all pivots, within those that the caller lends
-pub room_of_lem : (s : Shape) → Known s.number → {states plan : List ℕ} {early steps pivots size : ℕ} → Plan (checks s) states plan early steps pivots
-    → size ≡ (checks s).m * ((checks s).n / 64 + 1) → (rest : ℕ)
-    → Room (checks s) (record { early = early; steps = steps; rest = rest; pivots = pivots; packed = (pivots + 63) / 64 }) size
+-- what peeling left, by the numbers of the rows, which fit into as many words as the caller lends
+pub record Ready (s : Shape) (block states : List ℕ) (plan : Arrays) (y : List ℕ) (r : Rows) : Type 0 where
+  pub peeled : Peeled (checks s) s.w block states plan y r.early r.steps r.pivots
+  pub all : r.steps + r.rest ≡ (checks s).m
+  pub room : Room (checks s) r ((checks s).m * ((checks s).n / 64 + 1))
+
+pub ready : {s : Shape} {t : ClassTable} {block states : List ℕ} {plan : Arrays} {y : List ℕ} {early steps pivots : ℕ} → Table s t → Peeled (checks s) s.w block states plan y early steps pivots
+    → (r : Rows) → (r.early ≡ early) × (r.steps ≡ steps) × (r.pivots ≡ pivots) → r.steps + r.rest ≡ s.layout.m → r.packed ≡ (pivots + 63) / 64
+    → Ready s block states plan y r
 unfolding staircase
-room_of_lem s k {pivots = pivots} {size = size} P e rest =
-    let v = valid_of s.number k in
+ready {s} {pivots = pivots} T L r e all packed =
+    let v = valid_of s.number T.shaped.known in
     let n : n_of (code_of s.number) ≡ 64 * (n_of (code_of s.number) / 64) = sym v.packed in
-    let p : pivots ≤ n_of (code_of s.number) = P.pivots_few in
-    let f : (pivots + 63) / 64 ≤ n_of (code_of s.number) / 64 = omega arith in
-    let h : (pivots + 63) / 64 + 1 ≤ n_of (code_of s.number) / 64 + 1 = omega arith in
+    let p : pivots ≤ n_of (code_of s.number) = L.made.pivots_few in
+    let h : r.packed + 1 ≤ n_of (code_of s.number) / 64 + 1 = omega arith in
     record {
-      few = omega (arith, v.few);
-      fit = subst (λ (t : ℕ). (code_of s.number).m * ((pivots + 63) / 64 + 1) ≤ t) (sym e) (mul-le-mul_left (code_of s.number).m h);
-      enough = omega arith;
+      peeled = rw (e.0, e.1, e.2) L;
+      all = all ∙ layout-rows T;
+      room = record { fit = mul-le-mul_left (code_of s.number).m h };
     }
 
 pub room_at : {c : Checks} {r : Rows} {size size' : ℕ} → size' ≡ size → Room c r size → Room c r size'
-room_at e R = record { few = R.few; fit = omega (arith, R.fit); enough = R.enough }
+room_at e R = record { fit = omega (arith, R.fit) }
 
-pub rows-room : {c : Checks} {w size bytes : ℕ} {r : Rows} → c.m ≤ 1024 → r.steps + r.rest ≡ c.m → Room c r size → bytes ≡ c.m * w → RowsRoom r w size bytes
-rows-room {c} {w} {size} {bytes} {r} few all room e =
+pub rows-room : {c : Checks} {w size bytes : ℕ} {r : Rows} → r.steps + r.rest ≡ c.m → Room c r size → bytes ≡ c.m * w → RowsRoom r w size bytes
+rows-room {c} {w} {size} {bytes} {r} all room e =
     let f : (r.steps + r.rest) * (r.packed + 1) ≤ size = subst (λ (k : ℕ). k * (r.packed + 1) ≤ size) (sym all) room.fit in
     let h : r.rest * w ≤ c.m * w = mul-le-mul_right w (omega arith) in
-    record { few = room.few; count = omega arith; fit = omega (arith, add-mul r.steps r.rest (r.packed + 1)); sides = omega arith }
+    record { fit = omega (arith, add-mul r.steps r.rest (r.packed + 1)); sides = omega arith }
 
 -- ---- with pivots: what each function asks, and the outcome
 
-module _ {c : Checks} {w : ℕ} {states plan y : List ℕ} {r : Rows} {l d : List ℕ} (G : Solvable c w states plan y r l d) where
+module _ {c : Checks} {w : ℕ} {states : List ℕ} {plan : Arrays} {y : List ℕ} {r : Rows} {l d : List ℕ} (G : Solvable c w states plan y r l d) where
   setting : Setting c w y states plan y G.equations.rows (behind r.packed r.steps G.equations.rows) G.equations.sides (behind r.packed r.steps l) d
       r.packed r.early r.steps r.pivots r.rest
   setting =
@@ -205,7 +211,7 @@ module _ {c : Checks} {w : ℕ} {states plan y : List ℕ} {r : Rows} {l d : Lis
               bits = λ j i h u g. ap (λ (b : Bool). pick b 1) (behind_bit E.rows r.packed r.steps (unused_below plan j) i) ∙ E.rest-rows j i h u g;
               sides = E.sums;
             };
-        room = G.room.enough;
+        room = r.enough;
         same = E.same;
         reduced = E.reduced;
         some = G.some;
@@ -219,19 +225,19 @@ module _ {c : Checks} {w : ℕ} {states plan y : List ℕ} {r : Rows} {l d : Lis
   all_rows = omega (arith, G.peeled.made.steps-unused, G.equations.count)
 
   pub put_asks : (Planned c plan r × Unsolved plan r.pivots)
-      × (((r.packed ≤ 48) × ((r.steps + r.rest ≤ 1024) × ((r.steps + r.rest) * (r.packed + 1) ≤ length l)))
+      × (((r.steps + r.rest) * (r.packed + 1) ≤ length l)
       × (((length y ≡ c.n * w) × (r.rest * w ≤ length d)) × ((i : ℕ) → i < r.rest → pivot_word l r.packed (r.steps + i) ≤ r.pivots)))
   put_asks =
       let L = G.peeled in
-      let R = rows-room {w = w} {r = r} L.made.rows all_rows G.room G.sides in (
+      let R = rows-room {w = w} {r = r} all_rows G.room G.sides in (
         (record { states = states; made = L.made; closed = L.closed }, L.unsolved),
         (
-          (R.few, (omega (arith, all_rows, L.made.rows), omega (arith, R.fit, add-mul r.steps r.rest (r.packed + 1)))),
+          omega (arith, R.fit, add-mul r.steps r.rest (r.packed + 1)),
           ((L.values.size, R.sides), behind-below setting back),
         ),
       )
 
-  module _ {plan' between : List ℕ} (Q : Put c w r.packed r.steps r.rest r.pivots l d plan y plan' between) where
+  module _ {plan' : Arrays} {between : List ℕ} (Q : Put c w r.packed r.steps r.rest r.pivots l d plan y plan' between) where
     planned : Planned c plan' r
     planned = record { states = states; made = (plan_put setting back Q).0; closed = (plan_put setting back Q).1 }
 
@@ -245,32 +251,29 @@ module _ {c : Checks} {w : ℕ} {states plan y : List ℕ} {r : Rows} {l d : Lis
     by-rows_no h A e s' m' C es em =
         outcome_no c w y states s' m' G.peeled.values.size sm (refuted setting (subst (ConsistentIs (behind r.packed r.steps l) d r.rest r.packed w) e A)) C es em
 
-    module _ {plan' x : List ℕ} (I : PutIn c w r.packed r.early r.steps r.rest r.pivots l d plan y plan' x) where
-      pub solved_asks : ((r.pivots ≤ 3072) × (length plan' ≡ 9216)) × ((u : ℕ) → u < r.pivots → pivot_of plan' u < 3072)
+    module _ {plan' : Arrays} {x : List ℕ} (I : PutIn c w r.packed r.early r.steps r.rest r.pivots l d plan y plan' x) where
+      pub solved_asks : (r.pivots ≤ 3072) × ((u : ℕ) → u < r.pivots → pivot_of plan' u < 3072)
       solved_asks =
           let p = (plan_put setting back I.put).0 in
-          ((omega (arith, p.pivots_few, p.positions), p.size), λ u h. omega (arith, (p.pivot u h).position, p.positions))
+          (omega (arith, p.pivots_few, p.positions), λ u h. omega (arith, (p.pivot u h).position, p.positions))
 
       pub steps_asks : Planned c plan' r × (Room c r (length l) × Places c plan' l r.packed r.steps c.m)
       steps_asks = (planned I.put, (G.room, places setting back I.put))
 
       module _ {l'' : List ℕ} (X : StepsExpressed c plan' l'' r.packed r.early r.steps) (F : SameFrom l l'' r.packed r.steps) where
-        pub fill_asks : FillRoom r.packed (r.steps + r.rest) (length plan') (length l'') (length states)
-            × ((length x ≡ length states * w) × ((p : ℕ) → p < length states → is_known states p ≡ false → Readable l'' plan' r.packed r.early (r.steps + r.rest) p))
+        pub fill_asks : FillRoom r (length l'') (length states)
+            × ((length x ≡ length states * w) × ((p : ℕ) → p < length states → is_known states p ≡ false → Readable r l'' plan' p))
         fill_asks =
             let p = (plan_put setting back I.put).0 in (
               record {
-                few = G.room.few;
                 fit = subst (λ (k : ℕ). k * (r.packed + 1) ≤ length l'') (sym all_rows) (omega (arith, G.room.fit, F.size));
-                plan_size_lem = p.size;
                 positions = omega (arith, sm, p.positions);
               },
               (
                 I.restored.size ∙ I.put.symbols-size ∙ G.peeled.values.size ∙ ap (λ (n : ℕ). n * w) (sym sm),
                 λ q h e.
                     let k : q < c.n = subst (λ (n : ℕ). q < n) sm h in
-                    subst (λ (n : ℕ). Readable l'' plan' r.packed r.early n q) (sym all_rows)
-                    (record { reads = reads setting back I.put I.restored X F q k; here = reads_here setting back I.put I.restored X F q k }),
+                    (record { reads = subst (λ (n : ℕ). Reads l'' r.packed r.early n n (kind_of plan' q)) (sym all_rows) (reads setting back I.put I.restored X F q k); here = reads_here setting back I.put I.restored X F q k }),
               ),
             )
 
@@ -285,7 +288,7 @@ module _ {c : Checks} {w : ℕ} {states plan y : List ℕ} {r : Rows} {l d : Lis
 
         -- some are free: l'' says what depends on them
         pub by-rows-some : {l'' : List ℕ} → StepsExpressed c plan' l'' r.packed r.early r.steps → SameFrom l l'' r.packed r.steps → (s' m' : List ℕ)
-            → FilledDetermined w r.early r.packed l'' plan' x states s' m' → Outcome c w y states s' m' true
+            → FilledDetermined w r l'' plan' x states s' m' → Outcome c w y states s' m' true
         by-rows-some {l''} X F s' m' D =
-            outcome-some c w y states s' m' G.peeled.values.size sm x agrees r.packed r.early l'' plan' agrees.size
+            outcome-some c w y states s' m' G.peeled.values.size sm x agrees r l'' plan' agrees.size
             (λ p h e. determined setting back I.put I.restored X F p h) (λ p h e. undetermined setting back I.put I.restored X F bytes K p h) D

@@ -24,7 +24,7 @@ use Rattle.elimination.specs.Bits.{test_bit, row_bit}
 use Rattle.elimination.specs.Reduced.{pivot_word, Pivot, RowReduced}
 use Rattle.elimination.specs.Consistency.{Consistent}
 use Rattle.elimination.proofs.Order.{lt_or_le, eq_or_ne}
-use Rattle.peeling.specs.Plan.{kind_of, row_of, pivot_of, Plan, Closed}
+use Rattle.peeling.specs.Plan.{Arrays, kind_of, row_of, pivot_of, Plan, Closed}
 use Rattle.peeling.specs.Values.{StepsRestored}
 use Rattle.pivot_equations.specs.Express.{depends_on, Reads, StepsExpressed, SameFrom}
 use Rattle.decoder.specs.Pivots.{Solved, Free, Put, DeterminedIs}
@@ -61,8 +61,8 @@ xor_self false = refl
 
 -- ---- the setting, after Put, with the steps restored and their expressions made again
 
-module _ {c : Checks} {w : ℕ} {block states plan y l lr d lr' d' : List ℕ} {words early steps pivots rest : ℕ}
-    (G : Setting c w block states plan y l lr d lr' d' words early steps pivots rest) {lw plan' y' x l'' : List ℕ}
+module _ {c : Checks} {w : ℕ} {block states : List ℕ} {plan : Arrays} {y l lr d lr' d' : List ℕ} {words early steps pivots rest : ℕ}
+    (G : Setting c w block states plan y l lr d lr' d' words early steps pivots rest) {lw : List ℕ} {plan' : Arrays} {y' x l'' : List ℕ}
     (B : Behind lr' lw words steps rest) (Q : Put c w words steps rest pivots lw d' plan y plan' y') (A : StepsRestored c w plan' y' x early steps)
     (X : StepsExpressed c plan' l'' words early steps) (F : SameFrom lw l'' words steps) where
   abbrev IsSolved : ℕ → Type 0

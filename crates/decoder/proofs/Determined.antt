@@ -1,15 +1,22 @@
 -- Whether a position depends on no pivot, as `dependence::determined` answers it.
 -- Assumes nothing.
-use mathlib.Core.Path.{◌≡◌, refl, ap, ap₂, ◌∙◌}
+use mathlib.Core.Path.{◌≡◌, refl, sym, ap, ap₂, ◌∙◌, subst}
 use mathlib.Core.Logic.{⊎_elim}
 use mathlib.Core.Bool.{Bool, true, false, xor}
 use mathlib.Core.List.{List}
-use Prim.Native.Nat.{ℕ, ◌+◌, ◌-◌, ◌*◌, ◌/◌, ◌%◌, ◌^◌, ◌<◌, ◌≤◌}
+use Prim.Native.Nat.{ℕ, zero, suc, ◌+◌, ◌-◌, ◌*◌, ◌/◌, ◌%◌, ◌^◌, ◌<◌, ◌≤◌}
 use native.Mathlib.Omega.{arith}
 use lib.Count.{count_trailing_zeros}
-use lib.ListN.{get_or}
+use lib.ListN.{length, get_or, take, drop, length-drop}
 use borrow.Author.Tests.{eq-eqb, ne_eqb}
+use Rattle.std.specs.Int.Bits.{bit_or}
+use Rattle.std.specs.List.{fold}
+use Rattle.std.proofs.lemmas.List.Sums.{fold_more}
+use Rattle.std.proofs.lemmas.List.{get_or-drop}
+use lib.Dec.{eqb}
+use native.Mathlib.Numerals.{add-one}
 use Rattle.buffers.specs.AllZero.{AllZeroIs}
+use Rattle.buffers.proofs.AllZeroLaws.{all_more}
 use Rattle.elimination.specs.Bits.{test_bit, row_bit, OnlyIs}
 use Rattle.elimination.specs.Reduced.{pivot_word}
 use Rattle.elimination.proofs.Digits.{test_bit-none, LowestSet, trailing_lowest}
@@ -29,6 +36,14 @@ no_bits l at len fit false (k, (h, ne)) =
     let e : (64 * k + t) / 64 ≡ k = omega arith in
     let f : (64 * k + t) % 64 ≡ t = omega arith in
     (64 * k + t, (omega arith, ap₂ (λ (x y : ℕ). test_bit (get_or l (at + x) 0) y) e f ∙ low.here))
+
+-- the words of a row, all or-ed together, are 0 where each word is
+pub all_or : (l : List ℕ) (at len : ℕ) → at + len ≤ length l → AllZeroIs l at len (eqb (fold bit_or 0 (take len (drop at l))) 0)
+all_or l at zero h = λ k g. absurd (omega arith)
+all_or l at (suc k) h =
+    let v : ℕ = fold bit_or 0 (take k (drop at l)) in
+    let e : fold bit_or 0 (take (k + 1) (drop at l)) ≡ bit_or v (get_or l (at + k) 0) = fold_more bit_or 0 (drop at l) k 0 (omega (arith, length-drop at l)) ∙ ap (bit_or v) (get_or-drop at l k 0) in
+    rw (← add-one) (subst (λ (x : ℕ). AllZeroIs l at (k + 1) (eqb x 0)) (sym e) (all_more l at k v (all_or l at k (omega arith))))
 
 module _ (l : List ℕ) (words early kind : ℕ) where
   pub determined_early : kind ≤ early → DeterminedIs l words early kind true

@@ -12,14 +12,15 @@ use borrow.Author.Tests.{eq-eqb, ne_eqb}
 use lib.Seq.{get_or-set_same, get_or-set_other}
 use Rattle.peeling.specs.States.{is_known}
 use Rattle.elimination.proofs.Order.{eq_or_ne}
-use Rattle.peeling.specs.Plan.{kind_of}
+use Rattle.peeling.specs.Plan.{Arrays, kind_of}
+use Rattle.pivot_equations.specs.declared.rows.Rows.{Rows}
 use Rattle.decoder.specs.Pivots.{DeterminedIs}
 use Rattle.decoder.specs.MissingPositions.{Untouched, FilledAt, FilledOne, FillRoom}
 use Rattle.peeling.proofs.Zeroing.{zeros_at}
 use Rattle.peeling.proofs.SymbolLaws.{replaced_other, zero-symbol}
 
 -- the same room
-pub room-same : {words rows plan l m m' : ℕ} → FillRoom words rows plan l m → m' ≡ m → FillRoom words rows plan l m'
+pub room-same : {r : Rows} {l m m' : ℕ} → FillRoom r l m → m' ≡ m → FillRoom r l m'
 room-same R e = rw e R
 
 -- ---- states only: states k of which the first i are filled
@@ -47,7 +48,7 @@ pub same_known : {w : ℕ} {s states x k : List ℕ} {p : ℕ} → Untouched w s
 unfolding is_known
 same_known f = ap (λ (v : ℕ). eqb v 1) f.state
 
-module _ (w early words : ℕ) (l plan s states x k x' k' : List ℕ) where
+module _ (w early words : ℕ) (l : List ℕ) (plan : Arrays) (s states x k x' k' : List ℕ) where
   -- before it, position p was as at first
   from_first : (p : ℕ) → Untouched w s states x k p → FilledAt w early words l plan x k x' k' p → FilledAt w early words l plan s states x' k' p
   from_first p f g = record {
@@ -70,19 +71,19 @@ module _ (w early words : ℕ) (l plan s states x k x' k' : List ℕ) where
   }
 
 -- the first i positions are filled, and the others as they were
-pub record FilledTo (w early words : ℕ) (l plan s states x k : List ℕ) (i : ℕ) : Type 0 where
+pub record FilledTo (w early words : ℕ) (l : List ℕ) (plan : Arrays) (s states x k : List ℕ) (i : ℕ) : Type 0 where
   pub done : (p : ℕ) → p < i → FilledAt w early words l plan s states x k p
   pub rest : (p : ℕ) → i ≤ p → Untouched w s states x k p
 
-pub filled_none : (w early words : ℕ) (l plan s states : List ℕ) → FilledTo w early words l plan s states s states 0
+pub filled_none : (w early words : ℕ) (l : List ℕ) (plan : Arrays) (s states : List ℕ) → FilledTo w early words l plan s states s states 0
 filled_none w early words l plan s states = record { done = λ p h. absurd (omega arith); rest = λ p h. record { state = refl; bytes = λ b q. refl } }
 
-pub filled_more : (w early words : ℕ) (l plan s states x k x' k' : List ℕ) (i : ℕ) → FilledTo w early words l plan s states x k i
-    → FilledOne w early words l plan x k x' k' i → FilledTo w early words l plan s states x' k' (i + 1)
-filled_more w early words l plan s states x k x' k' i F O = record {
+pub filled_more : (w : ℕ) (r : Rows) (l : List ℕ) (plan : Arrays) (s states x k x' k' : List ℕ) (i : ℕ) → FilledTo w r.early r.packed l plan s states x k i
+    → FilledOne w r l plan x k x' k' i → FilledTo w r.early r.packed l plan s states x' k' (i + 1)
+filled_more w r l plan s states x k x' k' i F O = record {
   done = λ p h. ⊎_elim
-      (λ e. rw e (from_first w early words l plan s states x k x' k' i (F.rest i (omega arith)) O.at))
-      (λ ne. to_last w early words l plan s states x k x' k' p (O.others p ne) (F.done p (omega arith))) (eq_or_ne p i);
+      (λ e. rw e (from_first w r.early r.packed l plan s states x k x' k' i (F.rest i (omega arith)) O.at))
+      (λ ne. to_last w r.early r.packed l plan s states x k x' k' p (O.others p ne) (F.done p (omega arith))) (eq_or_ne p i);
   rest = λ p h. untouched_join (F.rest p (omega arith)) (O.others p (λ e. omega arith));
 }
 
@@ -94,8 +95,8 @@ state-one v e = rw (eq-eqb v 1 e)
 pub state_two : (v : ℕ) → (v ≡ 1 → ⊥) → ◌≡◌ {A = ℕ} 2 (cond (eqb v 1) 1 2)
 state_two v ne = rw (ne_eqb v 1 ne)
 
-module _ (w early words : ℕ) (l plan s states : List ℕ) (p : ℕ) where
-  pub one_known : is_known states p ≡ true → FilledOne w early words l plan s states s states p
+module _ (w : ℕ) (r : Rows) (l : List ℕ) (plan : Arrays) (s states : List ℕ) (p : ℕ) where
+  pub one_known : is_known states p ≡ true → FilledOne w r l plan s states s states p
   one_known t = record {
     at = record { known = λ h. same p; missing = λ h. absurd (false≢true (sym h ∙ t)) };
     others = λ i ne. same i;
@@ -105,7 +106,7 @@ module _ (w early words : ℕ) (l plan s states : List ℕ) (p : ℕ) where
       same i = record { state = refl; bytes = λ b q. refl }
 
   module _ (t : is_known states p ≡ false) (h : p < length states) where
-    pub one-determined : DeterminedIs l words early (kind_of plan p) true → FilledOne w early words l plan s states s (set states p 2) p
+    pub one-determined : DeterminedIs l r.packed r.early (kind_of plan p) true → FilledOne w r l plan s states s (set states p 2) p
     one-determined d = record {
       at = record {
         known = λ e. absurd (false≢true (sym t ∙ e));
@@ -114,12 +115,12 @@ module _ (w early words : ℕ) (l plan s states : List ℕ) (p : ℕ) where
       others = λ i ne. record { state = get_or-set_other states p i 2 0 ne; bytes = λ b q. refl };
     }
 
-    pub one_left : p * w + w ≤ length s → DeterminedIs l words early (kind_of plan p) false → (x k : List ℕ)
-        → x ≡ cond (is_known states p) s (zeros_at s (p * w) w) → k ≡ cond (is_known states p) states (set states p 0) → FilledOne w early words l plan s states x k p
-    one_left r d x k ex ek = rw (ex, ek, t) (record {
+    pub one_left : p * w + w ≤ length s → DeterminedIs l r.packed r.early (kind_of plan p) false → (x k : List ℕ)
+        → x ≡ cond (is_known states p) s (zeros_at s (p * w) w) → k ≡ cond (is_known states p) states (set states p 0) → FilledOne w r l plan s states x k p
+    one_left fit d x k ex ek = rw (ex, ek, t) (record {
       at = record {
         known = λ e. absurd (false≢true (sym t ∙ e));
-        missing = λ e. inr (record { determined = d; leaves = record { state = get_or-set_same states p 0 0 h; bytes = (zero-symbol s p w r).each } });
+        missing = λ e. inr (record { determined = d; leaves = record { state = get_or-set_same states p 0 0 h; bytes = (zero-symbol s p w fit).each } });
       };
-      others = λ i ne. record { state = get_or-set_other states p i 0 0 ne; bytes = λ b q. replaced_other (zero-symbol s p w r) i b ne q };
+      others = λ i ne. record { state = get_or-set_other states p i 0 0 ne; bytes = λ b q. replaced_other (zero-symbol s p w fit) i b ne q };
     })

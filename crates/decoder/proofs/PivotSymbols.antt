@@ -6,7 +6,7 @@ use mathlib.Core.List.{List}
 use Prim.Native.Nat.{ℕ, ◌+◌, ◌-◌, ◌*◌, ◌<◌, ◌≤◌}
 use native.Mathlib.Nat.{eq-or-lt_of_le}
 use native.Mathlib.Omega.{arith}
-use lib.ListN.{length, get_or, set, length-set}
+use lib.ListN.{length, get_or, set}
 use lib.Seq.{get_or-set_same, get_or-set_other}
 use Rattle.algebra.specs.Codeword.{Checks, byte_at}
 use Rattle.algebra.proofs.Codeword.{slot}
@@ -15,53 +15,56 @@ use Rattle.buffers.proofs.Put.{put-length, put_in, put_out}
 use Rattle.elimination.specs.Reduced.{pivot_word}
 use Rattle.elimination.proofs.Order.{eq_or_ne}
 use Rattle.elimination.proofs.ColumnLaws.{rows_apart}
-use Rattle.peeling.specs.Plan.{kind_of, pivot_of, Plan, Unsolved}
-use Rattle.decoder.specs.Pivots.{Solved, Free, Put, PutRoom, PutOne}
+use Rattle.peeling.specs.Plan.{Arrays, kind_of, pivot_of, Plan, Unsolved}
+use Rattle.pivot_equations.specs.declared.rows.Rows.{Rows}
+use Rattle.decoder.specs.Pivots.{Solved, Free, KindsOnly, Put, PutRoom, PutOne}
 
-pub put-none : (c : Checks) (w words steps pivots : ℕ) (l d plan symbols : List ℕ) → Put c w words steps 0 pivots l d plan symbols plan symbols
+pub put-none : (c : Checks) (w words steps pivots : ℕ) (l d : List ℕ) (plan : Arrays) (symbols : List ℕ) → Put c w words steps 0 pivots l d plan symbols plan symbols
 put-none c w words steps pivots l d plan symbols = record {
-  plan_size_lem = refl;
   symbols-size = refl;
   pivot = λ u h. inr (record { none = λ row k. absurd (omega arith); kind = refl; bytes = λ b k. refl });
+  same = record { pivots = refl; rows = refl; positions = refl; used = refl };
   others = λ k o. refl;
   other_bytes = λ p b o h k. refl;
 }
 
-pub put_all : {c : Checks} {w words steps pivots : ℕ} {l d plan symbols plan' symbols' : List ℕ} (i rest : ℕ) → Put c w words steps i pivots l d plan symbols plan' symbols'
+kinds_more : {plan plan' plan'' : Arrays} → KindsOnly plan plan' → KindsOnly plan' plan'' → KindsOnly plan plan''
+kinds_more a b = record { pivots = b.pivots ∙ a.pivots; rows = b.rows ∙ a.rows; positions = b.positions ∙ a.positions; used = b.used ∙ a.used }
+
+pub put_all : {c : Checks} {w words steps pivots : ℕ} {l d : List ℕ} {plan : Arrays} {symbols : List ℕ} {plan' : Arrays} {symbols' : List ℕ} (i rest : ℕ) → Put c w words steps i pivots l d plan symbols plan' symbols'
     → i ≡ rest → Put c w words steps rest pivots l d plan symbols plan' symbols'
 put_all i rest X e = rw e at X
 
-module _ (c : Checks) (w words steps early pivots : ℕ) (states l d plan symbols : List ℕ) (P : Plan c states plan early steps pivots) (U : Unsolved plan pivots)
-    (size : length symbols ≡ c.n * w) (i : ℕ) (plan' symbols' : List ℕ) (X : Put c w words steps i pivots l d plan symbols plan' symbols') where
-  -- the pivots' positions, which are still there
-  position : (u : ℕ) → u < pivots → pivot_of plan u < c.n
+module _ (c : Checks) (w : ℕ) (r : Rows) (states l d : List ℕ) (plan : Arrays) (symbols : List ℕ) (P : Plan c states plan r.early r.steps r.pivots) (U : Unsolved plan r.pivots)
+    (size : length symbols ≡ c.n * w) (i : ℕ) (plan' : Arrays) (symbols' : List ℕ) (X : Put c w r.packed r.steps i r.pivots l d plan symbols plan' symbols') where
+  -- the r.pivots' positions, which are still there
+  position : (u : ℕ) → u < r.pivots → pivot_of plan u < c.n
   position u h = (P.pivot u h).position
 
-  kept : (u : ℕ) → u < pivots → pivot_of plan' u ≡ pivot_of plan u
-  kept u h = X.others (3072 + u) (λ v k e. omega (arith, position v k, P.positions))
+  kept : (u : ℕ) → u < r.pivots → pivot_of plan' u ≡ pivot_of plan u
+  kept u h = ap (λ (l : List ℕ). get_or l u 0) X.same.pivots
 
-  room : (u : ℕ) → u < pivots → pivot_of plan u * w + w ≤ length symbols'
+  room : (u : ℕ) → u < r.pivots → pivot_of plan u * w + w ≤ length symbols'
   room u h = omega (arith, slot (pivot_of plan u) c.n w (position u h), size, X.symbols-size)
 
-  -- the arrays that row steps + i needs
-  pub put-room : (rest bytes : ℕ) → i < rest → steps + rest ≤ 1024 → (steps + rest) * (words + 1) ≤ length l → rest * w ≤ bytes
-      → ((k : ℕ) → k < rest → pivot_word l words (steps + k) ≤ pivots) → PutRoom w words steps i l bytes plan' (length symbols')
-  put-room rest bytes h few fit side within = record {
-    size = X.plan_size_lem ∙ P.size;
-    small = omega arith;
-    row = omega (arith, slot (steps + i) (steps + rest) (words + 1) (omega arith));
-    side = omega (arith, slot i rest w h);
+  -- the arrays that row r.steps + i needs
+  pub put-room : (bytes : ℕ) → i < r.rest → (r.steps + r.rest) * (r.packed + 1) ≤ length l → r.rest * w ≤ bytes
+      → ((k : ℕ) → k < r.rest → pivot_word l r.packed (r.steps + k) ≤ r.pivots) → PutRoom w r i l bytes plan' (length symbols')
+  put-room bytes h fit side within = record {
+    below = h;
+    row = omega (arith, slot (r.steps + i) (r.steps + r.rest) (r.packed + 1) (omega arith));
+    side = omega (arith, slot i r.rest w h);
     pivot = λ u e.
-        let k : u < pivots = omega (arith, within i h) in
+        let k : u < r.pivots = omega (arith, within i h) in
         (omega (arith, P.pivots_few, P.positions), subst (λ (p : ℕ). (p < 3072) × (p * w + w ≤ length symbols')) (sym (kept u k)) (omega (arith, position u k, P.positions), room u k));
   }
 
-  module _ (plan'' symbols'' : List ℕ) where
-    -- a pivot that row steps + i does not have
-    carry : (u : ℕ) → pivot_word l words (steps + i) ≢ u + 1 → kind_of plan'' (pivot_of plan u) ≡ kind_of plan' (pivot_of plan u)
+  module _ (plan'' : Arrays) (symbols'' : List ℕ) where
+    -- a pivot that row r.steps + i does not have
+    carry : (u : ℕ) → pivot_word l r.packed (r.steps + i) ≢ u + 1 → kind_of plan'' (pivot_of plan u) ≡ kind_of plan' (pivot_of plan u)
         → ((b : ℕ) → b < w → byte_at w symbols'' b (pivot_of plan u) ≡ byte_at w symbols' b (pivot_of plan u))
-        → Solved w words steps i l d plan' symbols' u (pivot_of plan u) ⊎ Free w words steps i l plan symbols plan' symbols' u (pivot_of plan u)
-        → Solved w words steps (i + 1) l d plan'' symbols'' u (pivot_of plan u) ⊎ Free w words steps (i + 1) l plan symbols plan'' symbols'' u (pivot_of plan u)
+        → Solved w r.packed r.steps i l d plan' symbols' u (pivot_of plan u) ⊎ Free w r.packed r.steps i l plan symbols plan' symbols' u (pivot_of plan u)
+        → Solved w r.packed r.steps (i + 1) l d plan'' symbols'' u (pivot_of plan u) ⊎ Free w r.packed r.steps (i + 1) l plan symbols plan'' symbols'' u (pivot_of plan u)
     carry u ne ek eb (inl s) = inl (record {
       row = s.row;
       below = omega (arith, s.below);
@@ -70,49 +73,49 @@ module _ (c : Checks) (w words steps early pivots : ℕ) (states l d plan symbol
       bytes = λ b h. eb b h ∙ s.bytes b h;
     })
     carry u ne ek eb (inr f) = inr (record {
-      none = λ row h. ⊎_elim (λ e g. ne (ap (λ (k : ℕ). pivot_word l words (steps + k)) (sym e) ∙ g)) (λ lt. f.none row lt) (eq-or-lt_of_le (let g : row ≤ i = omega arith in g));
+      none = λ row h. ⊎_elim (λ e g. ne (ap (λ (k : ℕ). pivot_word l r.packed (r.steps + k)) (sym e) ∙ g)) (λ lt. f.none row lt) (eq-or-lt_of_le (let g : row ≤ i = omega arith in g));
       kind = ek ∙ f.kind;
       bytes = λ b h. eb b h ∙ f.bytes b h;
     })
 
-    -- row steps + i has no pivot
-    more-none : pivot_word l words (steps + i) ≡ 0 → plan'' ≡ plan' → symbols'' ≡ symbols' → Put c w words steps (i + 1) pivots l d plan symbols plan'' symbols''
+    -- row r.steps + i has no pivot
+    more-none : pivot_word l r.packed (r.steps + i) ≡ 0 → plan'' ≡ plan' → symbols'' ≡ symbols' → Put c w r.packed r.steps (i + 1) r.pivots l d plan symbols plan'' symbols''
     more-none z ep es = record {
-      plan_size_lem = ap length ep ∙ X.plan_size_lem;
+      same = rw ep X.same;
       symbols-size = ap length es ∙ X.symbols-size;
-      pivot = λ u h. carry u (λ e. omega arith) (ap (λ (x : List ℕ). kind_of x (pivot_of plan u)) ep) (λ b k. ap (λ (x : List ℕ). byte_at w x b (pivot_of plan u)) es) (X.pivot u h);
-      others = λ k o. ap (λ (x : List ℕ). get_or x k 0) ep ∙ X.others k o;
+      pivot = λ u h. carry u (λ e. omega arith) (ap (λ (x : Arrays). kind_of x (pivot_of plan u)) ep) (λ b k. ap (λ (x : List ℕ). byte_at w x b (pivot_of plan u)) es) (X.pivot u h);
+      others = λ k o. ap (λ (x : Arrays). kind_of x k) ep ∙ X.others k o;
       other_bytes = λ p b o h k. ap (λ (x : List ℕ). byte_at w x b p) es ∙ X.other_bytes p b o h k;
     }
 
     -- it has pivot u
-    module _ (u : ℕ) (h : u < pivots) (word : pivot_word l words (steps + i) ≡ u + 1) (ep : plan'' ≡ set plan' (pivot_of plan u) (4097 + (steps + i)))
+    module _ (u : ℕ) (h : u < r.pivots) (word : pivot_word l r.packed (r.steps + i) ≡ u + 1) (only : KindsOnly plan' plan'') (ep : plan''.kinds ≡ set plan'.kinds (pivot_of plan u) (4097 + (r.steps + i)))
         (es : symbols'' ≡ put symbols' (pivot_of plan u * w) d (i * w) w) where
-      other_kind : (k : ℕ) → k ≢ pivot_of plan u → get_or plan'' k 0 ≡ get_or plan' k 0
-      other_kind k ne = ap (λ (x : List ℕ). get_or x k 0) ep ∙ get_or-set_other plan' (pivot_of plan u) k (4097 + (steps + i)) 0 ne
+      other_kind : (k : ℕ) → k ≢ pivot_of plan u → kind_of plan'' k ≡ kind_of plan' k
+      other_kind k ne = ap (λ (x : List ℕ). get_or x k 0) ep ∙ get_or-set_other plan'.kinds (pivot_of plan u) k (4097 + (r.steps + i)) 0 ne
 
       other_byte : (p b : ℕ) → p ≢ pivot_of plan u → b < w → byte_at w symbols'' b p ≡ byte_at w symbols' b p
       other_byte p b ne k =
           ap (λ (x : List ℕ). byte_at w x b p) es
           ∙ put_out symbols' (pivot_of plan u * w) d (i * w) w (p * w + b) (λ j hj e. rows_apart p (pivot_of plan u) w ne b j k hj e)
 
-      solved : Solved w words steps (i + 1) l d plan'' symbols'' u (pivot_of plan u)
+      solved : Solved w r.packed r.steps (i + 1) l d plan'' symbols'' u (pivot_of plan u)
       solved = record {
         row = i;
         below = omega arith;
         word = word;
-        kind = ap (λ (x : List ℕ). kind_of x (pivot_of plan u)) ep
-            ∙ get_or-set_same plan' (pivot_of plan u) (4097 + (steps + i)) 0 (omega (arith, position u h, P.positions, P.size, X.plan_size_lem));
+        kind = ap (λ (x : List ℕ). get_or x (pivot_of plan u) 0) ep
+            ∙ get_or-set_same plan'.kinds (pivot_of plan u) (4097 + (r.steps + i)) 0 (omega (arith, position u h, P.positions, plan'.kinds_len));
         bytes = λ b k. ap (λ (x : List ℕ). byte_at w x b (pivot_of plan u)) es ∙ put_in symbols' (pivot_of plan u * w) d (i * w) w b k (room u h);
       }
 
       -- another pivot has another position
-      apart : (v : ℕ) → v < pivots → v ≢ u → pivot_of plan v ≢ pivot_of plan u
+      apart : (v : ℕ) → v < r.pivots → v ≢ u → pivot_of plan v ≢ pivot_of plan u
       apart v k ne e = ne (omega (arith, U u h, U v k, ap (kind_of plan) e))
 
-      more-one : Put c w words steps (i + 1) pivots l d plan symbols plan'' symbols''
+      more-one : Put c w r.packed r.steps (i + 1) r.pivots l d plan symbols plan'' symbols''
       more-one = record {
-        plan_size_lem = ap length ep ∙ length-set plan' (pivot_of plan u) (4097 + (steps + i)) ∙ X.plan_size_lem;
+        same = kinds_more X.same only;
         symbols-size = ap length es ∙ put-length symbols' (pivot_of plan u * w) d (i * w) w ∙ X.symbols-size;
         pivot = λ v k. ⊎_elim
             (λ e. rw e (inl solved))
@@ -122,10 +125,10 @@ module _ (c : Checks) (w words steps early pivots : ℕ) (states l d plan symbol
         other_bytes = λ p b o q k. other_byte p b (o u h) k ∙ X.other_bytes p b o q k;
       }
 
-    pub put-more : pivot_word l words (steps + i) ≤ pivots → PutOne w words steps i l d plan' symbols' plan'' symbols'' → Put c w words steps (i + 1) pivots l d plan symbols plan'' symbols''
-    put-more within O = ⊎_elim (λ z. more-none z (O.none z).0 (O.none z).1) (λ ne. one (pivot_word l words (steps + i) - 1) (omega arith)) (eq_or_ne (pivot_word l words (steps + i)) 0)
+    pub put-more : pivot_word l r.packed (r.steps + i) ≤ r.pivots → PutOne w r i l d plan' symbols' plan'' symbols'' → Put c w r.packed r.steps (i + 1) r.pivots l d plan symbols plan'' symbols''
+    put-more within O = ⊎_elim (λ z. more-none z (O.none z).0 (O.none z).1) (λ ne. one (pivot_word l r.packed (r.steps + i) - 1) (omega arith)) (eq_or_ne (pivot_word l r.packed (r.steps + i)) 0)
       where
-        one : (u : ℕ) → pivot_word l words (steps + i) ≡ u + 1 → Put c w words steps (i + 1) pivots l d plan symbols plan'' symbols''
+        one : (u : ℕ) → pivot_word l r.packed (r.steps + i) ≡ u + 1 → Put c w r.packed r.steps (i + 1) r.pivots l d plan symbols plan'' symbols''
         one u e =
-            let h : u < pivots = omega arith in
-            more-one u h e ((O.one u e).0 ∙ ap (λ (p : ℕ). set plan' p (4097 + (steps + i))) (kept u h)) ((O.one u e).1 ∙ ap (λ (p : ℕ). put symbols' (p * w) d (i * w) w) (kept u h))
+            let h : u < r.pivots = omega arith in
+            more-one u h e (O.one u e).0 ((O.one u e).1 ∙ ap (λ (p : ℕ). set plan'.kinds p (4097 + (r.steps + i))) (kept u h)) ((O.one u e).2 ∙ ap (λ (p : ℕ). put symbols' (p * w) d (i * w) w) (kept u h))

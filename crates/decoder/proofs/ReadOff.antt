@@ -3,7 +3,7 @@
 -- Assumes nothing.
 use mathlib.Core.Path.{◌≡◌, refl, sym, ap, ◌∙◌, subst}
 use mathlib.Core.Logic.{◌⊎◌, ◌≢◌, ◌↔◌, inl, inr}
-use mathlib.Core.Bool.{Bool, true, false, false≢true}
+use mathlib.Core.Bool.{cond, Bool, true, false, false≢true}
 use mathlib.Core.List.{List}
 use Prim.Native.Nat.{ℕ, zero, suc, ◌+◌, ◌-◌, ◌*◌, ◌<◌, ◌≤◌, zero-le}
 use native.Mathlib.Numerals.{add-one}
@@ -21,7 +21,7 @@ use Rattle.elimination.specs.Reduced.{pivot_word, RowReduced, Reduced}
 use Rattle.elimination.specs.Consistency.{Consistent, Fails}
 use Rattle.elimination.proofs.ConsistencyLaws.{word-pivot}
 use Rattle.elimination.proofs.Order.{lt_or_le, eq_or_ne}
-use Rattle.peeling.specs.Plan.{kind_of, row_of, position_of, pivot_of, used_by, Before, Step, Sort, Plan, Closed, Unsolved}
+use Rattle.peeling.specs.Plan.{Arrays, kind_of, row_of, position_of, pivot_of, used_by, Before, Step, Sort, Plan, Closed, Unsolved}
 use Rattle.peeling.specs.Values.{StepsHold, Values, StepsRestored}
 use Rattle.pivot_equations.specs.Express.{Places, StepsExpressed}
 use Rattle.decoder.specs.Pivots.{Solved, Free, Put, AllSolvedIs}
@@ -58,12 +58,12 @@ module _ (l : List ℕ) (m words : ℕ) (red : Reduced l m words m) where
 -- ---- the kinds of a plan in which no position is open
 
 -- a pivot's place in a row, as Places asks
-abbrev Place : Checks → List ℕ → List ℕ → ℕ → ℕ → ℕ → Type 0
+abbrev Place : Checks → Arrays → List ℕ → ℕ → ℕ → ℕ → Type 0
 Place c plan l words steps p = (kind_of plan p ≤ 4096 → kind_of plan p - 1025 < 64 * words)
     × (4096 < kind_of plan p → (steps ≤ kind_of plan p - 4097)
     × ((kind_of plan p - 4097 < c.m) × ((0 < pivot_word l words (kind_of plan p - 4097)) × (pivot_word l words (kind_of plan p - 4097) ≤ 64 * words))))
 
-module _ {c : Checks} {states plan : List ℕ} {early steps pivots : ℕ} (P : Plan c states plan early steps pivots) (closed : Closed c plan) where
+module _ {c : Checks} {states : List ℕ} {plan : Arrays} {early steps pivots : ℕ} (P : Plan c states plan early steps pivots) (closed : Closed c plan) where
   -- before any pivot is solved, each has its place in a row
   pub places_unsolved : Unsolved plan pivots → (l : List ℕ) (words : ℕ) → pivots ≤ 64 * words → Places c plan l words steps c.m
   places_unsolved U l words room p hp h = go (kind_cases P closed p hp)
@@ -77,7 +77,7 @@ module _ {c : Checks} {states plan : List ℕ} {early steps pivots : ℕ} (P : P
 
 -- ---- the setting: the symbols along a plan that is made, and the reduced rows
 
-pub record Setting (c : Checks) (w : ℕ) (block states plan y l lr d lr' d' : List ℕ) (words early steps pivots rest : ℕ) : Type 0 where
+pub record Setting (c : Checks) (w : ℕ) (block states : List ℕ) (plan : Arrays) (y l lr d lr' d' : List ℕ) (words early steps pivots rest : ℕ) : Type 0 where
   pub made : Plan c states plan early steps pivots
   pub closed : Closed c plan
   pub unsolved : Unsolved plan pivots
@@ -90,14 +90,14 @@ pub record Setting (c : Checks) (w : ℕ) (block states plan y l lr d lr' d' : L
   pub some : 0 < w
 
 -- byte b of the symbol at pivot u
-abbrev pub pivot_byte : ℕ → List ℕ → List ℕ → ℕ → ℕ → ℕ
+abbrev pub pivot_byte : ℕ → Arrays → List ℕ → ℕ → ℕ → ℕ
 pivot_byte w plan x u b = byte_at w x b (pivot_of plan u)
 
 -- the reduced rows stand in lw behind those of the steps
 pub record Behind (lr' lw : List ℕ) (words steps rest : ℕ) : Type 0 where
   pub rows : (i k : ℕ) → i < rest → k < words + 1 → get_or lw ((steps + i) * (words + 1) + k) 0 ≡ get_or lr' (i * (words + 1) + k) 0
 
-module _ {c : Checks} {w : ℕ} {block states plan y l lr d lr' d' : List ℕ} {words early steps pivots rest : ℕ}
+module _ {c : Checks} {w : ℕ} {block states : List ℕ} {plan : Arrays} {y l lr d lr' d' : List ℕ} {words early steps pivots rest : ℕ}
     (G : Setting c w block states plan y l lr d lr' d' words early steps pivots rest) where
   -- a word along the plan agrees just when its pivots solve the reduced rows
   pub agrees-reduced : {x : List ℕ} → Along c w block states plan x steps → AgreesWith c w block states x ↔ Solves lr' d' rest words w pivots (pivot_byte w plan x)
@@ -142,7 +142,7 @@ module _ {c : Checks} {w : ℕ} {block states plan y l lr d lr' d' : List ℕ} {
 
     -- ---- the plan after Put: only kinds of pivots changed
 
-    module _ {plan' y' : List ℕ} (Q : Put c w words steps rest pivots lw d' plan y plan' y') where
+    module _ {plan' : Arrays} {y' : List ℕ} (Q : Put c w words steps rest pivots lw d' plan y plan' y') where
       -- pivot u is solved, or free
       abbrev IsSolved : ℕ → Type 0
       IsSolved u = Solved w words steps rest lw d' plan' y' u (pivot_of plan u)
@@ -158,10 +158,6 @@ module _ {c : Checks} {w : ℕ} {block states plan y l lr d lr' d' : List ℕ} {
 
       pub pivot-few : (u : ℕ) → u < pivots → u < 3072
       pivot-few u h = omega (arith, P.positions, P.pivots_few)
-
-      -- what stands behind the kinds stays
-      table_same : (k : ℕ) → 3072 ≤ k → get_or plan' k 0 ≡ get_or plan k 0
-      table_same k h = Q.others k (λ u hu e. omega (arith, P.positions, (P.pivot u hu).position))
 
       -- a known position, or one that a step settles, is no pivot
       not-pivot : (p : ℕ) → kind_of plan p ≤ steps → (u : ℕ) → u < pivots → p ≢ pivot_of plan u
@@ -192,13 +188,16 @@ module _ {c : Checks} {w : ℕ} {block states plan y l lr d lr' d' : List ℕ} {
           go (inr (u, (hu, q))) (inr h) = inr (h.0, subst (λ (x : ℕ). (1024 < kind_of plan' x) × (kind_of plan' x < 65535)) q (pivot-kind u hu))
 
       pub row_same : (t : ℕ) → row_of plan' t ≡ row_of plan t
-      row_same t = table_same (6144 + t) (omega arith)
+      row_same t = ap (λ (l : List ℕ). get_or l t 0) Q.same.rows
 
       position-same : (t : ℕ) → position_of plan' t ≡ position_of plan t
-      position-same t = table_same (7168 + t) (omega arith)
+      position-same t = ap (λ (l : List ℕ). get_or l t 0) Q.same.positions
 
       pivot-same : (u : ℕ) → pivot_of plan' u ≡ pivot_of plan u
-      pivot-same u = table_same (3072 + u) (omega arith)
+      pivot-same u = ap (λ (l : List ℕ). get_or l u 0) Q.same.pivots
+
+      used-same : (j : ℕ) → used_by plan' j ≡ used_by plan j
+      used-same j = ap (λ (l : List Bool). cond (get_or l j false) 1 0) Q.same.used
 
       step-put : (t : ℕ) → t < steps → Step c states plan' early t
       step-put t ht =
@@ -215,12 +214,11 @@ module _ {c : Checks} {w : ℕ} {block states plan y l lr d lr' d' : List ℕ} {
       pub plan_put : Plan c states plan' early steps pivots × Closed c plan'
       plan_put = (
         record {
-          size = Q.plan_size_lem ∙ P.size;
           positions = P.positions;
           rows = P.rows;
           early_steps = P.early_steps;
           pivots_few = P.pivots_few;
-          steps-unused = ap (λ (x : ℕ). steps + x) (unused-same plan plan' c.m (λ j h. table_same (8192 + j) (omega arith))) ∙ P.steps-unused;
+          steps-unused = ap (λ (x : ℕ). steps + x) (unused-same plan plan' c.m (λ j h. used-same j)) ∙ P.steps-unused;
           known = λ p hp e. kind-same p (omega (arith, P.known p hp e)) ∙ P.known p hp e;
           sort = λ p hp e. sorted p hp (P.sort p hp e);
           step = step-put;
@@ -240,7 +238,7 @@ module _ {c : Checks} {w : ℕ} {block states plan y l lr d lr' d' : List ℕ} {
           sorted p hp (inr (inr (u, (hu, e)))) = inr (inr (u, (hu, pivot-same u ∙ e)))
 
           used-put : (j : ℕ) → (used_by plan j ≡ 0) ⊎ ((t : ℕ) × ((t < steps) × (row_of plan t ≡ j))) → (used_by plan' j ≡ 0) ⊎ ((t : ℕ) × ((t < steps) × (row_of plan' t ≡ j)))
-          used-put j (inl e) = inl (table_same (8192 + j) (omega arith) ∙ e)
+          used-put j (inl e) = inl (used-same j ∙ e)
           used-put j (inr (t, (ht, e))) = inr (t, (ht, row_same t ∙ e))
 
           shut : (p : ℕ) → kind_of plan' p ≡ 65535 → (kind_of plan p ≤ steps) ⊎ IsPivot plan pivots p → ⊥

@@ -16,7 +16,7 @@ use Rattle.algebra.proofs.Sums.{sum_ext}
 use Rattle.algebra.proofs.Codeword.{slot}
 use Rattle.elimination.specs.Bits.{row_bit, test_bit}
 use Rattle.elimination.proofs.Order.{lt_or_le}
-use Rattle.peeling.specs.Plan.{kind_of, row_of, Plan, Closed, Unsolved}
+use Rattle.peeling.specs.Plan.{Arrays, kind_of, row_of, Plan, Closed, Unsolved}
 use Rattle.pivot_equations.specs.Express.{depends_on, coefficient, StepsExpressed, SameBelow}
 use Rattle.decoder.specs.Equations.{behind}
 use Rattle.peeling.proofs.StepLaws.{few-steps, IsPivot, kind_cases}
@@ -35,7 +35,7 @@ module _ (l : List ℕ) (words steps : ℕ) where
 
 -- ---- before any pivot is solved
 
-module _ {c : Checks} {states plan : List ℕ} {early steps pivots : ℕ} (P : Plan c states plan early steps pivots) (closed : Closed c plan) (U : Unsolved plan pivots) where
+module _ {c : Checks} {states : List ℕ} {plan : Arrays} {early steps pivots : ℕ} (P : Plan c states plan early steps pivots) (closed : Closed c plan) (U : Unsolved plan pivots) where
   -- rows that change behind the steps leave what the steps depend on
   module _ (l l' : List ℕ) (words : ℕ) (S : SameBelow l l' words steps) where
     same_row : (t i : ℕ) → t < steps → i < 64 * words → row_bit l' (t * (words + 1)) i ≡ row_bit l (t * (words + 1)) i

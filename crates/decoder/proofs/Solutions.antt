@@ -16,7 +16,7 @@ use Rattle.decoder.specs.Outcome.{AgreesWith}
 use Rattle.algebra.proofs.Sums.{unit, unit_l, self, eq_of_add, sum_ext, sum-none, sum-only, sum_tests, sum_zeros}
 use Rattle.elimination.specs.Bits.{row_bit}
 use Rattle.elimination.specs.System.{left_side, Solves}
-use Rattle.peeling.specs.Plan.{Plan, Closed, Unsolved, kind_of, row_of, pivot_of, used_by, unused_below}
+use Rattle.peeling.specs.Plan.{Arrays, Plan, Closed, Unsolved, kind_of, row_of, pivot_of, used_by, unused_below}
 use Rattle.peeling.specs.Values.{Values, StepsHold, Sides}
 use Rattle.pivot_equations.specs.Express.{depends_on, coefficient, StepsExpressed}
 use Rattle.peeling.proofs.StepLaws.{few-steps}
@@ -25,14 +25,14 @@ use Rattle.pivot_equations.proofs.Dependence.{depends_none, depends_pivot}
 use Rattle.decoder.proofs.Triangle.{vanishes, expressed, exchange, sum_add, pick-one, plan_triangular}
 
 -- lr are the packed rows of the check rows that no step used, one after the other, and d their right-hand sides
-pub record System (c : Checks) (w : ℕ) (plan y l : List ℕ) (words early rest : ℕ) (lr d : List ℕ) : Type 0 where
+pub record System (c : Checks) (w : ℕ) (plan : Arrays) (y l : List ℕ) (words early rest : ℕ) (lr d : List ℕ) : Type 0 where
   pub count : rest ≡ unused_below plan c.m
   pub bits : (j i : ℕ) → j < c.m → used_by plan j ≡ 0 → i < 64 * words
       → pick (row_bit lr (unused_below plan j * (words + 1)) i) 1 ≡ sum (c.has j) (λ x. coefficient plan l words early x i) c.n
   pub sides : Sides c w plan y d
 
 -- x has the known symbols, and the steps' rows hold
-pub record Along (c : Checks) (w : ℕ) (block states plan x : List ℕ) (steps : ℕ) : Type 0 where
+pub record Along (c : Checks) (w : ℕ) (block states : List ℕ) (plan : Arrays) (x : List ℕ) (steps : ℕ) : Type 0 where
   pub size : length x ≡ c.n * w
   pub bytes : (t : ℕ) → get_or x t 0 < 256
   pub known-byte : (p b : ℕ) → p < c.n → b < w → is_known states p ≡ true → byte_at w x b p ≡ byte_at w block b p
@@ -40,7 +40,7 @@ pub record Along (c : Checks) (w : ℕ) (block states plan x : List ℕ) (steps 
 
 -- ---- what a position depends on
 
-module _ {c : Checks} {states plan : List ℕ} {early steps pivots : ℕ} (P : Plan c states plan early steps pivots) (closed : Closed c plan) (U : Unsolved plan pivots)
+module _ {c : Checks} {states : List ℕ} {plan : Arrays} {early steps pivots : ℕ} (P : Plan c states plan early steps pivots) (closed : Closed c plan) (U : Unsolved plan pivots)
     (l : List ℕ) (words : ℕ) (X : StepsExpressed c plan l words early steps) where
   known-none : (p i : ℕ) → p < c.n → is_known states p ≡ true → depends_on l words early (kind_of plan p) i ≡ false
   known-none p i h e = depends_none l words early (kind_of plan p) i (omega (arith, P.known p h e))
@@ -78,7 +78,7 @@ module _ {c : Checks} {states plan : List ℕ} {early steps pivots : ℕ} (P : P
 
 -- ---- the check rows
 
-pub agreeing_along : {c : Checks} {w : ℕ} {block states plan x : List ℕ} {early steps pivots : ℕ} → Plan c states plan early steps pivots → AgreesWith c w block states x
+pub agreeing_along : {c : Checks} {w : ℕ} {block states : List ℕ} {plan : Arrays} {x : List ℕ} {early steps pivots : ℕ} → Plan c states plan early steps pivots → AgreesWith c w block states x
     → Along c w block states plan x steps
 unfolding row_sum
 agreeing_along {plan = plan} P A = record {
@@ -88,7 +88,7 @@ agreeing_along {plan = plan} P A = record {
   holds = λ t b h hb. A.rows (row_of plan t) (P.step t h).row b hb;
 }
 
-module _ {c : Checks} {w : ℕ} {block states plan y l lr d : List ℕ} {words early rest steps pivots : ℕ}
+module _ {c : Checks} {w : ℕ} {block states : List ℕ} {plan : Arrays} {y l lr d : List ℕ} {words early rest steps pivots : ℕ}
     (P : Plan c states plan early steps pivots) (closed : Closed c plan) (U : Unsolved plan pivots) (Y : Values c w block states plan y steps pivots)
     (X : StepsExpressed c plan l words early steps) (S : System c w plan y l words early rest lr d) (room : pivots ≤ 64 * words) where
   -- the check row that row i of lr is of

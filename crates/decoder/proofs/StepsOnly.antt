@@ -13,11 +13,11 @@ use Rattle.algebra.specs.Codeword.{Checks, byte_at, row_sum}
 use Rattle.algebra.specs.Unique.{Some, Common}
 use Rattle.decoder.specs.Outcome.{AgreesWith}
 use Rattle.algebra.proofs.Sums.{unit, self, eq_of_add, sum_ext}
-use Rattle.peeling.specs.Plan.{Plan, Closed, row_of, used_by}
+use Rattle.peeling.specs.Plan.{Arrays, Plan, Closed, row_of, used_by}
 use Rattle.peeling.specs.Values.{Values, HoldIs}
 use Rattle.decoder.proofs.Triangle.{vanishes, plan_triangular, sum_add}
 
-module _ (c : Checks) (w : ℕ) (block states plan symbols : List ℕ) (early steps pivots : ℕ) (none : pivots ≡ 0)
+module _ (c : Checks) (w : ℕ) (block states : List ℕ) (plan : Arrays) (symbols : List ℕ) (early steps pivots : ℕ) (none : pivots ≡ 0)
     (P : Plan c states plan early steps pivots) (closed : Closed c plan) (L : Values c w block states plan symbols steps pivots) where
   -- the rows of the steps settle all that is missing
   pub steps-only-same : (x : List ℕ) → AgreesWith c w block states x → (p b : ℕ) → p < c.n → b < w → byte_at w x b p ≡ byte_at w symbols b p

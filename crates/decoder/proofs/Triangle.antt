@@ -14,7 +14,7 @@ use Rattle.algebra.specs.Sums.{◌⊕◌, pick, sum}
 use Rattle.algebra.specs.Codeword.{Checks}
 use Rattle.peeling.specs.States.{is_known}
 use Rattle.algebra.proofs.Sums.{unit, self, eq_of_add, add4, sum_terms, sum_zeros, sum-only, sum-none, odd, pick-xor}
-use Rattle.peeling.specs.Plan.{Plan, Closed, Sort, Before, kind_of, row_of, position_of, pivot_of}
+use Rattle.peeling.specs.Plan.{Arrays, Plan, Closed, Sort, Before, kind_of, row_of, position_of, pivot_of}
 
 -- position p is known, settled by one of the first s steps, or a pivot
 abbrev pub Sorted : (ℕ → Bool) → (ℕ → ℕ) → ℕ → (ℕ → ℕ) → ℕ → ℕ → Type 0
@@ -133,7 +133,7 @@ module _ {c : Checks} {known : ℕ → Bool} {steps : ℕ} {row pos : ℕ → �
 
 -- ---- plans
 
-module _ {c : Checks} {states plan : List ℕ} {early steps pivots : ℕ} (P : Plan c states plan early steps pivots) (closed : Closed c plan) where
+module _ {c : Checks} {states : List ℕ} {plan : Arrays} {early steps pivots : ℕ} (P : Plan c states plan early steps pivots) (closed : Closed c plan) where
   -- what a position is, by the sort of a missing one
   its_sort : (p : ℕ) → p < c.n → (s : ℕ) → ((t : ℕ) → t < steps → position_of plan t ≡ p → t < s) → (b : Bool) → is_known states p ≡ b
       → Sorted (is_known states) (position_of plan) pivots (pivot_of plan) s p

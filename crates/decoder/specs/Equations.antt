@@ -4,19 +4,18 @@ use Rattle.std.specs.Prelude.{◌≡◌, List, ℕ, ◌+◌, ◌*◌, ◌<◌, �
 use Rattle.algebra.specs.Codeword.{Checks}
 use Rattle.elimination.specs.System.{SameSolutions}
 use Rattle.elimination.specs.Reduced.{Reduced}
-use Rattle.peeling.specs.Plan.{unused_below}
+use Rattle.peeling.specs.Plan.{Arrays, unused_below}
 use Rattle.peeling.specs.Values.{Sides, StepsRestored, Peeled}
 use Rattle.pivot_equations.specs.Express.{StepsExpressed, RestExpressed, Room}
-use Rattle.pivot_equations.specs.declared.express.Rows.{Rows}
+use Rattle.pivot_equations.specs.declared.rows.Rows.{Rows}
 use Rattle.decoder.specs.Pivots.{Put}
-use Rattle.ccsds.specs.inner.Layout.{max_m}
 
 -- where the rows of the check rows that no step used begin
 abbrev pub behind : ℕ → ℕ → List ℕ → List ℕ
 behind words steps l = drop (steps * (words + 1)) l
 
 -- behind the steps, l has so many reduced rows with right-hand sides d: the equations of the check rows that no step used have their solutions
-pub record Equations (c : Checks) (w : ℕ) (plan symbols : List ℕ) (words early steps rest : ℕ) (l d : List ℕ) : Type 0 where
+pub record Equations (c : Checks) (w : ℕ) (plan : Arrays) (symbols : List ℕ) (words early steps rest : ℕ) (l d : List ℕ) : Type 0 where
   pub rows : List ℕ
   pub sides : List ℕ
   pub count : rest ≡ unused_below plan c.m
@@ -27,20 +26,18 @@ pub record Equations (c : Checks) (w : ℕ) (plan symbols : List ℕ) (words ear
   pub reduced : Reduced (behind words steps l) rest words rest
 
 -- the pivots' symbols were put in, and the steps restored again
-pub record PutIn (c : Checks) (w words early steps rest pivots : ℕ) (l d plan symbols plan' symbols' : List ℕ) : Type 0 where
+pub record PutIn (c : Checks) (w words early steps rest pivots : ℕ) (l d : List ℕ) (plan : Arrays) (symbols : List ℕ) (plan' : Arrays) (symbols' : List ℕ) : Type 0 where
   pub between : List ℕ
   pub put : Put c w words steps rest pivots l d plan symbols plan' between
   pub restored : StepsRestored c w plan' between symbols' early steps
 
 -- the rows and their right-hand sides are within words and bytes of these lengths
 pub record RowsRoom (r : Rows) (w words bytes : ℕ) : Type 0 where
-  pub few : r.packed ≤ 48
-  pub count : r.rest ≤ max_m
   pub fit : r.steps * (r.packed + 1) + r.rest * (r.packed + 1) ≤ words
   pub sides : r.rest * w ≤ bytes
 
 -- what peeling leaves of a block, and the equations of its pivots
-pub record Solvable (c : Checks) (w : ℕ) (states plan symbols : List ℕ) (r : Rows) (l d : List ℕ) : Type 0 where
+pub record Solvable (c : Checks) (w : ℕ) (states : List ℕ) (plan : Arrays) (symbols : List ℕ) (r : Rows) (l d : List ℕ) : Type 0 where
   pub peeled : Peeled c w symbols states plan symbols r.early r.steps r.pivots
   pub equations : Equations c w plan symbols r.packed r.early r.steps r.rest l d
   pub room : Room c r (length l)

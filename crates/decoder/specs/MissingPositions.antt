@@ -3,8 +3,10 @@
 use Rattle.std.specs.Prelude.{◌≡◌, ◌⊎◌, ◌≢◌, Bool, true, false, not, ◌&&◌, cond, List, ℕ, ◌+◌, ◌*◌, ◌<◌, ◌≤◌, ltb, length, get_or}
 use Rattle.algebra.specs.Codeword.{byte_at}
 use Rattle.peeling.specs.States.{is_known}
-use Rattle.peeling.specs.Plan.{kind_of, plan_size}
+use Rattle.peeling.specs.Plan.{Arrays, kind_of}
 use Rattle.decoder.specs.Pivots.{DeterminedIs}
+use Rattle.pivot_equations.specs.Express.{all_rows}
+use Rattle.pivot_equations.specs.declared.rows.Rows.{Rows}
 use Rattle.decoder.specs.Outcome.{Leaves}
 use Rattle.ccsds.specs.inner.Layout.{max_n}
 
@@ -28,35 +30,33 @@ pub record Untouched (w : ℕ) (symbols states symbols' states' : List ℕ) (i :
   pub bytes : (b : ℕ) → b < w → byte_at w symbols' b i ≡ byte_at w symbols b i
 
 -- position i depends on no pivot, has state 2 and keeps its symbol
-pub record DeterminedAt (w early words : ℕ) (l plan symbols symbols' states' : List ℕ) (i : ℕ) : Type 0 where
+pub record DeterminedAt (w early words : ℕ) (l : List ℕ) (plan : Arrays) (symbols symbols' states' : List ℕ) (i : ℕ) : Type 0 where
   pub determined : DeterminedIs l words early (kind_of plan i) true
   pub state : get_or states' i 0 ≡ 2
   pub bytes : (b : ℕ) → b < w → byte_at w symbols' b i ≡ byte_at w symbols b i
 
 -- position i depends on a pivot and is left
-pub record DependsOnPivot (w early words : ℕ) (l plan symbols' states' : List ℕ) (i : ℕ) : Type 0 where
+pub record DependsOnPivot (w early words : ℕ) (l : List ℕ) (plan : Arrays) (symbols' states' : List ℕ) (i : ℕ) : Type 0 where
   pub determined : DeterminedIs l words early (kind_of plan i) false
   pub leaves : Leaves w symbols' states' i
 
 -- position i is as it was, if known, and else determined or left
-pub record FilledAt (w early words : ℕ) (l plan symbols states symbols' states' : List ℕ) (i : ℕ) : Type 0 where
+pub record FilledAt (w early words : ℕ) (l : List ℕ) (plan : Arrays) (symbols states symbols' states' : List ℕ) (i : ℕ) : Type 0 where
   pub known : is_known states i ≡ true → Untouched w symbols states symbols' states' i
   pub missing : is_known states i ≡ false → DeterminedAt w early words l plan symbols symbols' states' i ⊎ DependsOnPivot w early words l plan symbols' states' i
 
 -- one position, and no other
-pub record FilledOne (w early words : ℕ) (l plan symbols states symbols' states' : List ℕ) (p : ℕ) : Type 0 where
-  pub at : FilledAt w early words l plan symbols states symbols' states' p
+pub record FilledOne (w : ℕ) (r : Rows) (l : List ℕ) (plan : Arrays) (symbols states symbols' states' : List ℕ) (p : ℕ) : Type 0 where
+  pub at : FilledAt w r.early r.packed l plan symbols states symbols' states' p
   pub others : (i : ℕ) → i ≢ p → Untouched w symbols states symbols' states' i
 
 -- every position
-pub record FilledDetermined (w early words : ℕ) (l plan symbols states symbols' states' : List ℕ) : Type 0 where
+pub record FilledDetermined (w : ℕ) (r : Rows) (l : List ℕ) (plan : Arrays) (symbols states symbols' states' : List ℕ) : Type 0 where
   pub symbols-size : length symbols' ≡ length symbols
   pub states-size : length states' ≡ length states
-  pub each : (i : ℕ) → i < length states → FilledAt w early words l plan symbols states symbols' states' i
+  pub each : (i : ℕ) → i < length states → FilledAt w r.early r.packed l plan symbols states symbols' states' i
 
 -- the lengths of the arrays that are read
-pub record FillRoom (words rows plan l states : ℕ) : Type 0 where
-  pub few : words ≤ 48
-  pub fit : rows * (words + 1) ≤ l
-  pub plan_size_lem : plan ≡ plan_size
+pub record FillRoom (r : Rows) (l states : ℕ) : Type 0 where
+  pub fit : all_rows r * (r.packed + 1) ≤ l
   pub positions : states ≤ max_n

@@ -1,39 +1,32 @@
 // Which positions depend on free pivots.
 ghost use Rattle.std.specs.Prelude.{◌≡◌, ◌+◌, ◌*◌, ◌<◌, ◌≤◌, length};
-ghost use Rattle.peeling.specs.Plan.{kind_of, plan_size};
+ghost use Rattle.peeling.specs.Plan.{kind_of};
+ghost use Rattle.pivot_equations.specs.Express.{all_rows};
 ghost use Rattle.decoder.specs.Pivots.{NoBitsIs, Readable, DeterminedIs};
 ghost use Rattle.ccsds.specs.inner.Layout.{max_n};
 
 use peeling::plan::{FIRST_SOLVED, LAST_PIVOT, LAST_STEP};
-use pivot_equations::express::Rows;
+use pivot_equations::system::System;
 
 // The row of len words at `at` has no pivot.
 fn no_bits(words: &[u64], at: usize, len: usize) -> bool
     requires { at + len ≤ length words.now }
     ensures { NoBitsIs words.now at len result }
 {
-    let mut all: u64 = 0;
-    let mut i = 0;
-    while i < len {
-        let k = at + i;
-        all = all | words[k];
-        i += 1;
-    }
-    all == 0
+    words[at..at + len].iter().fold(0, |all, word| all | word) == 0
 }
 
 // Position p depends on no free pivot.
-pub fn determined(r: Rows, p: usize, plan: &[u16], words: &[u64]) -> bool
-    requires packed_bound { (r.packed ≤ 48) × ((r.steps + r.rest) * (r.packed + 1) ≤ length words.now) }
-    requires p_lt_max_n { (p < max_n) × (length plan.now ≡ plan_size) }
-    requires readable { Readable words.now plan.now r.packed r.early (r.steps + r.rest) p }
-    ensures { DeterminedIs words.now r.packed r.early (kind_of plan.now p) result }
+pub fn determined(system: &System, p: usize, words: &[u64]) -> bool
+    requires words_len { all_rows system.now.rows * (system.now.rows.packed + 1) ≤ length words.now }
+    requires p_lt_max_n { p < max_n }
+    requires readable { Readable system.now.rows words.now system.now.plan.now p }
+    ensures { DeterminedIs words.now system.now.rows.packed system.now.rows.early (kind_of system.now.plan.now p) result }
 {
-    let packed = r.packed;
-    let early = r.early;
+    let packed = system.rows.packed;
     let stride = packed + 1;
-    let kind = plan[p] as usize;
-    if kind <= early {
+    let kind = system.plan.kinds[p] as usize;
+    if kind <= system.rows.early {
         return true;
     }
     if kind <= LAST_STEP {
@@ -43,7 +36,6 @@ pub fn determined(r: Rows, p: usize, plan: &[u16], words: &[u64]) -> bool
         return false;
     }
     let h = (kind - FIRST_SOLVED) * stride;
-    let k = h + packed;
-    let u = words[k] as usize;
+    let u = words[h + packed] as usize;
     elimination::bits::only(words, h, packed, u - 1)
 }

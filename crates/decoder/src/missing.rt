@@ -7,7 +7,7 @@ ghost use Rattle.decoder.specs.MissingPositions.{Cleared, FilledMissing, FillRoo
 
 use crate::dependence;
 use peeling::states::{DETERMINED, KNOWN, LEFT};
-use pivot_equations::express::Rows;
+use pivot_equations::system::System;
 
 // Where position i is not known, it gets zero bytes and state 0.
 fn clear_at(w: usize, symbols: &mut [u8], states: &mut [u8], i: usize)
@@ -20,7 +20,7 @@ fn clear_at(w: usize, symbols: &mut [u8], states: &mut [u8], i: usize)
     }
     states[i] = LEFT;
     let at = i * w;
-    buffers::clear(&mut symbols[at..at + w]);
+    symbols[at..at + w].fill(0);
 }
 
 // The same at every position.
@@ -28,10 +28,8 @@ pub fn clear_missing(w: usize, symbols: &mut [u8], states: &mut [u8])
     requires { length symbols.old ≡ length states.old * w }
     ensures { Cleared w symbols.old states.old symbols.new states.new (length states.old) }
 {
-    let mut i = 0;
-    while i < states.len() {
+    for i in 0..states.len() {
         clear_at(w, symbols, states, i);
-        i += 1;
     }
 }
 
@@ -49,55 +47,36 @@ fn filled(state: u8) -> u8
 pub fn fill_missing(states: &mut [u8])
     ensures { FilledMissing states.old states.new }
 {
-    let mut i = 0;
-    while i < states.len() {
-        states[i] = filled(states[i]);
-        i += 1;
+    for state in states.iter_mut() {
+        *state = filled(*state);
     }
 }
 
 // Where position p is not known, it gets state 2 if it depends on no free pivot, and else zero bytes and state 0.
-fn fill_at(
-    w: usize,
-    r: Rows,
-    p: usize,
-    plan: &[u16],
-    words: &[u64],
-    symbols: &mut [u8],
-    states: &mut [u8],
-)
-    requires fill_room { FillRoom r.packed (r.steps + r.rest) (length plan.now) (length words.now) (length states.old) }
-    requires p_in_bounds { (p < length states.old) × (length symbols.old ≡ length states.old * w) }
-    requires readable { is_known states.old p ≡ false → Readable words.now plan.now r.packed r.early (r.steps + r.rest) p }
-    ensures { FilledOne w r.early r.packed words.now plan.now symbols.old states.old symbols.new states.new p }
+fn fill_at(system: &System, p: usize, words: &[u64], symbols: &mut [u8], states: &mut [u8])
+    requires fill_room { FillRoom system.now.rows (length words.now) (length states.old) }
+    requires p_in_bounds { (p < length states.old) × (length symbols.old ≡ length states.old * system.now.block.now.shape.w) }
+    requires readable { is_known states.old p ≡ false → Readable system.now.rows words.now system.now.plan.now p }
+    ensures { FilledOne system.now.block.now.shape.w system.now.rows words.now system.now.plan.now symbols.old states.old symbols.new states.new p }
 {
     if states[p] == KNOWN {
         return;
     }
-    if dependence::determined(r, p, plan, words) {
+    if dependence::determined(system, p, words) {
         states[p] = DETERMINED;
         return;
     }
-    clear_at(w, symbols, states, p);
+    clear_at(system.block.shape.w, symbols, states, p);
 }
 
 // The same at every position.
-pub fn fill_determined(
-    w: usize,
-    r: Rows,
-    plan: &[u16],
-    words: &[u64],
-    symbols: &mut [u8],
-    states: &mut [u8],
-)
-    requires fill_room { FillRoom r.packed (r.steps + r.rest) (length plan.now) (length words.now) (length states.old) }
-    requires symbols_len { length symbols.old ≡ length states.old * w }
-    requires by_index { (p : ℕ) → p < length states.old → is_known states.old p ≡ false → Readable words.now plan.now r.packed r.early (r.steps + r.rest) p }
-    ensures { FilledDetermined w r.early r.packed words.now plan.now symbols.old states.old symbols.new states.new }
+pub fn fill_determined(system: &System, words: &[u64], symbols: &mut [u8], states: &mut [u8])
+    requires fill_room { FillRoom system.now.rows (length words.now) (length states.old) }
+    requires symbols_len { length symbols.old ≡ length states.old * system.now.block.now.shape.w }
+    requires by_index { (p : ℕ) → p < length states.old → is_known states.old p ≡ false → Readable system.now.rows words.now system.now.plan.now p }
+    ensures { FilledDetermined system.now.block.now.shape.w system.now.rows words.now system.now.plan.now symbols.old states.old symbols.new states.new }
 {
-    let mut i = 0;
-    while i < states.len() {
-        fill_at(w, r, i, plan, words, symbols, states);
-        i += 1;
+    for i in 0..states.len() {
+        fill_at(system, i, words, symbols, states);
     }
 }

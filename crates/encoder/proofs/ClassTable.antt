@@ -1,7 +1,7 @@
 -- The table of a code, laid out by class: the turns of the loops that make it, and that every class then stands in it, if the classes have
 -- no more entries than there is room for, which is tested once for each code.
 -- Assumes nothing.
-use Rattle.std.proofs.Common.{◌≡◌, ℕ, zero, suc, ◌+◌, ◌-◌, ◌*◌, ◌/◌, ◌%◌, ◌<◌, ◌≤◌, Bool, true, false, cond, ◌&&◌, T, eqb, ltb, leb, ◌≢◌, List, [], ◌∷◌, ◌++◌, length, get_or, take, drop, set, replicate, sym, refl, ap, ◌∙◌, subst, ap₂, append_assoc, append-nil, not-suc-le-zero, add-zero, add-suc, mod-lt, suc-add, zero-add, add-one, arith, leb→le, length-append, length-set, take-append-drop, length-take-le, get_or-set_other, take-suc, get_or-set_same, get_or-append-add, le-ltb, lt-ltb, eq-eqb, eqb-true}
+use Rattle.std.proofs.Common.{◌≡◌, ℕ, zero, suc, ◌+◌, ◌-◌, ◌*◌, ◌/◌, ◌%◌, ◌<◌, ◌≤◌, Bool, true, false, ◌&&◌, T, eqb, leb, ◌≢◌, List, [], ◌∷◌, ◌++◌, length, get_or, take, drop, set, sym, refl, ap, ◌∙◌, subst, ap₂, append_assoc, append-nil, not-suc-le-zero, add-zero, add-suc, mod-lt, suc-add, zero-add, add-one, arith, leb→le, length-append, length-set, take-append-drop, length-take-le, get_or-set_other, take-suc, get_or-set_same, get_or-append-add, le-ltb, lt-ltb, eq-eqb, eqb-true}
 use mathlib.Core.Path.{subst⁻¹}
 use mathlib.Core.Bool.{false≢true}
 use native.Mathlib.Decide.{dec_lt}
@@ -14,67 +14,40 @@ use Rattle.ccsds.specs.inner.Layout.{max_n}
 use Rattle.ccsds.specs.Tables.{code_of, codes, Known, c1, c2, c4, c5, c7, c8, rows1, rows2, rows4, rows5, rows7, rows8}
 use Rattle.ccsds.proofs.Table.{every, up_to, in_range, both_left, both_right}
 use Rattle.ccsds.proofs.Valid.{Valid, valid_of, each_of, some-a, address_lt}
-use Rattle.encoder.specs.inner.Positions.{Entry, entry_if, class_in, class_from, class_of, first_at, end_at, count_at, address_at, entry_put, entry_added, entered, row_entered, table_entered, entries_of, EntryBounds, Classes, Whole, max_classes, whole_at, table_size}
+use Rattle.encoder.specs.inner.Positions.{Entry, entry_if, class_in, class_from, class_of, entry_place, no_entries, entry_put, address_put, entered, row_entered, table_entered, entries_of, EntryBounds, Classes, Whole, Counted, max_classes, max_entries}
+use Rattle.encoder.specs.declared.positions.Shape.{Shape}
+use Rattle.encoder.specs.declared.positions.ClassTable.{ClassTable}
 use Rattle.encoder.proofs.Touched.{quotient_lt}
 
 -- ---- one address
 
-put-size : (r n first end : ℕ) (t : List ℕ) → length (entry_put r n first end t) ≡ length t
-put-size r n first end t =
-    length-set (set (set t (first_at r n) first) (end_at r n) end) (count_at r) (n + 1) ∙ length-set (set t (first_at r n) first) (end_at r n) end ∙ length-set t (first_at r n) first
+module _ (q a row i y : ℕ) (t : ClassTable) (n r d : ℕ) (er : r ≡ y % a) (ed : d ≡ y / a) (e : n ≡ get_or t.counts r 0) where
+  counted : n ≡ get_or t.counts (y % a) 0
+  counted = e ∙ ap (λ (k : ℕ). get_or t.counts k 0) er
 
-added-size : (q row r y : ℕ) (t : List ℕ) → length (entry_added q row r y t) ≡ length t
-added-size q row r y t = go (ltb (get_or t (count_at r) 0) max_positions)
-  where
-    go : (b : Bool) → length (cond b (entry_put r (get_or t (count_at r) 0) (row * q + q - y) (row * q + q) t) t) ≡ length t
-    go true = put-size r (get_or t (count_at r) 0) (row * q + q - y) (row * q + q) t
-    go false = refl
-
-module _ (q a row i y : ℕ) (t : List ℕ) where
-  abbrev written : List ℕ
-  written = set t (address_at row i) y
-
-  module _ (n r d : ℕ) (er : r ≡ y % a) (ed : d ≡ y / a) (e : n ≡ get_or written (count_at r) 0) where
-    counted : n ≡ get_or written (count_at (y % a)) 0
-    counted = e ∙ ap (λ (k : ℕ). get_or written (count_at k) 0) er
-
-    pub entered-full : max_positions ≤ n → written ≡ entered q a row i y t
-    unfolding entered
-    entered-full h = rw (le-ltb (get_or written (count_at (y % a)) 0) max_positions (omega (arith, counted))) refl
-
-    pub entered-room : n < max_positions → entry_put r n (row * q + q - d) (row * q + q) written ≡ entered q a row i y t
-    unfolding entered
-    entered-room h =
-        ap₂ (λ (k l : ℕ). entry_put k n (row * q + q - l) (row * q + q) written) er ed
-        ∙ rw (lt-ltb (get_or written (count_at (y % a)) 0) max_positions (omega (arith, counted))) (ap (λ (k : ℕ). entry_put (y % a) k (row * q + q - y / a) (row * q + q) written) counted)
-
-  pub entered-size : length (entered q a row i y t) ≡ length t
+  pub entered-full : max_positions ≤ n → address_put row i y t ≡ entered q a row i y t
   unfolding entered
-  entered-size = added-size q row (y % a) (y / a) written ∙ length-set t (address_at row i) y
+  entered-full h = rw (le-ltb (get_or t.counts (y % a) 0) max_positions (omega (arith, counted))) refl
+
+  pub entered-room : n < max_positions → entry_put r n (row * q + q - d) (row * q + q) (address_put row i y t) ≡ entered q a row i y t
+  unfolding entered
+  entered-room h =
+      ap₂ (λ (k l : ℕ). entry_put k n (row * q + q - l) (row * q + q) (address_put row i y t)) er ed
+      ∙ rw (lt-ltb (get_or t.counts (y % a) 0) max_positions (omega (arith, counted))) (ap (λ (k : ℕ). entry_put (y % a) k (row * q + q - y / a) (row * q + q) (address_put row i y t)) counted)
 
 -- ---- the turns
 
-module _ (c : Params) (row : ℕ) (t : List ℕ) where
-  pub row-size : (n : ℕ) → length (row_entered c row n t) ≡ length t
-  unfolding row_entered
-  row-size zero = refl
-  row-size (suc n) = entered-size c.q c.a row n (get_or (get_or c.rows row []) n 0) (row_entered c row n t) ∙ row-size n
-
-  pub address_more : (i : ℕ) {q a y : ℕ} {u v : List ℕ} → q ≡ c.q → a ≡ c.a → y ≡ get_or (get_or c.rows row []) i 0
+module _ (c : Params) (row : ℕ) (t : ClassTable) where
+  pub address_more : (i : ℕ) {q a y : ℕ} {u v : ClassTable} → q ≡ c.q → a ≡ c.a → y ≡ get_or (get_or c.rows row []) i 0
       → u ≡ row_entered c row i t → v ≡ entered q a row i y u → v ≡ row_entered c row (i + 1) t
   unfolding row_entered
   address_more i {q} {a} {y} {u} eq ea ey h g =
-      g ∙ ap₂ (λ (k l : ℕ). entered k l row i y u) eq ea ∙ ap₂ (λ (k : ℕ) (s : List ℕ). entered c.q c.a row i k s) ey h
+      g ∙ ap₂ (λ (k l : ℕ). entered k l row i y u) eq ea ∙ ap₂ (λ (k : ℕ) (s : ClassTable). entered c.q c.a row i k s) ey h
       ∙ ap (λ (k : ℕ). row_entered c row k t) (sym (add-one i))
 
-  pub row_more : {u v : List ℕ} → u ≡ table_entered c row t → v ≡ row_entered c row (length (get_or c.rows row [])) u → v ≡ table_entered c (row + 1) t
+  pub row_more : {u v : ClassTable} → u ≡ table_entered c row t → v ≡ row_entered c row (length (get_or c.rows row [])) u → v ≡ table_entered c (row + 1) t
   unfolding table_entered
   row_more h g = g ∙ ap (row_entered c row (length (get_or c.rows row []))) h ∙ ap (λ (k : ℕ). table_entered c k t) (sym (add-one row))
-
-pub table_size_lem : (c : Params) (t : List ℕ) (rows : ℕ) → length (table_entered c rows t) ≡ length t
-unfolding table_entered
-table_size_lem c t zero = refl
-table_size_lem c t (suc n) = row-size c n (table_entered c n t) (length (get_or c.rows n [])) ∙ table_size_lem c t n
 
 -- what `enter` needs of an address
 pub address_fits : (c : Params) (v : Valid c) (row i q a y : ℕ) → c.a ≤ max_classes → row < length c.rows → i < length (get_or c.rows row [])
@@ -92,90 +65,86 @@ address_fits c v row i q a y few hr hi eq ea ey =
 
 -- ---- what a class holds
 
+-- the arrays of a table have their lengths
+record Sized (t : ClassTable) : Type 0 where
+  starts : length t.starts ≡ max_entries
+  ends : length t.ends ≡ max_entries
+  counts : length t.counts ≡ max_classes
+
 -- class r of the table has the entries l
-record Held (q r : ℕ) (l : List Entry) (t : List ℕ) : Type 0 where
-  count : get_or t (count_at r) 0 ≡ length l
-  each : (i : ℕ) → i < length l → EntryBounds q (get_or l i (0, 0)) (get_or t (first_at r i) 0) (get_or t (end_at r i) 0)
+record Held (q r : ℕ) (l : List Entry) (t : ClassTable) : Type 0 where
+  count : get_or t.counts r 0 ≡ length l
+  each : (i : ℕ) → i < length l → EntryBounds q (get_or l i (0, 0)) (get_or t.starts (entry_place r i) 0) (get_or t.ends (entry_place r i) 0)
 
 bounds_kept : {q : ℕ} {e d : Entry} {first end first' end' : ℕ} → d ≡ e → first' ≡ first → end' ≡ end → EntryBounds q e first end → EntryBounds q d first' end'
 bounds_kept {q} {e} {d} {first} {end} {first'} {end'} g h k b =
     record { last = k ∙ b.last ∙ ap (λ (x : Entry). x.0 * q + q) (sym g); start = ap₂ (λ (n : ℕ) (x : Entry). n + x.1) h g ∙ b.start ∙ sym k }
 
 -- an entry more, at a place of its own
-module _ (r n first end : ℕ) (t : List ℕ) (size : length t ≡ table_size) (hr : r < max_classes) (hn : n < max_positions) where
-  abbrev put : List ℕ
+module _ (r n first end : ℕ) (t : ClassTable) where
+  abbrev put : ClassTable
   put = entry_put r n first end t
 
-  put_other : (p : ℕ) → p ≢ first_at r n → p ≢ end_at r n → p ≢ count_at r → get_or put p 0 ≡ get_or t p 0
-  put_other p h₁ h₂ h₃ =
-      get_or-set_other (set (set t (first_at r n) first) (end_at r n) end) (count_at r) p (n + 1) 0 h₃
-      ∙ get_or-set_other (set t (first_at r n) first) (end_at r n) p end 0 h₂ ∙ get_or-set_other t (first_at r n) p first 0 h₁
+  put_sized : Sized t → Sized put
+  put_sized s = record {
+    starts = length-set t.starts (entry_place r n) first ∙ s.starts;
+    ends = length-set t.ends (entry_place r n) end ∙ s.ends;
+    counts = length-set t.counts r (n + 1) ∙ s.counts;
+  }
 
-  put_count : get_or put (count_at r) 0 ≡ n + 1
-  put_count = get_or-set_same (set (set t (first_at r n) first) (end_at r n) end) (count_at r) (n + 1) 0 (simp length-set (omega arith))
+  -- the entries of other places are as they were
+  put_kept : {q : ℕ} {e d : Entry} (p : ℕ) → p ≢ entry_place r n → d ≡ e → EntryBounds q e (get_or t.starts p 0) (get_or t.ends p 0)
+      → EntryBounds q d (get_or put.starts p 0) (get_or put.ends p 0)
+  put_kept p h g b = bounds_kept g (get_or-set_other t.starts (entry_place r n) p first 0 h) (get_or-set_other t.ends (entry_place r n) p end 0 h) b
 
-  put-end : get_or put (end_at r n) 0 ≡ end
-  put-end =
-      get_or-set_other (set (set t (first_at r n) first) (end_at r n) end) (count_at r) (end_at r n) (n + 1) 0 (λ e. omega arith)
-      ∙ get_or-set_same (set t (first_at r n) first) (end_at r n) end 0 (simp length-set (omega arith))
-
-  put_first : get_or put (first_at r n) 0 ≡ first
-  put_first =
-      get_or-set_other (set (set t (first_at r n) first) (end_at r n) end) (count_at r) (first_at r n) (n + 1) 0 (λ e. omega arith)
-      ∙ get_or-set_other (set t (first_at r n) first) (end_at r n) (first_at r n) end 0 (λ e. omega arith) ∙ get_or-set_same t (first_at r n) first 0 (omega arith)
-
-  put_held : (q : ℕ) (l : List Entry) (e : Entry) → n ≡ length l → Held q r l t → EntryBounds q e first end → Held q r (l ++ (e ∷ [])) put
-  put_held q l e g h b = record { count = put_count ∙ ap (λ (k : ℕ). k + 1) g ∙ sym (length-append l (e ∷ [])); each = λ i k. go i (dec_lt i (length l)) (subst (λ (m : ℕ). i < m) (length-append l (e ∷ [])) k) }
+  put_held : Sized t → r < max_classes → n < max_positions → (q : ℕ) (l : List Entry) (e : Entry) → n ≡ length l → Held q r l t → EntryBounds q e first end
+      → Held q r (l ++ (e ∷ [])) put
+  put_held s hr hn q l e g h b = record {
+    count = get_or-set_same t.counts r (n + 1) 0 (omega (arith, s.counts)) ∙ ap (λ (k : ℕ). k + 1) g ∙ sym (length-append l (e ∷ []));
+    each = λ i k. go i (dec_lt i (length l)) (subst (λ (m : ℕ). i < m) (length-append l (e ∷ [])) k);
+  }
     where
-      go : (i : ℕ) → Dec (i < length l) → i < length l + 1 → EntryBounds q (get_or (l ++ (e ∷ [])) i (0, 0)) (get_or put (first_at r i) 0) (get_or put (end_at r i) 0)
-      go i (yes k) m =
-          bounds_kept (get_or-append l (e ∷ []) (0, 0) i k) (put_other (first_at r i) (λ z. omega arith) (λ z. omega arith) (λ z. omega arith))
-          (put_other (end_at r i) (λ z. omega arith) (λ z. omega arith) (λ z. omega arith)) (h.each i k)
+      go : (i : ℕ) → Dec (i < length l) → i < length l + 1 → EntryBounds q (get_or (l ++ (e ∷ [])) i (0, 0)) (get_or put.starts (entry_place r i) 0) (get_or put.ends (entry_place r i) 0)
+      go i (yes k) m = put_kept (entry_place r i) (λ z. omega arith) (get_or-append l (e ∷ []) (0, 0) i k) (h.each i k)
       go i (no k) m =
           let z : i ≡ length l = omega arith in
-          let w : i ≡ n = z ∙ sym g in
+          let w : entry_place r i ≡ entry_place r n = omega (arith, z, g) in
           bounds_kept (ap (λ (x : ℕ). get_or (l ++ (e ∷ [])) x (0, 0)) z ∙ get_or-append_seam l e [] (0, 0))
-          (ap (λ (x : ℕ). get_or put (first_at r x) 0) w ∙ put_first) (ap (λ (x : ℕ). get_or put (end_at r x) 0) w ∙ put-end) b
+          (ap (λ (x : ℕ). get_or put.starts x 0) w ∙ get_or-set_same t.starts (entry_place r n) first 0 (omega (arith, s.starts)))
+          (ap (λ (x : ℕ). get_or put.ends x 0) w ∙ get_or-set_same t.ends (entry_place r n) end 0 (omega (arith, s.ends))) b
 
 -- an address more: its class has an entry more if it has room, and any other class what it had
-module _ (q a row i y : ℕ) (t : List ℕ) (size : length t ≡ table_size) (class : y % a < max_classes) (fits : y / a ≤ row * q + q) where
-  apart : (p : ℕ) → p < address_at 0 0 → get_or (written q a row i y t) p 0 ≡ get_or t p 0
-  apart p h = get_or-set_other t (address_at row i) p y 0 (λ e. omega arith)
+module _ (q a row i y : ℕ) (t : ClassTable) (size : Sized t) (class : y % a < max_classes) (fits : y / a ≤ row * q + q) where
+  abbrev n : ℕ
+  n = get_or t.counts (y % a) 0
 
-  whole : length (written q a row i y t) ≡ table_size
-  whole = length-set t (address_at row i) y ∙ size
+  entered_sized : Sized (entered q a row i y t)
+  entered_sized = go (dec_lt n max_positions)
+    where
+      kept : Sized (address_put row i y t)
+      kept = record { starts = size.starts; ends = size.ends; counts = size.counts }
 
-  held_apart : (r : ℕ) (l : List Entry) → r < max_classes → length l ≤ max_positions → Held q r l t → Held q r l (written q a row i y t)
-  held_apart r l hr hl h =
-      record {
-        count = apart (count_at r) (omega arith) ∙ h.count;
-        each = λ j k. bounds_kept refl (apart (first_at r j) (omega arith)) (apart (end_at r j) (omega arith)) (h.each j k);
-      }
+      go : Dec (n < max_positions) → Sized (entered q a row i y t)
+      go (no f) = subst Sized (entered-full q a row i y t n (y % a) (y / a) refl refl refl (omega arith)) kept
+      go (yes f) =
+          subst Sized (entered-room q a row i y t n (y % a) (y / a) refl refl refl f) (put_sized (y % a) n (row * q + q - y / a) (row * q + q) (address_put row i y t) kept)
 
   own : (l : List Entry) → length l < max_positions → Held q (y % a) l t → Held q (y % a) (l ++ ((row, y / a) ∷ [])) (entered q a row i y t)
   own l hl h =
-      let k = held_apart (y % a) l class (omega arith) h in
-      subst (Held q (y % a) (l ++ ((row, y / a) ∷ []))) (entered-room q a row i y t (length l) (y % a) (y / a) refl refl (sym k.count) hl)
-      (put_held (y % a) (length l) (row * q + q - y / a) (row * q + q) (written q a row i y t) whole class hl q l (row, y / a) refl k (record { last = refl; start = omega arith }))
+      subst (Held q (y % a) (l ++ ((row, y / a) ∷ []))) (entered-room q a row i y t (length l) (y % a) (y / a) refl refl (sym h.count) hl)
+      (put_held (y % a) (length l) (row * q + q - y / a) (row * q + q) (address_put row i y t) (record { starts = size.starts; ends = size.ends; counts = size.counts }) class hl q l (row, y / a) refl
+      (record { count = h.count; each = h.each }) (record { last = refl; start = omega arith }))
 
   other : (r : ℕ) (l : List Entry) → r < max_classes → length l ≤ max_positions → y % a ≢ r → Held q r l t → Held q r l (entered q a row i y t)
   other r l hr hl ne h = go (dec_lt n max_positions)
     where
-      n : ℕ
-      n = get_or (written q a row i y t) (count_at (y % a)) 0
-
-      k : Held q r l (written q a row i y t)
-      k = held_apart r l hr hl h
-
       go : Dec (n < max_positions) → Held q r l (entered q a row i y t)
-      go (no f) = subst (Held q r l) (entered-full q a row i y t n (y % a) (y / a) refl refl refl (omega arith)) k
+      go (no f) = subst (Held q r l) (entered-full q a row i y t n (y % a) (y / a) refl refl refl (omega arith)) (record { count = h.count; each = h.each })
       go (yes f) =
-          let same = put_other (y % a) n (row * q + q - y / a) (row * q + q) (written q a row i y t) whole class f in
           subst (Held q r l) (entered-room q a row i y t n (y % a) (y / a) refl refl refl f)
           (record {
-            count = same (count_at r) (λ e. omega arith) (λ e. omega arith) (λ e. ne (omega arith)) ∙ k.count;
-            each = λ j g. bounds_kept refl (same (first_at r j) (λ e. ne (omega arith)) (λ e. omega arith) (λ e. omega arith))
-                (same (end_at r j) (λ e. omega arith) (λ e. ne (omega arith)) (λ e. omega arith)) (k.each j g);
+            count = get_or-set_other t.counts (y % a) r (n + 1) 0 (λ e. ne (sym e)) ∙ h.count;
+            each = λ j g. put_kept (y % a) n (row * q + q - y / a) (row * q + q) (address_put row i y t) (entry_place r j) (λ e. ne (omega arith)) refl (h.each j g);
           })
 
   entered_held : (r : ℕ) (l : List Entry) → r < max_classes → (length l ≤ max_positions → Held q r l t)
@@ -243,6 +212,10 @@ module _ (c : Params) (r rows : ℕ) where
         ),
       )
 
+-- a class that stands in the table has room for two entries more
+pub class_room : {c : Params} {rows : ℕ} {t : ClassTable} → Classes c rows t → {r : ℕ} → r < c.a → (r < max_classes) × (get_or t.counts r 0 + 2 ≤ max_positions)
+class_room {c} {rows} l {r} h = (omega (arith, l.few.classes), omega (arith, l.counts r h, entries-few c r rows, l.few.entries r h))
+
 -- one table row more
 pub class_row : (c : Params) (r n : ℕ) → n < length c.rows
     → class_from c.a r 0 (take (suc n) c.rows) ≡ class_from c.a r 0 (take n c.rows) ++ class_in c.a r n (get_or c.rows n [])
@@ -253,35 +226,54 @@ class_row c r n k =
     ∙ ap (λ (i : ℕ). class_from c.a r 0 (take n c.rows) ++ (class_in c.a r i ys ++ [])) (zero-add (length (take n c.rows)) ∙ length-take-le n c.rows (omega arith))
     ∙ ap (λ (x : List Entry). class_from c.a r 0 (take n c.rows) ++ x) (append-nil (class_in c.a r n ys))
 
-module _ (c : Params) (v : Valid c) (few : c.a ≤ max_classes) (r : ℕ) (hr : r < max_classes) where
-  row_held : (row : ℕ) (t : List ℕ) (l : List Entry) → length t ≡ table_size → row < length c.rows → (length l ≤ max_positions → Held c.q r l t)
-      → (n : ℕ) → n ≤ length (get_or c.rows row [])
-      → length (l ++ class_in c.a r row (take n (get_or c.rows row []))) ≤ max_positions
-      → Held c.q r (l ++ class_in c.a r row (take n (get_or c.rows row []))) (row_entered c row n t)
-  unfolding row_entered class_in
-  row_held row t l size g h zero k = λ m. subst⁻¹ (λ (x : List Entry). Held c.q r x t) (append-nil l) (h (subst (λ (x : List Entry). length x ≤ max_positions) (append-nil l) m))
-  row_held row t l size g h (suc n) k =
-      let ys = get_or c.rows row [] in
-      let y = get_or ys n 0 in
-      let lt : y < c.m = address_lt c v row g n k in
-      let e : l ++ class_in c.a r row (take (suc n) ys) ≡ l ++ class_in c.a r row (take n ys) ++ class_in c.a r row (y ∷ []) =
-      ap (λ (x : List ℕ). l ++ class_in c.a r row x) (take-suc ys n 0 k) ∙ ap (λ (x : List Entry). l ++ x) (class_join c.a r row (take n ys) (y ∷ []))
-      ∙ sym (append_assoc l (class_in c.a r row (take n ys)) (class_in c.a r row (y ∷ []))) in
-      let q : y / c.a < c.q = quotient_lt c v y lt in
-      subst⁻¹ (λ (x : List Entry). length x ≤ max_positions → Held c.q r x (row_entered c row (suc n) t)) e
-      (entered_held c.q c.a row n y (row_entered c row n t) (row-size c row t n ∙ size) (omega (arith, mod-lt y (some-a c v))) (omega arith) r (l ++ class_in c.a r row (take n ys)) hr
-      (row_held row t l size g h n (omega arith)))
+empty_sized : (t : ClassTable) → t ≡ no_entries → Sized t
+empty_sized t e = subst⁻¹ Sized e (record { starts = length-replicate {A = ℕ} max_entries 0; ends = length-replicate {A = ℕ} max_entries 0; counts = length-replicate {A = ℕ} max_classes 0 })
 
-  table_held : (t : List ℕ) → t ≡ replicate table_size 0 → (n : ℕ) → n ≤ length c.rows
-      → length (class_from c.a r 0 (take n c.rows)) ≤ max_positions → Held c.q r (class_from c.a r 0 (take n c.rows)) (table_entered c n t)
-  unfolding table_entered class_from
-  table_held t e zero k = λ m. record { count = ap (λ (x : List ℕ). get_or x (count_at r) 0) e ∙ get_or-replicate table_size (count_at r) 0 0 (omega arith); each = λ i h. absurd (not-suc-le-zero h) }
-  table_held t e (suc n) k =
-      let ys = get_or c.rows n [] in
-      let f : class_from c.a r 0 (take (suc n) c.rows) ≡ class_from c.a r 0 (take n c.rows) ++ class_in c.a r n (take (length ys) ys) =
-      class_row c r n k ∙ ap (λ (x : List ℕ). class_from c.a r 0 (take n c.rows) ++ class_in c.a r n x) (sym (take-length ys)) in
-      subst⁻¹ (λ (x : List Entry). length x ≤ max_positions → Held c.q r x (table_entered c (suc n) t)) f
-      (row_held n (table_entered c n t) (class_from c.a r 0 (take n c.rows)) (table_size_lem c t n ∙ ap length e ∙ length-replicate {A = ℕ} table_size 0) k (table_held t e n (omega arith)) (length ys) (omega arith))
+module _ (c : Params) (v : Valid c) (few : c.a ≤ max_classes) where
+  class_lt : (y : ℕ) → y % c.a < max_classes
+  class_lt y = omega (arith, mod-lt y (some-a c v))
+
+  ends_fit : (row i : ℕ) → row < length c.rows → i < length (get_or c.rows row []) → get_or (get_or c.rows row []) i 0 / c.a ≤ row * c.q + c.q
+  ends_fit row i g k = omega (arith, quotient_lt c v (get_or (get_or c.rows row []) i 0) (address_lt c v row g i k))
+
+  row_sized : (row : ℕ) (t : ClassTable) → Sized t → row < length c.rows → (n : ℕ) → n ≤ length (get_or c.rows row []) → Sized (row_entered c row n t)
+  unfolding row_entered
+  row_sized row t size g zero k = size
+  row_sized row t size g (suc n) k =
+      entered_sized c.q c.a row n (get_or (get_or c.rows row []) n 0) (row_entered c row n t) (row_sized row t size g n (omega arith)) (class_lt (get_or (get_or c.rows row []) n 0)) (ends_fit row n g k)
+
+  table_sized : (t : ClassTable) → Sized t → (n : ℕ) → n ≤ length c.rows → Sized (table_entered c n t)
+  unfolding table_entered
+  table_sized t size zero k = size
+  table_sized t size (suc n) k = row_sized n (table_entered c n t) (table_sized t size n (omega arith)) k (length (get_or c.rows n [])) (omega arith)
+
+  module _ (r : ℕ) (hr : r < max_classes) where
+    row_held : (row : ℕ) (t : ClassTable) (l : List Entry) → Sized t → row < length c.rows → (length l ≤ max_positions → Held c.q r l t)
+        → (n : ℕ) → n ≤ length (get_or c.rows row [])
+        → length (l ++ class_in c.a r row (take n (get_or c.rows row []))) ≤ max_positions
+        → Held c.q r (l ++ class_in c.a r row (take n (get_or c.rows row []))) (row_entered c row n t)
+    unfolding row_entered class_in
+    row_held row t l size g h zero k = λ m. subst⁻¹ (λ (x : List Entry). Held c.q r x t) (append-nil l) (h (subst (λ (x : List Entry). length x ≤ max_positions) (append-nil l) m))
+    row_held row t l size g h (suc n) k =
+        let ys = get_or c.rows row [] in
+        let y = get_or ys n 0 in
+        let e : l ++ class_in c.a r row (take (suc n) ys) ≡ l ++ class_in c.a r row (take n ys) ++ class_in c.a r row (y ∷ []) =
+        ap (λ (x : List ℕ). l ++ class_in c.a r row x) (take-suc ys n 0 k) ∙ ap (λ (x : List Entry). l ++ x) (class_join c.a r row (take n ys) (y ∷ []))
+        ∙ sym (append_assoc l (class_in c.a r row (take n ys)) (class_in c.a r row (y ∷ []))) in
+        subst⁻¹ (λ (x : List Entry). length x ≤ max_positions → Held c.q r x (row_entered c row (suc n) t)) e
+        (entered_held c.q c.a row n y (row_entered c row n t) (row_sized row t size g n (omega arith)) (class_lt y) (ends_fit row n g k) r (l ++ class_in c.a r row (take n ys)) hr
+        (row_held row t l size g h n (omega arith)))
+
+    table_held : (t : ClassTable) → t ≡ no_entries → (n : ℕ) → n ≤ length c.rows
+        → length (class_from c.a r 0 (take n c.rows)) ≤ max_positions → Held c.q r (class_from c.a r 0 (take n c.rows)) (table_entered c n t)
+    unfolding table_entered class_from
+    table_held t e zero k = λ m. record { count = ap (λ (x : ClassTable). get_or x.counts r 0) e ∙ get_or-replicate max_classes r 0 0 hr; each = λ i h. absurd (not-suc-le-zero h) }
+    table_held t e (suc n) k =
+        let ys = get_or c.rows n [] in
+        let f : class_from c.a r 0 (take (suc n) c.rows) ≡ class_from c.a r 0 (take n c.rows) ++ class_in c.a r n (take (length ys) ys) =
+        class_row c r n k ∙ ap (λ (x : List ℕ). class_from c.a r 0 (take n c.rows) ++ class_in c.a r n x) (sym (take-length ys)) in
+        subst⁻¹ (λ (x : List Entry). length x ≤ max_positions → Held c.q r x (table_entered c (suc n) t)) f
+        (row_held n (table_entered c n t) (class_from c.a r 0 (take n c.rows)) (table_sized t (empty_sized t e) n (omega arith)) k (table_held t e n (omega arith)) (length ys) (omega arith))
 
 -- ---- every code has room
 
@@ -308,55 +300,30 @@ module _ (number : ℕ) (known : Known number) where
       (subst (λ (n : ℕ). T (leb (length (class_of c n) + 2) max_positions)) (zero-add r)
       (in_range (λ s. leb (length (class_of c s) + 2) max_positions) c.a 0 (both_right (leb c.a max_classes) (up_to (λ s. leb (length (class_of c s) + 2) max_positions) 0 c.a) sizes) r h))
 
-  pub all_laid : (rows : ℕ) {s t : List ℕ} → rows ≤ length c.rows → s ≡ replicate table_size 0 → t ≡ table_entered c rows s → length t ≡ table_size → Classes c rows t
-  all_laid rows {s} {t} k hs h size =
+  pub all_laid : (rows : ℕ) {s t : ClassTable} → rows ≤ length c.rows → s ≡ no_entries → t ≡ table_entered c rows s → Classes c rows t
+  all_laid rows {s} {t} k hs h =
       let held : (r : ℕ) → r < c.a → Held c.q r (class_from c.a r 0 (take rows c.rows)) t =
       λ r g. subst⁻¹ (Held c.q r (class_from c.a r 0 (take rows c.rows))) h
       (table_held c (valid_of number known) few-classes r (omega (arith, few-classes)) s hs rows k (omega (arith, few-entries r g, entries-few c r rows))) in
       record {
         few = record { classes = few-classes; entries = few-entries };
-        size = size;
         counts = λ r g. (held r g).count;
         each = λ r g i j. bounds_kept (sym (entry_front c r rows i j)) refl refl ((held r g).each i j);
       }
 
 -- ---- how many entries have no idle position
 
-module _ (c : Params) (rows r e : ℕ) (t : List ℕ) (laid : Classes c rows t) (hr : r < max_classes) where
-  abbrev noted : List ℕ
-  noted = set t (whole_at r) e
-
-  -- the places before these numbers are as they were
-  before-whole : (p : ℕ) → p < whole_at 0 → get_or noted p 0 ≡ get_or t p 0
-  before-whole p h = get_or-set_other t (whole_at r) p e 0 (λ z. omega arith)
-
-  room : (x i : ℕ) → x < c.a → i < entries_of c x rows → (x < max_classes) × (i < max_positions)
-  room x i h g = (omega (arith, laid.few.classes), omega (arith, laid.few.entries x h, entries-few c x rows))
-
-  pub noted_laid : Classes c rows noted
-  noted_laid = record {
-    few = laid.few;
-    size = length-set t (whole_at r) e ∙ laid.size;
-    counts = λ x h. before-whole (count_at x) (omega (arith, laid.few.classes)) ∙ laid.counts x h;
-    each = λ x h i g. let b = room x i h g in bounds_kept refl (before-whole (first_at x i) (omega (arith, b))) (before-whole (end_at x i) (omega (arith, b))) (laid.each x h i g);
-  }
-
-  noted_other : (fill x : ℕ) → x < c.a → {d d' : ℕ} → d' ≡ d → Whole fill x (get_or t (count_at x) 0) t d → Whole fill x (get_or noted (count_at x) 0) noted d'
-  noted_other fill x h {d} {d'} z w = record {
-    few = omega (arith, w.few, before-whole (count_at x) (omega (arith, laid.few.classes)));
-    last = λ g.
-        let b = room x (d - 1) h (omega (arith, w.few, laid.counts x h)) in
-        omega (arith, w.last (omega arith), before-whole (end_at x (d - 1)) (omega (arith, b)), ap (λ (k : ℕ). get_or noted (end_at x (k - 1)) 0) z);
-  }
-
-  -- one class more
-  pub noted_more : (fill : ℕ) → r < c.a → Whole fill r (get_or t (count_at r) 0) t e → ((x : ℕ) → x < r → Whole fill x (get_or t (count_at x) 0) t (get_or t (whole_at x) 0))
-      → (x : ℕ) → x < r + 1 → Whole fill x (get_or noted (count_at x) 0) noted (get_or noted (whole_at x) 0)
-  noted_more fill a w h x l = go (dec_lt x r)
-    where
-      go : Dec (x < r) → Whole fill x (get_or noted (count_at x) 0) noted (get_or noted (whole_at x) 0)
-      go (yes d) = noted_other fill x (omega arith) (get_or-set_other t (whole_at r) (whole_at x) e 0 (λ z. omega arith)) (h x d)
-      go (no d) =
-          let z : r ≡ x = omega arith in
-          noted_other fill x (omega arith) (ap (λ (k : ℕ). get_or noted (whole_at k) 0) (sym z) ∙ get_or-set_same t (whole_at r) e 0 (omega (arith, laid.size)))
-          (subst (λ (k : ℕ). Whole fill k (get_or t (count_at k) 0) t e) z w)
+-- the number of class r is noted: one class more
+pub noted_more : {s : Shape} {r e : ℕ} {t : ClassTable} → length t.whole ≡ max_classes → r < (code_of s.number).a → Counted s r t → Whole s.fill r (get_or t.counts r 0) t.ends e
+    → Counted s (r + 1) (record { starts = t.starts; ends = t.ends; counts = t.counts; whole = set t.whole r e; addresses = t.addresses })
+noted_more {s} {r} {e} {t} size hr h w = record {
+  laid = record { few = h.laid.few; counts = h.laid.counts; each = h.laid.each };
+  whole = λ x l. go x l (dec_lt x r);
+}
+  where
+    go : (x : ℕ) → x < r + 1 → Dec (x < r) → Whole s.fill x (get_or t.counts x 0) t.ends (get_or (set t.whole r e) x 0)
+    go x l (yes d) = subst⁻¹ (Whole s.fill x (get_or t.counts x 0) t.ends) (get_or-set_other t.whole r x e 0 (λ z. omega arith)) (h.whole x d)
+    go x l (no d) =
+        let z : r ≡ x = omega arith in
+        subst (λ (k : ℕ). Whole s.fill k (get_or t.counts k 0) t.ends (get_or (set t.whole r e) k 0)) z
+        (subst⁻¹ (Whole s.fill r (get_or t.counts r 0) t.ends) (get_or-set_same t.whole r e 0 (omega (arith, size, h.laid.few.classes))) w)

@@ -49,7 +49,8 @@ module _ (first end q i : ℕ) (h : WithinRow first end q i) where
     pub further_low : x < end → x ≡ end - q + (first + q - end + i) % q
     further_low l = sum ∙ low (omega (arith, sum))
 
-    pub further_high : (y : ℕ) → y < 65536 → (y + q) % 65536 ≡ x → end ≤ x → y ≡ end - q + (first + q - end + i) % q
-    further_high y b d l =
-        let s : y + q ≡ x = ⊎_elim (λ a. sym a.1 ∙ d) (λ a. absurd (omega (arith, a.0, a.1, h.row))) (wrapped 65536 (y + q) (omega (arith, h.row, h.start, h.step, sum))) in
-        let y_is : y ≡ first + i - q = omega (arith, sum) in y_is ∙ high (omega (arith, sum))
+    pub further_high : end ≤ x → (x + (65536 - q)) % 65536 ≡ end - q + (first + q - end + i) % q
+    further_high l =
+        let less : (x + (65536 - q)) % 65536 ≡ first + i - q =
+        ⊎_elim (λ a. absurd (omega (arith, a.0, h.row))) (λ a. omega (arith, a.1, sum, h.row)) (wrapped 65536 (x + (65536 - q)) (omega (arith, h.row, h.start, h.step, sum))) in
+        less ∙ high (omega (arith, sum))

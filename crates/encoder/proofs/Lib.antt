@@ -2,6 +2,7 @@ pub mod Cycle
 pub mod Touched
 pub mod Sent
 pub mod ClassTable
+pub mod CheckRow
 pub mod WholeRow
 pub mod Parity
 pub mod EncodeRefusal

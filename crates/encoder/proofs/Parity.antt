@@ -1,6 +1,6 @@
 -- Parity symbol after parity symbol: what is written is the code's parity.
 -- Assumes nothing.
-use Rattle.std.proofs.Common.{◌≡◌, ℕ, zero, suc, ◌+◌, ◌-◌, ◌*◌, ◌/◌, ◌%◌, ◌<◌, ◌≤◌, List, ◌∷◌, ◌++◌, length, get_or, replicate, sym, refl, ap, ◌∙◌, subst, ap₂, inl, not-suc-le-zero, mul-le-mul_right, mod-lt, div-lt_iff_lt-mul, div-add-mod', arith, get_or-append-add, ext_get_or}
+use Rattle.std.proofs.Common.{◌≡◌, ℕ, zero, suc, ◌+◌, ◌-◌, ◌*◌, ◌/◌, ◌%◌, ◌<◌, ◌≤◌, List, ◌∷◌, ◌++◌, length, get_or, take, replicate, sym, refl, ap, ◌∙◌, subst, ap₂, inl, not-suc-le-zero, mul-le-mul_right, mod-lt, div-lt_iff_lt-mul, div-add-mod', arith, get_or-append-add, ext_get_or}
 use native.Mathlib.Decide.{dec_lt}
 use lib.ListN.{get_or-append, get_or-eq_default}
 use Rattle.algebra.specs.Sums.{◌⊕◌, pick, sum}
@@ -11,6 +11,7 @@ use Rattle.algebra.proofs.Sums as sums
 use Rattle.algebra.proofs.Lists.{length-tab, get_d_tab}
 use Rattle.algebra.proofs.Codeword.{slot}
 use Rattle.algebra.proofs.Staircase.{parity_ext}
+use Rattle.symbol_sums.proofs.Fronts.{inside_front}
 use Rattle.symbol_sums.specs.Gather.{gathered, Inside, Replaced}
 use Rattle.ccsds.specs.Codes.{Params, touches, encode_of}
 use Rattle.ccsds.specs.Fill.{padded}
@@ -32,12 +33,8 @@ module _ (c : Params) (w : ℕ) (u : List ℕ) where
 
   module _ (fill : ℕ) (e : length u ≡ fill * w) where
     -- the positions of a check row lie within the information symbols that are sent
-    pub row_inside : {j n : ℕ} {xs : List ℕ} → Information c fill j n xs → Inside xs n w (length u)
-    row_inside {xs = xs} r = record {
-      size = r.size;
-      few = omega (arith, r.few);
-      each = λ i g. omega (arith, slot (get_or xs i 0) fill w (r.below i g));
-    }
+    pub row_inside : {j n : ℕ} {xs : List ℕ} → Information c fill j n xs → Inside (take n xs) w (length u)
+    row_inside {n = n} {xs} r = inside_front xs n (omega (arith, r.size, r.few)) (λ i g. omega (arith, slot (get_or xs i 0) fill w (r.below i g)))
 
     -- and there is nothing behind these
     row-front : fill ≤ c.k → (b j : ℕ) → row_at b j ≡ sum (λ x. touches c x j) (byte_at w u b) fill

@@ -1,6 +1,7 @@
 -- The information positions of a check row that are sent: those of the first table rows, less the idle ones of the last of these rows.
 -- Assumes nothing.
-use Rattle.std.proofs.Common.{◌≡◌, ℕ, suc, ◌+◌, ◌-◌, ◌*◌, ◌/◌, ◌%◌, ◌<◌, ◌≤◌, Bool, true, false, cond, ltb, List, [], length, get_or, take, drop, set, sym, refl, ap, ◌∙◌, subst, ap₂, mul-le-mul_right, mod-lt, suc-mul, mul-le-mul_left, zero-add, add-one, arith, length-drop, length-set, length-take-le, get_or-drop, get_or-set_other, get_or-take, get_or-set_same, le-ltb, lt-ltb}
+use Rattle.std.specs.Int.{from_bool}
+use Rattle.std.proofs.Common.{◌≡◌, ℕ, suc, add-zero, ◌+◌, ◌-◌, ◌*◌, ◌/◌, ◌%◌, ◌<◌, ◌≤◌, Bool, true, false, ltb, List, [], length, get_or, take, drop, set, sym, refl, ap, ◌∙◌, subst, ap₂, mul-le-mul_right, mod-lt, suc-mul, mul-le-mul_left, zero-add, add-one, arith, length-drop, length-set, length-take-le, get_or-drop, get_or-set_other, get_or-take, get_or-set_same, le-ltb, lt-ltb}
 use mathlib.Core.Path.{subst⁻¹}
 use native.Mathlib.Decide.{dec_lt}
 use Rattle.algebra.specs.Sums.{◌⊕◌, pick, sum}
@@ -13,6 +14,7 @@ use Rattle.ccsds.specs.declared.tables.Layout.{Layout}
 use Rattle.ccsds.specs.inner.Layout.{LayoutOf, max_m}
 use Rattle.ccsds.proofs.Valid.{Valid, valid_of, some-a}
 use Rattle.encoder.specs.declared.positions.Shape.{Shape}
+use Rattle.encoder.specs.declared.positions.ClassTable.{ClassTable}
 use Rattle.encoder.specs.inner.Positions.{Entry, class_of, positions, entries_of, Shaped, Table, Entries, Kept, Information}
 use Rattle.encoder.proofs.Touched.{row_lt', Below, table_below, entry_good, class_good, positions-count, positions-each, positions_touch, positions-sum, hit_at}
 use Rattle.encoder.proofs.ClassTable.{entries-few, entry_front, entry_behind}
@@ -157,12 +159,13 @@ module _ (fill : ℕ) {e k x : ℕ} {xs ys : List ℕ} (h : Kept fill e xs k ys)
       found i g b (yes d) = let s = h.found i d b in (s.0, (s.1.0, same s.0 s.1.0 ∙ s.1.1))
       found i g b (no d) = let z : i ≡ e = omega arith in absurd (omega (arith, ap (λ (t : ℕ). get_or xs t 0) z, is))
 
-  pub kept_more : (r : ℕ) → r ≡ cond (ltb x fill) (k + 1) k → Kept fill (e + 1) xs r (set ys k x)
-  kept_more r z = subst⁻¹ (λ (t : ℕ). Kept fill (e + 1) xs t (set ys k x)) z (go (dec_lt x fill))
+  -- one more is kept where x is below fill
+  pub kept_more : {r : ℕ} → r ≡ from_bool (ltb x fill) → Kept fill (e + 1) xs (k + r) (set ys k x)
+  kept_more z = subst⁻¹ (λ (t : ℕ). Kept fill (e + 1) xs (k + t) (set ys k x)) z (go (dec_lt x fill))
     where
-      go : Dec (x < fill) → Kept fill (e + 1) xs (cond (ltb x fill) (k + 1) k) (set ys k x)
-      go (yes l) = subst⁻¹ (λ (b : Bool). Kept fill (e + 1) xs (cond b (k + 1) k) (set ys k x)) (lt-ltb x fill l) (kept-one l)
-      go (no l) = subst⁻¹ (λ (b : Bool). Kept fill (e + 1) xs (cond b (k + 1) k) (set ys k x)) (le-ltb x fill (omega arith)) (dropped_one (omega arith))
+      go : Dec (x < fill) → Kept fill (e + 1) xs (k + from_bool (ltb x fill)) (set ys k x)
+      go (yes l) = subst⁻¹ (λ (b : Bool). Kept fill (e + 1) xs (k + from_bool b) (set ys k x)) (lt-ltb x fill l) (kept-one l)
+      go (no l) = subst⁻¹ (λ (b : Bool). Kept fill (e + 1) xs (k + from_bool b) (set ys k x)) (le-ltb x fill (omega arith)) (subst⁻¹ (λ (t : ℕ). Kept fill (e + 1) xs t (set ys k x)) (add-zero k) (dropped_one (omega arith)))
 
 -- ---- a block's shape
 
@@ -222,8 +225,13 @@ module _ (c : Params) (v : Valid c) (fill rows j : ℕ) (within : rows ≤ lengt
               (s.0, (s.1.0, s.1.1 ∙ z))
           go (no l) b = absurd (omega (arith, behind-n _ (omega arith) b.0, b.1))
 
+-- what holds of a code's number, a width and a fill holds of equal ones
+pub at_numbers : (P : ℕ → ℕ → ℕ → Type 0) {number w fill number' w' fill' : ℕ} → number' ≡ number → w' ≡ w → fill' ≡ fill → P number w fill → P number' w' fill'
+at_numbers P {number} {w} {w' = w'} {fill' = fill'} n e f h =
+    subst⁻¹ (λ (x : ℕ). P x w' fill') n (subst⁻¹ (λ (x : ℕ). P number x fill') e (subst⁻¹ (λ (x : ℕ). P number w x) f h))
+
 -- so for a block's shape and its table
-module _ (s : Shape) {t : List ℕ} (T : Table s t) (i r : ℕ) (hr : r < (code_of s.number).a) (hi : i < (code_of s.number).q) where
+module _ (s : Shape) {t : ClassTable} (T : Table s t) (i r : ℕ) (hr : r < (code_of s.number).a) (hi : i < (code_of s.number).q) where
   pub table_sent : {n m : ℕ} {xs ys : List ℕ} → Entries (code_of s.number) s.rows (i * (code_of s.number).a + r) n xs → Kept s.fill n xs m ys
       → Information (code_of s.number) s.fill (i * (code_of s.number).a + r) m ys
   table_sent e k =

@@ -1,27 +1,25 @@
--- A code's layout is one that the hints need.
+-- The numbers of laid-out check rows, so that the hints stay in their arrays.
 -- Assumes nothing.
-use Rattle.std.proofs.Common.{ℕ, ◌*◌, ◌/◌, ◌%◌, ◌<◌, ◌≤◌, ap₂, le_of_lt, mul-le-mul_right, mod-lt, div-lt_iff_lt-mul, arith}
-use Rattle.ccsds.specs.Tables.{code_of, Known}
-use Rattle.ccsds.specs.inner.Layout.{LayoutOf, max_m}
-use Rattle.ccsds.specs.declared.tables.Layout.{Layout}
-use Rattle.ccsds.proofs.Valid.{valid_of}
-use Rattle.peeling.specs.Hints.{Fits}
+use Rattle.std.proofs.Common.{ℕ, ◌/◌, ◌<◌, ◌≤◌, mul-le-mul_right, div-lt_iff_lt-mul, arith}
+use Rattle.ccsds.specs.Tables.{code_of}
+use Rattle.ccsds.specs.inner.Layout.{LayoutOf, max_m, max_rows}
+use Rattle.ccsds.proofs.Valid.{Valid, valid_of}
+use Rattle.encoder.specs.declared.positions.CheckRows.{CheckRows}
 
-pub fits_of : (number : ℕ) (l : Layout) → Known number → LayoutOf (code_of number) l → Fits l
-fits_of number l k g =
-    let v = valid_of number k in
-    record {
-      some = omega (arith, v.some-q, g.q);
-      rows = omega (arith, mul-le-mul_right (code_of number).q g.short, v.whole, g.k, g.q);
-      steps = omega (arith, v.few-rows, v.step, ap₂ ◌*◌ g.q g.a);
-      few = (g.few, omega (arith, v.few-rows, g.m));
-      degrees = (g.small.degree, g.small.rest);
-    }
+module _ (rows : CheckRows) where
+  valid : Valid (code_of rows.shape.number)
+  valid = valid_of rows.shape.number rows.laid.shaped.known
 
--- where a position stands in its table row, and in which
-module _ (l : Layout) (f : Fits l) (x : ℕ) where
-  pub step_small : x % l.q * l.a ≤ max_m
-  step_small = omega (arith, mul-le-mul_right l.a (le_of_lt (mod-lt x f.some)), f.steps)
+  given : LayoutOf (code_of rows.shape.number) rows.shape.layout
+  given = rows.laid.shaped.given
 
-  pub row_small : x < l.k → x / l.q < 64
-  row_small h = (div-lt_iff_lt-mul f.some).1 (omega (arith, f.rows))
+  pub few_rows : rows.shape.layout.m ≤ max_m
+  few_rows = omega (arith, valid.few-rows, given.m)
+
+  some : 0 < rows.shape.layout.q
+  some = omega (arith, valid.some-q, given.q)
+
+  -- which table row an information position is of
+  pub row_small : (x : ℕ) → x < rows.shape.layout.k → x / rows.shape.layout.q < max_rows
+  row_small x h =
+      (div-lt_iff_lt-mul some).1 (omega (arith, h, mul-le-mul_right (code_of rows.shape.number).q given.short, valid.whole, given.k, given.q))

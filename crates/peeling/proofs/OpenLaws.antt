@@ -1,63 +1,40 @@
 -- Opening the missing positions, and the only open one of some positions.
 -- Assumes nothing.
-use Rattle.std.proofs.Common.{◌≡◌, ℕ, ◌+◌, ◌<◌, ◌≤◌, Bool, true, false, cond, eqb, ◌≢◌, List, length, get_or, set, replicate, sym, refl, ap, ◌∙◌, arith, length-set, get_or-set_other, get_or-set_same, eqb-true}
+use Rattle.std.proofs.Common.{false, take, length-take-le, ◌≡◌, ℕ, ◌+◌, ◌<◌, ◌≤◌, Bool, cond, eqb, ◌≢◌, List, length, get_or, set, sym, ap, ◌∙◌, arith, get_or-set_other, get_or-set_same}
+use Rattle.std.proofs.lemmas.List.{get_or-take}
 use mathlib.Core.Path.{subst⁻¹}
 use native.Mathlib.Decide.{ℕ_discrete, dec_lt}
-use lib.ListN.{length-replicate}
-use borrow.Author.Tests.{eqb-false}
 use Rattle.peeling.specs.States.{is_known}
-use Rattle.buffers.proofs.Zeros.{zeros}
-use Rattle.peeling.specs.Plan.{kind_of}
-use Rattle.peeling.specs.Peel.{Opened, SingleIs}
+use Rattle.peeling.specs.Plan.{Arrays, kind_of}
+use Rattle.peeling.specs.Peel.{NothingUsed, OnlyOpen}
 
 -- ---- the first x positions are opened where they are missing
 
-pub record Opening (states plan : List ℕ) (x : ℕ) : Type 0 where
-  pub size : length plan ≡ 9216
+pub record Opening (states : List ℕ) (plan : Arrays) (x : ℕ) : Type 0 where
   pub each : (p : ℕ) → p < x → kind_of plan p ≡ cond (is_known states p) 0 65535
-  pub unused : (k : ℕ) → 8192 ≤ k → get_or plan k 0 ≡ 0
+  pub unused : NothingUsed plan
 
-pub opening-none : (states plan : List ℕ) (n : ℕ) → n ≡ 9216 → plan ≡ replicate n 0 → Opening states plan 0
-opening-none states plan n h e =
-    record {
-      size = ap length e ∙ length-replicate {A = ℕ} n 0 ∙ h;
-      each = λ p l. absurd (omega arith);
-      unused = λ k l. ap (λ (s : List ℕ). get_or s k 0) e ∙ zeros n k;
-    }
-
-pub opening-more : {states plan : List ℕ} {x : ℕ} (v : ℕ) → Opening states plan x → x < 3072 → v ≡ cond (eqb (get_or states x 0) 1) 0 65535 → Opening states (set plan x v) (x + 1)
+pub opening-more : {states : List ℕ} {plan plan' : Arrays} {x : ℕ} (v : ℕ) → Opening states plan x → x < 3072 → v ≡ cond (eqb (get_or states x 0) 1) 0 65535
+    → plan'.kinds ≡ set plan.kinds x v → plan'.used ≡ plan.used → Opening states plan' (x + 1)
 unfolding is_known
-opening-more {states} {plan} {x} v O h e =
+opening-more {states} {plan} {plan'} {x} v O h e k u =
     record {
-      size = length-set plan x v ∙ O.size;
-      each = λ p l. go p l (ℕ_discrete p x);
-      unused = λ k l. get_or-set_other plan x k v 0 (λ f. omega arith) ∙ O.unused k l;
+      each = λ p l. ap (λ (s : List ℕ). get_or s p 0) k ∙ go p l (ℕ_discrete p x);
+      unused = λ j. ap (λ (s : List Bool). cond (get_or s j false) 1 0) u ∙ O.unused j;
     }
   where
-    go : (p : ℕ) → p < x + 1 → Dec (p ≡ x) → get_or (set plan x v) p 0 ≡ cond (is_known states p) 0 65535
+    go : (p : ℕ) → p < x + 1 → Dec (p ≡ x) → get_or (set plan.kinds x v) p 0 ≡ cond (is_known states p) 0 65535
     go p l (yes d) =
-        ap (λ (k : ℕ). get_or (set plan x v) k 0) d ∙ get_or-set_same plan x v 0 (omega (arith, O.size)) ∙ e
+        ap (λ (k : ℕ). get_or (set plan.kinds x v) k 0) d ∙ get_or-set_same plan.kinds x v 0 (omega (arith, plan.kinds_len)) ∙ e
         ∙ ap (λ (k : ℕ). cond (eqb (get_or states k 0) 1) 0 65535) (sym d)
-    go p l (no d) = get_or-set_other plan x p v 0 d ∙ O.each p (omega arith)
-
-pub opening_all : {states plan : List ℕ} {x : ℕ} (n : ℕ) → Opening states plan x → n ≤ x → Opened n states plan
-opening_all {states} {plan} {x} n O h =
-    record {
-      size = O.size;
-      known = λ p l e. O.each p (omega arith) ∙ ap (λ (b : Bool). cond b 0 65535) e;
-      open_kind = λ p l e. O.each p (omega arith) ∙ ap (λ (b : Bool). cond b 0 65535) e;
-      unused = O.unused;
-    }
+    go p l (no d) = get_or-set_other plan.kinds x p v 0 d ∙ O.each p (omega arith)
 
 -- ---- the open ones of the first i positions of xs: how many, and the last
 
-pub record Seen (plan xs : List ℕ) (i at found : ℕ) : Type 0 where
+pub record Seen (plan : Arrays) (xs : List ℕ) (i at found : ℕ) : Type 0 where
   pub few : found ≤ i
   pub none : found ≡ 0 → (k : ℕ) → k < i → kind_of plan (get_or xs k 0) ≢ 65535
   pub only : found ≡ 1 → (at < i) × ((kind_of plan (get_or xs at 0) ≡ 65535) × ((k : ℕ) → k < i → k ≢ at → kind_of plan (get_or xs k 0) ≢ 65535))
-
-pub seen_none : (plan xs : List ℕ) → Seen plan xs 0 64 0
-seen_none plan xs = record { few = omega arith; none = λ e k l. absurd (omega arith); only = λ e. absurd (omega arith) }
 
 -- of each of the first i + 1
 below_next : (P : ℕ → Type 0) (i : ℕ) → ((k : ℕ) → k < i → P k) → P i → (k : ℕ) → k < i + 1 → P k
@@ -67,8 +44,8 @@ below_next P i below here k h = go (dec_lt k i)
     go (yes l) = below k l
     go (no l) = let d : k ≡ i = omega arith in subst⁻¹ P d here
 
-module _ {plan xs : List ℕ} {i at found : ℕ} (F : Seen plan xs i at found) where
-  seen_open : kind_of plan (get_or xs i 0) ≡ 65535 → Seen plan xs (i + 1) i (found + 1)
+module _ {plan : Arrays} {xs : List ℕ} {i at found : ℕ} (F : Seen plan xs i at found) where
+  pub seen_open : kind_of plan (get_or xs i 0) ≡ 65535 → Seen plan xs (i + 1) i (found + 1)
   seen_open e =
       record {
         few = omega (arith, F.few);
@@ -78,7 +55,7 @@ module _ {plan xs : List ℕ} {i at found : ℕ} (F : Seen plan xs i at found) w
             (omega arith, (e, λ k h d. n k (omega arith)));
       }
 
-  seen_closed : kind_of plan (get_or xs i 0) ≢ 65535 → Seen plan xs (i + 1) at found
+  pub seen_closed : kind_of plan (get_or xs i 0) ≢ 65535 → Seen plan xs (i + 1) at found
   seen_closed d =
       record {
         few = omega (arith, F.few);
@@ -88,20 +65,13 @@ module _ {plan xs : List ℕ} {i at found : ℕ} (F : Seen plan xs i at found) w
             (omega (arith, o.0), (o.1.0, below_next (λ k. k ≢ at → kind_of plan (get_or xs k 0) ≢ 65535) i o.1.1 (λ n. d)));
       }
 
-  pub seen_more : (at' found' : ℕ) → at' ≡ cond (eqb (kind_of plan (get_or xs i 0)) 65535) i at
-      → found' ≡ cond (eqb (kind_of plan (get_or xs i 0)) 65535) (found + 1) found → Seen plan xs (i + 1) at' found'
-  seen_more at' found' e f = rw (e, f) (go (eqb (kind_of plan (get_or xs i 0)) 65535) refl)
-    where
-      go : (b : Bool) → eqb (kind_of plan (get_or xs i 0)) 65535 ≡ b → Seen plan xs (i + 1) (cond b i at) (cond b (found + 1) found)
-      go true h = seen_open (eqb-true (kind_of plan (get_or xs i 0)) 65535 h)
-      go false h = seen_closed (eqb-false (kind_of plan (get_or xs i 0)) 65535 h)
-
-  pub seen_all : (n r : ℕ) → n ≡ i → n ≤ 64 → r ≡ cond (eqb found 1) at 64 → SingleIs plan xs n r
-  seen_all n r d h e = subst⁻¹ (λ (m : ℕ). SingleIs plan xs m r) d (go (eqb found 1) refl)
-    where
-      go : (b : Bool) → eqb found 1 ≡ b → SingleIs plan xs i r
-      go true f l =
-          let o = F.only (eqb-true found 1 f) in
-          let g : r ≡ at = e ∙ ap (λ (b : Bool). cond b at 64) f in
-          subst⁻¹ (λ (k : ℕ). (kind_of plan (get_or xs k 0) ≡ 65535) × ((j : ℕ) → j < i → j ≢ k → kind_of plan (get_or xs j 0) ≢ 65535)) g o.1
-      go false f l = let g : r ≡ 64 = e ∙ ap (λ (b : Bool). cond b at 64) f in absurd (omega arith)
+-- of the front of xs, so of xs
+pub only_taken : {plan : Arrays} {xs : List ℕ} {n i : ℕ} → n ≤ length xs → OnlyOpen plan (take n xs) (length (take n xs)) i → OnlyOpen plan xs n i
+only_taken {plan} {xs} {n} {i} h o =
+    let s : length (take n xs) ≡ n = length-take-le n xs h in
+    let b : i < n = omega (arith, s, o.below) in
+    record {
+      below = b;
+      open_kind = ap (kind_of plan) (sym (get_or-take n xs i 0 b)) ∙ o.open_kind;
+      others = λ k l d e. o.others k (omega (arith, s)) d (ap (kind_of plan) (get_or-take n xs k 0 l) ∙ e);
+    }

@@ -1,6 +1,6 @@
 -- How far peeling has come: what stays as an open position is closed, and what a step and a pivot add.
 -- Assumes nothing.
-use Rattle.std.proofs.Common.{◌≡◌, ℕ, ◌+◌, ◌-◌, ◌*◌, ◌<◌, ◌≤◌, Bool, true, false, cond, eqb, ◌≢◌, ◌⊎◌, List, length, get_or, set, sym, refl, ap, ◌∙◌, subst, inl, inr, arith, eq-eqb, ne_eqb}
+use Rattle.std.proofs.Common.{take, Option, None, ◌≡◌, ℕ, ◌+◌, ◌-◌, ◌*◌, ◌<◌, ◌≤◌, Bool, true, false, cond, eqb, ◌≢◌, ◌⊎◌, List, length, get_or, sym, refl, ap, ◌∙◌, subst, inl, inr, arith, eq-eqb, ne_eqb}
 use mathlib.Core.Path.{subst⁻¹}
 use native.Mathlib.Decide.{ℕ_discrete, dec_lt}
 use Rattle.algebra.specs.Sums.{◌⊕◌}
@@ -9,23 +9,23 @@ use Rattle.peeling.specs.States.{is_known}
 use Rattle.algebra.proofs.Sums.{self, sum_cong, sum_ext}
 use Rattle.algebra.proofs.Codeword.{slot}
 use Rattle.symbol_sums.specs.Gather.{gathered, Inside, Replaced}
+use Rattle.symbol_sums.proofs.Fronts.{none_front, restore_front}
 use Rattle.encoder.specs.inner.Positions.{RowOf}
-use Rattle.peeling.specs.Plan.{kind_of, pivot_of, row_of, position_of, used_by, Before, Step, PutOff, Sort}
+use Rattle.peeling.specs.Plan.{Arrays, kind_of, pivot_of, row_of, position_of, used_by, Before, Step, PutOff, Sort}
 use Rattle.peeling.specs.Values.{row_sum, Peeled}
-use Rattle.peeling.specs.Peel.{Opened, SingleIs, NextOpen, State}
+use Rattle.peeling.specs.Peel.{Opened, StepMade, OnlyOpen, NoneOpen, State}
 use Rattle.peeling.specs.declared.peel.Progress.{Progress}
 use Rattle.peeling.proofs.PlanLaws.{Settled, Deferred, settled}
 use Rattle.peeling.proofs.StepLaws.{few-steps}
 use Rattle.peeling.proofs.UnusedRows.{unused_all, unused-same, unused_settled, unused-some}
-use Rattle.peeling.proofs.RowRest.{sum-rest, rest_inside, rest_ne, row_has}
+use Rattle.peeling.proofs.RowRest.{rest_of, sum-rest, rest_few, rest_inside, rest_ne, row_has}
 use Rattle.peeling.proofs.SymbolLaws.{replaced_other}
 
 -- ---- one open position x is closed
 
 -- what closing x leaves as it was
-pub record Keeps (c : Checks) (w steps pivots x : ℕ) (plan symbols plan' symbols' : List ℕ) : Type 0 where
+pub record Keeps (c : Checks) (w steps pivots x : ℕ) (plan : Arrays) (symbols : List ℕ) (plan' : Arrays) (symbols' : List ℕ) : Type 0 where
   pub was : kind_of plan x ≡ 65535
-  pub size : length plan' ≡ length plan
   pub kinds : (p : ℕ) → p < c.n → p ≢ x → kind_of plan' p ≡ kind_of plan p
   pub pivot-same : (u : ℕ) → u < pivots → pivot_of plan' u ≡ pivot_of plan u
   pub row_same : (t : ℕ) → t < steps → row_of plan' t ≡ row_of plan t
@@ -34,7 +34,7 @@ pub record Keeps (c : Checks) (w steps pivots x : ℕ) (plan symbols plan' symbo
   pub bytes : (p b : ℕ) → p ≢ x → b < w → byte_at w symbols' b p ≡ byte_at w symbols b p
 
 -- a step, by its row and its position
-step-at : {c : Checks} {states plan : List ℕ} {early t : ℕ} (r p : ℕ) → row_of plan t ≡ r → position_of plan t ≡ p → r < c.m → p < c.n
+step-at : {c : Checks} {states : List ℕ} {plan : Arrays} {early t : ℕ} (r p : ℕ) → row_of plan t ≡ r → position_of plan t ≡ p → r < c.m → p < c.n
     → is_known states p ≡ false → kind_of plan p ≡ t + 1 → c.has r p ≡ true → ((x : ℕ) → x < c.n → c.has r x ≡ true → x ≢ p → Before plan early t x)
     → Step c states plan early t
 step-at {c} {states} {plan} {early} {t} r p er ep hr hp hm hk hh ho =
@@ -47,7 +47,7 @@ step-at {c} {states} {plan} {early} {t} r p er ep hr hp hm hk hh ho =
       others = λ x hx h d. ho x hx (subst (λ (r' : ℕ). c.has r' x ≡ true) er h) (λ e. d (e ∙ sym ep));
     }
 
-module _ {c : Checks} {w : ℕ} {block states plan symbols plan' symbols' : List ℕ} {g : Progress} {x : ℕ} (S : State c w block states plan symbols g)
+module _ {c : Checks} {w : ℕ} {block states : List ℕ} {plan : Arrays} {symbols : List ℕ} {plan' : Arrays} {symbols' : List ℕ} {g : Progress} {x : ℕ} (S : State c w block states plan symbols g)
     (K : Keeps c w g.steps g.pivots x plan symbols plan' symbols') where
   closed_apart : (p : ℕ) → kind_of plan p ≢ 65535 → p ≢ x
   closed_apart p h e = h (ap (λ (k : ℕ). kind_of plan k) e ∙ K.was)
@@ -140,7 +140,7 @@ module _ {c : Checks} {w : ℕ} {block states plan symbols plan' symbols' : List
 -- ---- a step: check row r settles the only open one of its positions
 
 -- how many steps were made before the first pivot
-module _ {c : Checks} {w : ℕ} {block states plan symbols : List ℕ} {g : Progress} (S : State c w block states plan symbols g) (early' : ℕ)
+module _ {c : Checks} {w : ℕ} {block states : List ℕ} {plan : Arrays} {symbols : List ℕ} {g : Progress} (S : State c w block states plan symbols g) (early' : ℕ)
     (e : early' ≡ cond (eqb g.pivots 0) (g.steps + 1) g.early) where
   early_none : g.pivots ≡ 0 → early' ≡ g.steps + 1
   early_none h = e ∙ ap (λ (b : Bool). cond b (g.steps + 1) g.early) (eq-eqb g.pivots 0 h)
@@ -162,29 +162,29 @@ module _ {c : Checks} {w : ℕ} {block states plan symbols : List ℕ} {g : Prog
       go (yes d) = absurd (omega (arith, S.begun d))
       go (no d) = omega (arith, early_some d)
 
-module _ {c : Checks} {w : ℕ} {block states plan symbols : List ℕ} {g : Progress} {r n i : ℕ} {xs : List ℕ} (S : State c w block states plan symbols g)
-    (R : RowOf c r n xs) (hr : r < c.m) (hi : i < n) (one : SingleIs plan xs n i) (un : used_by plan r ≡ 0) where
+module _ {c : Checks} {w : ℕ} {block states : List ℕ} {plan : Arrays} {symbols : List ℕ} {g : Progress} {r n i : ℕ} {xs : List ℕ} (S : State c w block states plan symbols g)
+    (R : RowOf c r n xs) (hr : r < c.m) (only : OnlyOpen plan xs n i) (un : used_by plan r ≡ 0) where
   settle_steps : g.steps < c.m
   settle_steps = omega (arith, S.made.steps-unused, unused-some plan r c.m hr un)
 
   settle_alone : (k : ℕ) → k < n → k ≢ i → get_or xs k 0 ≢ get_or xs i 0
-  settle_alone k h d e = (one hi).1 k h d (ap (λ (x : ℕ). kind_of plan x) e ∙ (one hi).0)
+  settle_alone k h d e = only.others k h d (ap (λ (x : ℕ). kind_of plan x) e ∙ only.open_kind)
 
   -- as `settle` requires it of position p
   abbrev Ready : ℕ → Type 0
   Ready p =
-      ((g.steps < 1024) × ((r < 1024) × ((p < 3072) × (length plan ≡ 9216))))
-      × (((p * w + w ≤ length symbols) × Inside (set xs i (get_or xs (n - 1) 0)) (n - 1) w (length symbols))
-      × ((k : ℕ) → k < n - 1 → get_or (set xs i (get_or xs (n - 1) 0)) k 0 ≢ p))
+      ((g.steps < 1024) × ((r < 1024) × (p < 3072)))
+      × (((p * w + w ≤ length symbols) × Inside (take (n - 1) (rest_of xs n i)) w (length symbols))
+      × ((k : ℕ) → k < length (take (n - 1) (rest_of xs n i)) → get_or (take (n - 1) (rest_of xs n i)) k 0 ≢ p))
 
   ready : Ready (get_or xs i 0)
   ready =
       let m = S.made in
-      let p = R.below i hi in (
-        (omega (arith, settle_steps, m.rows), (omega (arith, m.rows), (omega (arith, m.positions), m.size))),
+      let p = R.below i only.below in (
+        (omega (arith, settle_steps, m.rows), (omega (arith, m.rows), omega (arith, m.positions))),
         (
-          (omega (arith, slot (get_or xs i 0) c.n w p, S.values.size), rest_inside R i hi w (length symbols) S.values.size),
-          rest_ne R i hi settle_alone,
+          (omega (arith, slot (get_or xs i 0) c.n w p, S.values.size), rest_inside R i only.below w (length symbols) S.values.size),
+          none_front (rest_of xs n i) (n - 1) (rest_few R i only.below) (rest_ne R i only.below settle_alone),
         ),
       )
 
@@ -195,43 +195,32 @@ module _ {c : Checks} {w : ℕ} {block states plan symbols : List ℕ} {g : Prog
   row-others : (x : ℕ) → x < c.n → c.has r x ≡ true → x ≢ get_or xs i 0 → kind_of plan x ≢ 65535
   row-others x hx h d e =
       let k = R.found x hx h in
-      (one hi).1 k.0 k.1.0 (λ f. d (sym k.1.1 ∙ ap (λ (j : ℕ). get_or xs j 0) f)) (ap (λ (y : ℕ). kind_of plan y) k.1.1 ∙ e)
+      only.others k.0 k.1.0 (λ f. d (sym k.1.1 ∙ ap (λ (j : ℕ). get_or xs j 0) f)) (ap (λ (y : ℕ). kind_of plan y) k.1.1 ∙ e)
 
-  module _ {plan' symbols' : List ℕ} (T : Settled plan plan' g.steps r (get_or xs i 0))
-      (Q : Replaced (λ b. gathered (byte_at w symbols b) (set xs i (get_or xs (n - 1) 0)) (n - 1)) w (get_or xs i 0) symbols symbols') where
+  module _ {plan' : Arrays} {symbols' : List ℕ} (T : Settled plan plan' g.steps r (get_or xs i 0))
+      (Q : Replaced (λ b. gathered (byte_at w symbols b) (rest_of xs n i) (n - 1)) w (get_or xs i 0) symbols symbols') where
     settle_keeps : Keeps c w g.steps g.pivots (get_or xs i 0) plan symbols plan' symbols'
     settle_keeps =
-        let l = settle_steps in
-        let hp = R.below i hi in
-        let m = S.made in
         record {
-          was = (one hi).0;
-          size = T.size;
-          kinds = λ p h d. T.others p (λ e. omega (arith, m.positions)) (λ e. omega (arith, m.positions)) (λ e. omega (arith, m.positions)) d;
-          pivot-same = λ u h.
-              T.others (3072 + u) (λ e. omega (arith, m.positions, m.pivots_few)) (λ e. omega (arith, m.positions, m.pivots_few))
-              (λ e. omega (arith, m.positions, m.pivots_few)) (λ e. omega (arith, m.positions));
-          row_same = λ t h.
-              T.others (6144 + t) (λ e. omega arith) (λ e. omega (arith, m.rows)) (λ e. omega (arith, m.rows)) (λ e. omega (arith, m.positions));
-          position-same = λ t h.
-              T.others (7168 + t) (λ e. omega (arith, m.rows)) (λ e. omega arith) (λ e. omega (arith, m.rows)) (λ e. omega (arith, m.positions));
+          was = only.open_kind;
+          kinds = λ p h d. T.kinds p d;
+          pivot-same = λ u h. T.pivots u;
+          row_same = λ t h. T.rows t (λ e. omega arith);
+          position-same = λ t h. T.positions t (λ e. omega arith);
           symbols-size = Q.size;
           bytes = λ p b d h. replaced_other Q p b d h;
         }
 
     used-same : (j : ℕ) → j < c.m → j ≢ r → used_by plan' j ≡ used_by plan j
-    used-same j h d =
-        let l = settle_steps in
-        let hp = R.below i hi in
-        T.others (8192 + j) (λ e. omega (arith, S.made.rows)) (λ e. omega (arith, S.made.rows)) (λ e. omega arith) (λ e. omega (arith, S.made.positions))
+    used-same j h d = T.others j d
 
     -- the row adds up to zero
     row-holds : (b : ℕ) → b < w → row_sum c w symbols' r b ≡ 0
     row-holds b h =
-        sum-rest R i hi (byte_at w symbols' b)
+        sum-rest R i only.below (byte_at w symbols' b)
         ∙ ap (λ (v : ℕ). v ⊕ byte_at w symbols' b (get_or xs i 0))
-        (sum_ext (λ k. true) (λ k. byte_at w symbols' b (get_or (set xs i (get_or xs (n - 1) 0)) k 0)) (λ k. byte_at w symbols b (get_or (set xs i (get_or xs (n - 1) 0)) k 0)) (n - 1)
-        (λ k l. replaced_other Q (get_or (set xs i (get_or xs (n - 1) 0)) k 0) b (rest_ne R i hi settle_alone k l) h)
+        (sum_ext (λ k. true) (λ k. byte_at w symbols' b (get_or (rest_of xs n i) k 0)) (λ k. byte_at w symbols b (get_or (rest_of xs n i) k 0)) (n - 1)
+        (λ k l. replaced_other Q (get_or (rest_of xs n i) k 0) b (rest_ne R i only.below settle_alone k l) h)
         ∙ sym (Q.each b h))
         ∙ self (byte_at w symbols' b (get_or xs i 0))
 
@@ -264,10 +253,10 @@ module _ {c : Checks} {w : ℕ} {block states plan symbols : List ℕ} {g : Prog
           go : Dec (t < g.steps) → Step c states plan' early' t
           go (yes l) = step_kept S settle_keeps early' t l (early_kept S early' e t l)
           go (no l) =
-              let hp = R.below i hi in
+              let hp = R.below i only.below in
               let d : g.steps ≡ t = omega arith in
               subst (λ (s : ℕ). Step c states plan' early' s) d
-              (step-at r (get_or xs i 0) T.row T.position hr hp (missing-here S settle_keeps hp) T.kind (row_has R i hi settle_alone)
+              (step-at r (get_or xs i 0) T.row T.position hr hp (missing-here S settle_keeps hp) T.kind (row_has R i only.below settle_alone)
               (λ x hx k f. settle_before x hx f (row-others x hx k f)))
 
       settle_sort : (p : ℕ) → p < c.n → is_known states p ≡ false → Sort plan' (g.steps + 1) g.pivots p
@@ -295,13 +284,12 @@ module _ {c : Checks} {w : ℕ} {block states plan symbols : List ℕ} {g : Prog
               let d : t ≡ g.steps = omega arith in
               ap (λ (k : ℕ). row_sum c w symbols' k b) (ap (λ (s : ℕ). row_of plan' s) d ∙ T.row) ∙ row-holds b hb
 
-      state_settle : (fuel last : ℕ)
+      state_settle : (fuel : ℕ) (last : Option ℕ)
           → State c w block states plan' symbols' (record { steps = g.steps + 1; pivots = g.pivots; early = early'; cursor = g.cursor; fuel = fuel; last = last })
       state_settle fuel last =
           record {
             made =
                 record {
-                  size = T.size ∙ S.made.size;
                   positions = S.made.positions;
                   rows = S.made.rows;
                   early_steps = early_fits S early' e;
@@ -328,21 +316,20 @@ module _ {c : Checks} {w : ℕ} {block states plan symbols : List ℕ} {g : Prog
           }
 
   -- from what `settle` ensures
-  pub state_settled : {plan' symbols' : List ℕ} (p : ℕ) → p ≡ get_or xs i 0 → (early' fuel last : ℕ)
-      → plan' ≡ set (set (set (set plan (6144 + g.steps) r) (7168 + g.steps) p) (8192 + r) 1) p (g.steps + 1)
-      → Replaced (λ b. gathered (byte_at w symbols b) (set xs i (get_or xs (n - 1) 0)) (n - 1)) w p symbols symbols'
+  pub state_settled : {plan' : Arrays} {symbols' : List ℕ} (p : ℕ) → p ≡ get_or xs i 0 → (early' fuel : ℕ) (last : Option ℕ)
+      → StepMade plan plan' g.steps r p
+      → Replaced (λ b. gathered (byte_at w symbols b) (take (n - 1) (rest_of xs n i)) (length (take (n - 1) (rest_of xs n i)))) w p symbols symbols'
       → early' ≡ cond (eqb g.pivots 0) (g.steps + 1) g.early
       → State c w block states plan' symbols' (record { steps = g.steps + 1; pivots = g.pivots; early = early'; cursor = g.cursor; fuel = fuel; last = last })
   state_settled {plan'} {symbols'} p d early' fuel last e Q f =
       let h = ready.0 in
-      let e' = e ∙ ap (λ (x : ℕ). set (set (set (set plan (6144 + g.steps) r) (7168 + g.steps) x) (8192 + r) 1) x (g.steps + 1)) d in
-      state_settle (settled plan g.steps r (get_or xs i 0) h.1.1.1 h.0 h.1.0 h.1.1.0 plan' e')
-      (subst (λ (x : ℕ). Replaced (λ b. gathered (byte_at w symbols b) (set xs i (get_or xs (n - 1) 0)) (n - 1)) w x symbols symbols') d Q) early' f fuel last
+      state_settle (settled h.0 h.1.0 h.1.1 (subst (λ (x : ℕ). StepMade plan plan' g.steps r x) d e))
+      (restore_front (rest_of xs n i) (n - 1) w (rest_few R i only.below) (subst (λ (x : ℕ). Replaced (λ b. gathered (byte_at w symbols b) (take (n - 1) (rest_of xs n i)) (length (take (n - 1) (rest_of xs n i)))) w x symbols symbols') d Q)) early' f fuel last
 
 -- ---- the position under the cursor
 
 -- one more closed position
-pub closed-more : (plan : List ℕ) (from x : ℕ) → ((p : ℕ) → from ≤ p → p < x → kind_of plan p ≢ 65535) → kind_of plan x ≢ 65535
+pub closed-more : (plan : Arrays) (from x : ℕ) → ((p : ℕ) → from ≤ p → p < x → kind_of plan p ≢ 65535) → kind_of plan x ≢ 65535
     → (p : ℕ) → from ≤ p → p < x + 1 → kind_of plan p ≢ 65535
 closed-more plan from x below here p f h e = go (dec_lt p x)
   where
@@ -350,9 +337,9 @@ closed-more plan from x below here p f h e = go (dec_lt p x)
     go (yes l) = below p f l e
     go (no l) = let d : x ≡ p = omega arith in here (ap (λ (k : ℕ). kind_of plan k) d ∙ e)
 
-module _ {c : Checks} {w : ℕ} {block states plan symbols : List ℕ} {g : Progress} (S : State c w block states plan symbols g) where
+module _ {c : Checks} {w : ℕ} {block states : List ℕ} {plan : Arrays} {symbols : List ℕ} {g : Progress} (S : State c w block states plan symbols g) where
   -- fuel and the last position say nothing
-  pub state_late : (fuel last : ℕ)
+  pub state_late : (fuel : ℕ) (last : Option ℕ)
       → State c w block states plan symbols (record { steps = g.steps; pivots = g.pivots; early = g.early; cursor = g.cursor; fuel = fuel; last = last })
   state_late fuel last =
       record {
@@ -366,39 +353,35 @@ module _ {c : Checks} {w : ℕ} {block states plan symbols : List ℕ} {g : Prog
       }
 
   -- the cursor passes over closed positions
-  pub state_pass : {n x : ℕ} (last : ℕ) → n ≡ c.n → NextOpen plan g.cursor n x
+  pub state_pass : {x : ℕ} (last : Option ℕ) → g.cursor ≤ x → x ≤ c.n → NoneOpen plan g.cursor x
       → State c w block states plan symbols (record { steps = g.steps; pivots = g.pivots; early = g.early; cursor = x; fuel = g.fuel; last = last })
-  state_pass {n} {x} last e N =
+  state_pass {x} last from to none =
       record {
         made = S.made;
         unsolved = S.unsolved;
         values = S.values;
         begun = S.begun;
-        cursor_below = omega (arith, N.below);
-        pivots_below = omega (arith, S.pivots_below, N.after);
+        cursor_below = to;
+        pivots_below = omega (arith, S.pivots_below);
         closed = λ p h. go p h (dec_lt p g.cursor);
       }
     where
       go : (p : ℕ) → p < x → Dec (p < g.cursor) → kind_of plan p ≢ 65535
       go p h (yes l) = S.closed p l
-      go p h (no l) = N.passed p (omega arith) h
+      go p h (no l) = none p (omega arith) h
 
   -- the cursor moves on
   module _ (hx : g.cursor < c.n) where
-    module _ {plan' symbols' : List ℕ} (o : kind_of plan g.cursor ≡ 65535) (T : Deferred plan plan' g.pivots g.cursor)
+    module _ {plan' : Arrays} {symbols' : List ℕ} (o : kind_of plan g.cursor ≡ 65535) (T : Deferred plan plan' g.pivots g.cursor)
         (Q : Replaced (λ b. 0) w g.cursor symbols symbols') where
       defer_keeps : Keeps c w g.steps g.pivots g.cursor plan symbols plan' symbols'
       defer_keeps =
-          let m = S.made in
-          let l = S.pivots_below in
-          let s : g.steps ≤ c.m = omega (arith, m.steps-unused) in
           record {
             was = o;
-            size = T.size;
-            kinds = λ p h d. T.others p (λ e. omega (arith, m.positions)) d;
-            pivot-same = λ u h. T.others (3072 + u) (λ e. omega arith) (λ e. omega (arith, m.positions));
-            row_same = λ t h. T.others (6144 + t) (λ e. omega (arith, m.positions)) (λ e. omega (arith, m.positions));
-            position-same = λ t h. T.others (7168 + t) (λ e. omega (arith, m.positions)) (λ e. omega (arith, m.positions));
+            kinds = λ p h d. T.kinds p d;
+            pivot-same = λ u h. T.pivots u (λ e. omega arith);
+            row_same = λ t h. T.rows t;
+            position-same = λ t h. T.positions t;
             symbols-size = Q.size;
             bytes = λ p b d h. replaced_other Q p b d h;
           }
@@ -407,7 +390,7 @@ module _ {c : Checks} {w : ℕ} {block states plan symbols : List ℕ} {g : Prog
       few_pivots = omega (arith, S.pivots_below, S.made.positions)
 
       used-kept : (j : ℕ) → j < c.m → used_by plan' j ≡ used_by plan j
-      used-kept j h = T.others (8192 + j) (λ e. omega (arith, few_pivots)) (λ e. omega (arith, S.made.positions))
+      used-kept j h = T.used j
 
       now_kind : kind_of plan' (pivot_of plan' g.pivots) ≡ 1025 + g.pivots
       now_kind = ap (λ (k : ℕ). kind_of plan' k) T.position ∙ T.kind
@@ -443,13 +426,12 @@ module _ {c : Checks} {w : ℕ} {block states plan symbols : List ℕ} {g : Prog
             kind = (omega (arith, now_kind), omega (arith, now_kind, few_pivots));
           }
 
-      pub state_defer : (last : ℕ) → State c w block states plan' symbols'
+      pub state_defer : (last : Option ℕ) → State c w block states plan' symbols'
           (record { steps = g.steps; pivots = g.pivots + 1; early = g.early; cursor = g.cursor + 1; fuel = g.fuel; last = last })
       state_defer last =
           record {
             made =
                 record {
-                  size = T.size ∙ S.made.size;
                   positions = S.made.positions;
                   rows = S.made.rows;
                   early_steps = S.made.early_steps;
@@ -479,23 +461,22 @@ module _ {c : Checks} {w : ℕ} {block states plan symbols : List ℕ} {g : Prog
 
 -- ---- the beginning
 
-pub state-start : (c : Checks) (w n : ℕ) (states plan symbols : List ℕ) (fuel last : ℕ) → c.n ≤ 3072 → c.m ≤ 1024 → length symbols ≡ c.n * w → n ≡ c.n → Opened n states plan
+pub state-start : (c : Checks) (w n : ℕ) (states : List ℕ) (plan : Arrays) (symbols : List ℕ) (fuel : ℕ) (last : Option ℕ) → c.n ≤ 3072 → c.m ≤ 1024 → length symbols ≡ c.n * w → n ≡ c.n → Opened n states plan
     → State c w symbols states plan symbols (record { steps = 0; pivots = 0; early = 0; cursor = 0; fuel = fuel; last = last })
 state-start c w n states plan symbols fuel last hn hm e d o =
     record {
       made =
           record {
-            size = o.size;
             positions = hn;
             rows = hm;
             early_steps = omega arith;
             pivots_few = omega arith;
-            steps-unused = omega (arith, unused_all plan c.m (λ j h. o.unused (8192 + j) (omega arith)));
+            steps-unused = omega (arith, unused_all plan c.m (λ j h. o.unused j));
             known = λ p hp h. o.known p (omega arith) h;
             sort = λ p hp m. inl (o.open_kind p (omega arith) m);
             step = λ t h. absurd (omega arith);
             pivot = λ u h. absurd (omega arith);
-            used = λ j h. inl (o.unused (8192 + j) (omega arith));
+            used = λ j h. inl (o.unused j);
           };
       unsolved = λ u h. absurd (omega arith);
       values =
@@ -512,8 +493,8 @@ state-start c w n states plan symbols fuel last hn hm e d o =
     }
 
 -- where no position is missing, it is the end too
-pub nothing-missing : {c : Checks} {w n : ℕ} {states plan symbols : List ℕ} → c.n ≤ 3072 → c.m ≤ 1024 → length symbols ≡ c.n * w → n ≡ c.n → Opened n states plan
+pub nothing-missing : {c : Checks} {w n : ℕ} {states : List ℕ} {plan : Arrays} {symbols : List ℕ} → c.n ≤ 3072 → c.m ≤ 1024 → length symbols ≡ c.n * w → n ≡ c.n → Opened n states plan
     → ((p : ℕ) → p < n → is_known states p ≡ true) → Peeled c w symbols states plan symbols 0 0 0
 nothing-missing {c} {w} {n} {states} {plan} {symbols} hn hm e d o k =
-    let S = state-start c w n states plan symbols 0 0 hn hm e d o in
+    let S = state-start c w n states plan symbols 0 None hn hm e d o in
     record { made = S.made; closed = λ p h z. omega (arith, o.known p (omega arith) (k p (omega arith)), z); unsolved = S.unsolved; values = S.values; begun = S.begun }

@@ -1,63 +1,63 @@
--- How a plan's array changes by a step and by a pivot.
+-- How a plan changes by a step and by a pivot.
 -- Assumes nothing.
-use Rattle.std.proofs.Common.{◌≡◌, ℕ, ◌+◌, ◌<◌, ◌≢◌, List, length, get_or, set, ap, ◌∙◌, arith, length-set, get_or-set_other, get_or-set_same}
-use Rattle.peeling.specs.Plan.{kind_of, pivot_of, row_of, position_of, used_by}
+use Rattle.std.proofs.Common.{◌≡◌, ℕ, ◌+◌, ◌<◌, Bool, false, true, cond, ◌≢◌, List, get_or, ap, ◌∙◌, arith, get_or-set_other, get_or-set_same}
+use Rattle.peeling.specs.Plan.{Arrays, kind_of, pivot_of, row_of, position_of, used_by}
+use Rattle.peeling.specs.Peel.{StepMade, PivotMade}
+
+-- whether check row j is used
+pub used_as : (plan : Arrays) (j : ℕ) (b : Bool) → get_or plan.used j false ≡ b → used_by plan j ≡ cond b 1 0
+used_as plan j b e = ap (λ (u : Bool). cond u 1 0) e
 
 -- step t is entered: check row r, position p
-pub record Settled (plan plan' : List ℕ) (t r p : ℕ) : Type 0 where
-  pub size : length plan' ≡ length plan
+pub record Settled (plan plan' : Arrays) (t r p : ℕ) : Type 0 where
   pub row : row_of plan' t ≡ r
+  pub rows : (k : ℕ) → k ≢ t → row_of plan' k ≡ row_of plan k
   pub position : position_of plan' t ≡ p
+  pub positions : (k : ℕ) → k ≢ t → position_of plan' k ≡ position_of plan k
   pub used : used_by plan' r ≡ 1
+  pub others : (j : ℕ) → j ≢ r → used_by plan' j ≡ used_by plan j
   pub kind : kind_of plan' p ≡ t + 1
-  pub others : (k : ℕ) → k ≢ 6144 + t → k ≢ 7168 + t → k ≢ 8192 + r → k ≢ p → get_or plan' k 0 ≡ get_or plan k 0
+  pub kinds : (k : ℕ) → k ≢ p → kind_of plan' k ≡ kind_of plan k
+  pub pivots : (u : ℕ) → pivot_of plan' u ≡ pivot_of plan u
 
-module _ (plan : List ℕ) (t r p : ℕ) (size : length plan ≡ 9216) (ht : t < 1024) (hr : r < 1024) (hp : p < 3072) where
-  pub settled : (plan' : List ℕ) → plan' ≡ set (set (set (set plan (6144 + t) r) (7168 + t) p) (8192 + r) 1) p (t + 1) → Settled plan plan' t r p
-  settled plan' e =
-      record {
-        size = ap length e ∙ simp length-set;
-        row = at (6144 + t) (λ h. omega arith) ∙ third (6144 + t) (λ h. omega arith) ∙ second (6144 + t) (λ h. omega arith) ∙ get_or-set_same plan (6144 + t) r 0 (omega arith);
-        position = at (7168 + t) (λ h. omega arith) ∙ third (7168 + t) (λ h. omega arith) ∙ get_or-set_same l₁ (7168 + t) p 0 (simp length-set (omega arith));
-        used = at (8192 + r) (λ h. omega arith) ∙ get_or-set_same l₂ (8192 + r) 1 0 (simp length-set (omega arith));
-        kind = ap (λ (l : List ℕ). get_or l p 0) e ∙ get_or-set_same l₃ p (t + 1) 0 (simp length-set (omega arith));
-        others = λ k h₁ h₂ h₃ h₄. at k h₄ ∙ third k h₃ ∙ second k h₂ ∙ get_or-set_other plan (6144 + t) k r 0 h₁;
-      }
-    where
-      l₁ : List ℕ
-      l₁ = set plan (6144 + t) r
-
-      l₂ : List ℕ
-      l₂ = set l₁ (7168 + t) p
-
-      l₃ : List ℕ
-      l₃ = set l₂ (8192 + r) 1
-
-      at : (k : ℕ) → k ≢ p → get_or plan' k 0 ≡ get_or l₃ k 0
-      at k h = ap (λ (l : List ℕ). get_or l k 0) e ∙ get_or-set_other l₃ p k (t + 1) 0 h
-
-      third : (k : ℕ) → k ≢ 8192 + r → get_or l₃ k 0 ≡ get_or l₂ k 0
-      third k h = get_or-set_other l₂ (8192 + r) k 1 0 h
-
-      second : (k : ℕ) → k ≢ 7168 + t → get_or l₂ k 0 ≡ get_or l₁ k 0
-      second k h = get_or-set_other l₁ (7168 + t) k p 0 h
+pub settled : {plan plan' : Arrays} {t r p : ℕ} → t < 1024 → r < 1024 → p < 3072 → StepMade plan plan' t r p → Settled plan plan' t r p
+settled {plan} {plan'} {t} {r} {p} ht hr hp m =
+    record {
+      row = at t m.step_rows ∙ get_or-set_same plan.step_rows t r 0 (omega (arith, plan.rows_len));
+      rows = λ k h. at k m.step_rows ∙ get_or-set_other plan.step_rows t k r 0 h;
+      position = at t m.step_positions ∙ get_or-set_same plan.step_positions t p 0 (omega (arith, plan.positions_len));
+      positions = λ k h. at k m.step_positions ∙ get_or-set_other plan.step_positions t k p 0 h;
+      used = used_as plan' r true (ap (λ (l : List Bool). get_or l r false) m.used ∙ get_or-set_same plan.used r true false (omega (arith, plan.used_len)));
+      others = λ j h. used_as plan' j (get_or plan.used j false) (ap (λ (l : List Bool). get_or l j false) m.used ∙ get_or-set_other plan.used r j true false h);
+      kind = at p m.kinds ∙ get_or-set_same plan.kinds p (t + 1) 0 (omega (arith, plan.kinds_len));
+      kinds = λ k h. at k m.kinds ∙ get_or-set_other plan.kinds p k (t + 1) 0 h;
+      pivots = λ u. at u m.pivots;
+    }
+  where
+    at : {l l' : List ℕ} (k : ℕ) → l' ≡ l → get_or l' k 0 ≡ get_or l k 0
+    at k e = ap (λ (l : List ℕ). get_or l k 0) e
 
 -- pivot s is entered: position x
-pub record Deferred (plan plan' : List ℕ) (s x : ℕ) : Type 0 where
-  pub size : length plan' ≡ length plan
+pub record Deferred (plan plan' : Arrays) (s x : ℕ) : Type 0 where
   pub position : pivot_of plan' s ≡ x
+  pub pivots : (u : ℕ) → u ≢ s → pivot_of plan' u ≡ pivot_of plan u
   pub kind : kind_of plan' x ≡ 1025 + s
-  pub others : (k : ℕ) → k ≢ 3072 + s → k ≢ x → get_or plan' k 0 ≡ get_or plan k 0
+  pub kinds : (k : ℕ) → k ≢ x → kind_of plan' k ≡ kind_of plan k
+  pub rows : (t : ℕ) → row_of plan' t ≡ row_of plan t
+  pub positions : (t : ℕ) → position_of plan' t ≡ position_of plan t
+  pub used : (j : ℕ) → used_by plan' j ≡ used_by plan j
 
-module _ (plan : List ℕ) (s x : ℕ) (size : length plan ≡ 9216) (hs : s < 3072) (hx : x < 3072) where
-  pub deferred : (plan' : List ℕ) → plan' ≡ set (set plan (3072 + s) x) x (1025 + s) → Deferred plan plan' s x
-  deferred plan' e =
-      record {
-        size = ap length e ∙ simp length-set;
-        position = at (3072 + s) (λ h. omega arith) ∙ get_or-set_same plan (3072 + s) x 0 (omega arith);
-        kind = ap (λ (l : List ℕ). get_or l x 0) e ∙ get_or-set_same (set plan (3072 + s) x) x (1025 + s) 0 (simp length-set (omega arith));
-        others = λ k h₁ h₂. at k h₂ ∙ get_or-set_other plan (3072 + s) k x 0 h₁;
-      }
-    where
-      at : (k : ℕ) → k ≢ x → get_or plan' k 0 ≡ get_or (set plan (3072 + s) x) k 0
-      at k h = ap (λ (l : List ℕ). get_or l k 0) e ∙ get_or-set_other (set plan (3072 + s) x) x k (1025 + s) 0 h
+pub deferred : {plan plan' : Arrays} {s x : ℕ} → s < 3072 → x < 3072 → PivotMade plan plan' s x → Deferred plan plan' s x
+deferred {plan} {plan'} {s} {x} hs hx m =
+    record {
+      position = at s m.pivots ∙ get_or-set_same plan.pivots s x 0 (omega (arith, plan.pivots_len));
+      pivots = λ u h. at u m.pivots ∙ get_or-set_other plan.pivots s u x 0 h;
+      kind = at x m.kinds ∙ get_or-set_same plan.kinds x (1025 + s) 0 (omega (arith, plan.kinds_len));
+      kinds = λ k h. at k m.kinds ∙ get_or-set_other plan.kinds x k (1025 + s) 0 h;
+      rows = λ t. at t m.step_rows;
+      positions = λ t. at t m.step_positions;
+      used = λ j. used_as plan' j (get_or plan.used j false) (ap (λ (l : List Bool). get_or l j false) m.used);
+    }
+  where
+    at : {l l' : List ℕ} (k : ℕ) → l' ≡ l → get_or l' k 0 ≡ get_or l k 0
+    at k e = ap (λ (l : List ℕ). get_or l k 0) e

@@ -1,6 +1,6 @@
 -- The positions of a check row without one of them: the last takes its place.
 -- Assumes nothing.
-use Rattle.std.proofs.Common.{◌≡◌, ℕ, zero, suc, ◌-◌, ◌*◌, ◌<◌, Bool, true, false, eqb, ◌≢◌, List, length, get_or, set, sym, refl, ap, ◌∙◌, subst, ap₂, ⊎_elim, le_trans, not-suc-le-zero, arith, length-set, get_or-set_other, get_or-set_same, eq-eqb, ne_eqb}
+use Rattle.std.proofs.Common.{take, ◌≤◌, ◌≡◌, ℕ, zero, suc, ◌-◌, ◌*◌, ◌<◌, Bool, true, false, eqb, ◌≢◌, List, length, get_or, set, sym, refl, ap, ◌∙◌, subst, ap₂, ⊎_elim, le_trans, not-suc-le-zero, arith, length-set, get_or-set_other, get_or-set_same, eq-eqb, ne_eqb}
 use native.Mathlib.Nat.{le-suc}
 use native.Mathlib.Decide.{ℕ_discrete}
 use Rattle.algebra.specs.Sums.{◌⊕◌, pick, sum}
@@ -8,7 +8,12 @@ use Rattle.algebra.specs.Codeword.{Checks}
 use Rattle.algebra.proofs.Sums.{assoc, comm, cancel, cancel_l, sum-suc, sum_ext, sum_terms, sum_zeros, sum_alone}
 use Rattle.algebra.proofs.Codeword.{slot}
 use Rattle.symbol_sums.specs.Gather.{gathered, Inside}
+use Rattle.symbol_sums.proofs.Fronts.{inside_front}
 use Rattle.encoder.specs.inner.Positions.{RowOf}
+
+-- the first n - 1 of these are the first n of xs, but for the i-th
+abbrev pub rest_of : List ℕ → ℕ → ℕ → List ℕ
+rest_of xs n i = set xs i (get_or xs (n - 1) 0)
 
 -- one number changes
 sum_changed : (u v : ℕ → ℕ) (i n : ℕ) → i < n → ((k : ℕ) → k < n → k ≢ i → v k ≡ u k) → sum (λ k. true) v n ≡ sum (λ k. true) u n ⊕ (u i ⊕ v i)
@@ -59,35 +64,35 @@ at p x = pick (eqb x p) 1
 
 module _ {c : Checks} {r n : ℕ} {xs : List ℕ} (R : RowOf c r n xs) (i : ℕ) (h : i < n) where
   -- the check row's sum, by the sum of the others
-  pub sum-rest : (f : ℕ → ℕ) → sum (c.has r) f c.n ≡ gathered f (set xs i (get_or xs (n - 1) 0)) (n - 1) ⊕ f (get_or xs i 0)
+  pub sum-rest : (f : ℕ → ℕ) → sum (c.has r) f c.n ≡ gathered f (rest_of xs n i) (n - 1) ⊕ f (get_or xs i 0)
   sum-rest f =
       let e : suc (n - 1) ≡ n = omega arith in
       let l : i < length xs = omega (arith, R.few, R.size) in
       sym (R.total f) ∙ ap (gathered f xs) (sym e) ∙ gathered-rest f xs i (n - 1) (omega arith) l
 
   -- each of the others stood among the first n
-  pub rest_from : (k : ℕ) → k < n - 1 → (j : ℕ) × ((j < n) × ((j ≢ i) × (get_or (set xs i (get_or xs (n - 1) 0)) k 0 ≡ get_or xs j 0)))
+  pub rest_from : (k : ℕ) → k < n - 1 → (j : ℕ) × ((j < n) × ((j ≢ i) × (get_or (rest_of xs n i) k 0 ≡ get_or xs j 0)))
   rest_from k g = go (ℕ_discrete k i)
     where
-      go : Dec (k ≡ i) → (j : ℕ) × ((j < n) × ((j ≢ i) × (get_or (set xs i (get_or xs (n - 1) 0)) k 0 ≡ get_or xs j 0)))
+      go : Dec (k ≡ i) → (j : ℕ) × ((j < n) × ((j ≢ i) × (get_or (rest_of xs n i) k 0 ≡ get_or xs j 0)))
       go (yes d) =
-          (n - 1, (omega arith, (λ e. omega arith, ap (λ (x : ℕ). get_or (set xs i (get_or xs (n - 1) 0)) x 0) d ∙ get_or-set_same xs i (get_or xs (n - 1) 0) 0 (omega (arith, R.few, R.size)))))
+          (n - 1, (omega arith, (λ e. omega arith, ap (λ (x : ℕ). get_or (rest_of xs n i) x 0) d ∙ get_or-set_same xs i (get_or xs (n - 1) 0) 0 (omega (arith, R.few, R.size)))))
       go (no d) = (k, (omega arith, (d, get_or-set_other xs i k (get_or xs (n - 1) 0) 0 d)))
 
-  pub rest_inside : (w bytes : ℕ) → bytes ≡ c.n * w → Inside (set xs i (get_or xs (n - 1) 0)) (n - 1) w bytes
+  pub rest_few : n - 1 ≤ length (rest_of xs n i)
+  rest_few = omega (arith, length-set xs i (get_or xs (n - 1) 0), R.few, R.size)
+
+  pub rest_inside : (w bytes : ℕ) → bytes ≡ c.n * w → Inside (take (n - 1) (rest_of xs n i)) w bytes
   rest_inside w bytes e =
-      record {
-        size = length-set xs i (get_or xs (n - 1) 0) ∙ R.size;
-        few = omega (arith, R.few);
-        each = λ k g.
-            let j = rest_from k g in
-            let b : get_or (set xs i (get_or xs (n - 1) 0)) k 0 < c.n = subst (λ (x : ℕ). x < c.n) (sym j.1.1.1) (R.below j.0 j.1.0) in
-            omega (arith, slot (get_or (set xs i (get_or xs (n - 1) 0)) k 0) c.n w b);
-      }
+      inside_front (rest_of xs n i) (n - 1) rest_few
+      (λ k g.
+      let j = rest_from k g in
+      let b : get_or (rest_of xs n i) k 0 < c.n = subst (λ (x : ℕ). x < c.n) (sym j.1.1.1) (R.below j.0 j.1.0) in
+      omega (arith, slot (get_or (rest_of xs n i) k 0) c.n w b))
 
   -- a position that stands once
   module _ (alone : (k : ℕ) → k < n → k ≢ i → get_or xs k 0 ≢ get_or xs i 0) where
-    pub rest_ne : (k : ℕ) → k < n - 1 → get_or (set xs i (get_or xs (n - 1) 0)) k 0 ≢ get_or xs i 0
+    pub rest_ne : (k : ℕ) → k < n - 1 → get_or (rest_of xs n i) k 0 ≢ get_or xs i 0
     rest_ne k g e = let j = rest_from k g in alone j.0 j.1.0 j.1.1.0 (sym j.1.1.1 ∙ e)
 
     one : gathered (at (get_or xs i 0)) xs n ≡ 1

@@ -4,13 +4,13 @@ use Rattle.std.proofs.Common.{◌≡◌, ℕ, ◌+◌, ◌<◌, ◌≤◌, Bool,
 use native.Mathlib.Decide.{ℕ_discrete}
 use Rattle.algebra.specs.Codeword.{Checks}
 use Rattle.peeling.specs.States.{is_known}
-use Rattle.peeling.specs.Plan.{kind_of, pivot_of, row_of, position_of, Sort, Plan, Closed}
+use Rattle.peeling.specs.Plan.{Arrays, kind_of, pivot_of, row_of, position_of, Sort, Plan, Closed}
 
 -- position p is a pivot
-abbrev pub IsPivot : List ℕ → ℕ → ℕ → Type 0
+abbrev pub IsPivot : Arrays → ℕ → ℕ → Type 0
 IsPivot plan pivots p = (u : ℕ) × ((u < pivots) × (pivot_of plan u ≡ p))
 
-module _ {c : Checks} {states plan : List ℕ} {early steps pivots : ℕ} (made : Plan c states plan early steps pivots) where
+module _ {c : Checks} {states : List ℕ} {plan : Arrays} {early steps pivots : ℕ} (made : Plan c states plan early steps pivots) where
   pub few-steps : (steps ≤ c.m) × (steps ≤ 1024)
   few-steps = (omega (arith, made.steps-unused), omega (arith, made.steps-unused, made.rows))
 

@@ -1,21 +1,21 @@
 -- The check rows that no step used: how many there are, and their numbers.
 -- Assumes nothing.
-use Rattle.std.proofs.Common.{◌≡◌, ℕ, zero, suc, ◌+◌, ◌<◌, ◌≤◌, Bool, true, false, cond, eqb, ◌≢◌, List, sym, refl, ap, ◌∙◌, le_trans, not-suc-le-zero, add-one, arith, eq-eqb, ne_eqb}
+use Rattle.std.proofs.Common.{◌≡◌, ℕ, zero, suc, ◌+◌, ◌<◌, ◌≤◌, Bool, true, false, cond, eqb, ◌≢◌, sym, refl, ap, ◌∙◌, le_trans, not-suc-le-zero, add-one, arith, eq-eqb, ne_eqb}
 use native.Mathlib.Nat.{le-suc}
 use native.Mathlib.Decide.{dec_lt, ℕ_discrete}
-use Rattle.peeling.specs.Plan.{used_by, unused_below}
+use Rattle.peeling.specs.Plan.{Arrays, used_by, unused_below}
 
 -- the one with number i is among the first m check rows
-abbrev pub Unused : List ℕ → ℕ → ℕ → Type 0
+abbrev pub Unused : Arrays → ℕ → ℕ → Type 0
 Unused plan m i = (j : ℕ) × ((j < m) × ((used_by plan j ≡ 0) × (unused_below plan j ≡ i)))
 
-unused-suc : (plan : List ℕ) (j : ℕ) → unused_below plan (suc j) ≡ cond (eqb (used_by plan j) 0) (suc (unused_below plan j)) (unused_below plan j)
+unused-suc : (plan : Arrays) (j : ℕ) → unused_below plan (suc j) ≡ cond (eqb (used_by plan j) 0) (suc (unused_below plan j)) (unused_below plan j)
 unfolding unused_below
 unused-suc plan j = refl
 
 -- ---- one plan
 
-module _ (plan : List ℕ) where
+module _ (plan : Arrays) where
   unused-next : (j : ℕ) (u : Bool) → eqb (used_by plan j) 0 ≡ u → unused_below plan (j + 1) ≡ cond u (suc (unused_below plan j)) (unused_below plan j)
   unfolding unused_below
   unused-next j u e = ap (unused_below plan) (add-one j) ∙ ap (λ (b : Bool). cond b (suc (unused_below plan j)) (unused_below plan j)) e
@@ -56,7 +56,7 @@ module _ (plan : List ℕ) where
   unused-some r m h u = omega (arith, unused-below r m h u)
 
 -- every number below how many there are is some row's
-pub unused-row : (plan : List ℕ) (m i : ℕ) → i < unused_below plan m → Unused plan m i
+pub unused-row : (plan : Arrays) (m i : ℕ) → i < unused_below plan m → Unused plan m i
 unfolding unused_below
 unused-row plan zero i h = absurd (not-suc-le-zero h)
 unused-row plan (suc m) i h = go (ℕ_discrete (used_by plan m) 0) (ℕ_discrete (unused_below plan m) i) (unused-row plan m i)
@@ -70,7 +70,7 @@ unused-row plan (suc m) i h = go (ℕ_discrete (used_by plan m) 0) (ℕ_discrete
     go (no u) e ih = up (ih (omega (arith, unused-none plan m u, ap (unused_below plan) (add-one m))))
 
 -- no row is used
-pub unused_all : (plan : List ℕ) (m : ℕ) → ((j : ℕ) → j < m → used_by plan j ≡ 0) → unused_below plan m ≡ m
+pub unused_all : (plan : Arrays) (m : ℕ) → ((j : ℕ) → j < m → used_by plan j ≡ 0) → unused_below plan m ≡ m
 unfolding unused_below
 unused_all plan zero h = refl
 unused_all plan (suc m) h =
@@ -79,7 +79,7 @@ unused_all plan (suc m) h =
 -- ---- two plans
 
 -- the same rows are used
-pub unused-same : (plan plan' : List ℕ) (m : ℕ) → ((j : ℕ) → j < m → used_by plan' j ≡ used_by plan j) → unused_below plan' m ≡ unused_below plan m
+pub unused-same : (plan plan' : Arrays) (m : ℕ) → ((j : ℕ) → j < m → used_by plan' j ≡ used_by plan j) → unused_below plan' m ≡ unused_below plan m
 unfolding unused_below
 unused-same plan plan' zero h = refl
 unused-same plan plan' (suc m) h =
@@ -87,7 +87,7 @@ unused-same plan plan' (suc m) h =
     ap (λ (x : ℕ). cond (eqb x 0) (suc (unused_below plan' m)) (unused_below plan' m)) (h m (omega arith)) ∙ ap (λ (x : ℕ). cond (eqb (used_by plan m) 0) (suc x) x) f
 
 -- a step uses one more
-pub unused_settled : (plan plan' : List ℕ) (r m : ℕ) → r < m → used_by plan r ≡ 0 → used_by plan' r ≡ 1 → ((j : ℕ) → j < m → j ≢ r → used_by plan' j ≡ used_by plan j)
+pub unused_settled : (plan plan' : Arrays) (r m : ℕ) → r < m → used_by plan r ≡ 0 → used_by plan' r ≡ 1 → ((j : ℕ) → j < m → j ≢ r → used_by plan' j ≡ used_by plan j)
     → suc (unused_below plan' m) ≡ unused_below plan m
 unused_settled plan plan' r zero h u u' e = absurd (not-suc-le-zero h)
 unused_settled plan plan' r (suc m) h u u' e = go (ℕ_discrete m r) (λ l. unused_settled plan plan' r m l u u' (λ j g. e j (le_trans g (le-suc m))))

@@ -1,5 +1,4 @@
 pub mod States
 pub mod Plan
-pub mod Hints
 pub mod Values
 pub mod Peel

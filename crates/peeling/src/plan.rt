@@ -1,20 +1,25 @@
-// Where a plan (specs/Plan.antt) holds what, and the kinds of positions.
+// The plan of a decoding (specs/Plan.antt), and the kinds of positions.
+// A kind is a number, not an enum with one: that has twice the bytes, and the stack that the header gives close has no room for 6 KB more.
+ghost use Rattle.std.specs.Prelude.{◌≡◌, length};
+ghost use Rattle.ccsds.specs.inner.Layout.{max_n, max_m};
+
 use ccsds::code::Code;
 
-// Behind the kinds of the positions: the positions of the pivots.
-pub const PIVOTS: usize = Code::MAX_N;
-
-// The check rows of the steps.
-pub const STEP_ROWS: usize = PIVOTS + Code::MAX_N;
-
-// The positions that they settle.
-pub const STEP_POSITIONS: usize = STEP_ROWS + Code::MAX_M;
-
-// Whether a step used a check row.
-pub const USED: usize = STEP_POSITIONS + Code::MAX_M;
-
-// All of it.
-pub const PLAN_SIZE: usize = USED + Code::MAX_M;
+// Of each position its kind, of each pivot its position, of each step its check row and the position that it settles; and whether a step used a
+// check row.
+#[derive(Drop)]
+pub struct Plan {
+    pub kinds: [u16; Code::MAX_N],
+    pub pivots: [u16; Code::MAX_N],
+    pub step_rows: [u16; Code::MAX_M],
+    pub step_positions: [u16; Code::MAX_M],
+    pub used: [bool; Code::MAX_M],
+    pub ghost kinds_len: { length kinds ≡ max_n },
+    pub ghost pivots_len: { length pivots ≡ max_n },
+    pub ghost rows_len: { length step_rows ≡ max_m },
+    pub ghost positions_len: { length step_positions ≡ max_m },
+    pub ghost used_len: { length used ≡ max_m },
+}
 
 // The last kind that is a step's; 0 is known, and t + 1 is settled by step t.
 pub const LAST_STEP: usize = Code::MAX_M;

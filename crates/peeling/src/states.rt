@@ -1,4 +1,5 @@
 // What the decoder is told of each position of a block, and what it tells (specs/States.antt).
+// Numbers, not an enum: any other is taken for missing too, as `decoder::solve::solve` says.
 
 // Told: the symbol at the position is known. Any other number: it is missing.
 pub const KNOWN: u8 = 1;

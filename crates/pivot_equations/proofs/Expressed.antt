@@ -3,6 +3,7 @@
 use mathlib.Core.Path.{◌≡◌, refl, sym, ap, ap₂, ◌∙◌}
 use mathlib.Core.Logic.{inl, inr, ◌≢◌, ⊎_elim}
 use mathlib.Core.Bool.{Bool, true, false, cond}
+use Rattle.std.specs.Prelude.{Option, Some, None}
 use mathlib.Core.List.{List}
 use Prim.Native.Nat.{ℕ, ◌+◌, ◌-◌, ◌*◌, ◌<◌, ◌≤◌}
 use native.Mathlib.Nat.{eq-or-lt_of_le, mul-le-mul_right}
@@ -18,7 +19,7 @@ use Rattle.elimination.specs.Bits.{row_bit}
 use Rattle.elimination.specs.Reduced.{pivot_word}
 use Rattle.elimination.proofs.Order.{eq_or_ne}
 use Rattle.elimination.proofs.ColumnLaws.{cond-elim}
-use Rattle.peeling.specs.Plan.{kind_of, pivot_of, row_of, position_of, used_by, unused_below, Step, Plan, Closed, Unsolved}
+use Rattle.peeling.specs.Plan.{Arrays, kind_of, pivot_of, row_of, position_of, used_by, unused_below, Step, Plan, Closed, Unsolved}
 use Rattle.pivot_equations.specs.Express.{coefficient, Reads, OnlyRow, RowIs, Places, StepsExpressed, SameFrom, SameBelow, ReadsAll, RestTo}
 use Rattle.peeling.proofs.StepLaws.{few-steps, step_apart}
 use Rattle.peeling.proofs.UnusedRows.{unused-below}
@@ -47,7 +48,7 @@ pub below_more : {l l' l'' : List ℕ} {words steps : ℕ} → SameBelow l l' wo
 below_more a b = record { size = b.size ∙ a.size; below = λ k h. b.below k h ∙ a.below k h }
 
 -- pivots keep their places where the rows behind the steps stay
-pub places_from : (c : Checks) (plan : List ℕ) {l l' : List ℕ} {words steps rows : ℕ} → SameFrom l l' words steps → Places c plan l words steps rows → Places c plan l' words steps rows
+pub places_from : (c : Checks) (plan : Arrays) {l l' : List ℕ} {words steps rows : ℕ} → SameFrom l l' words steps → Places c plan l words steps rows → Places c plan l' words steps rows
 places_from c plan {l} {l'} {words} s places p h g =
     let q = places p h g in (
       q.0,
@@ -58,7 +59,7 @@ places_from c plan {l} {l'} {words} s places p h g =
           (r.0, (r.1.0, rw e r.1.1)),
     )
 
-pub reads-rows : {c : Checks} {plan l : List ℕ} {words early rows rows' t p : ℕ} → rows' ≡ rows → ReadsAll c plan l words early rows t p → ReadsAll c plan l words early rows' t p
+pub reads-rows : {c : Checks} {plan : Arrays} {l : List ℕ} {words early rows rows' t : ℕ} {but : Option ℕ} → rows' ≡ rows → ReadsAll c plan l words early rows t but → ReadsAll c plan l words early rows' t but
 reads-rows e r = rw e r
 
 -- ---- what a position's kind says
@@ -66,7 +67,7 @@ reads-rows e r = rw e r
 reads_none : {l : List ℕ} {words early rows t : ℕ} → Reads l words early rows t 0
 reads_none = record { step = λ h g. absurd (omega arith); pivot = λ h g. absurd (omega arith); solved = λ h. absurd (omega arith) }
 
-module _ {c : Checks} {states plan : List ℕ} {early steps pivots : ℕ} (made : Plan c states plan early steps pivots) (closed : Closed c plan) where
+module _ {c : Checks} {states : List ℕ} {plan : Arrays} {early steps pivots : ℕ} (made : Plan c states plan early steps pivots) (closed : Closed c plan) where
   -- a position is known, settled or put off
   data Settled (x : ℕ) : Type 0 where
     known : kind_of plan x ≡ 0 → Settled x
@@ -103,7 +104,7 @@ module _ {c : Checks} {states plan : List ℕ} {early steps pivots : ℕ} (made 
         }
 
     -- row t of a step
-    pub reads-step : t < steps → ReadsAll c plan l words early c.m t (position_of plan t)
+    pub reads-step : t < steps → ReadsAll c plan l words early c.m t (Some (position_of plan t))
     reads-step h = record {
       each = λ x g.
           cond-elim (λ (k : ℕ). Reads l words early c.m t k) (eqb x (position_of plan t)) 0 (kind_of plan x) (λ e. reads_none)
@@ -115,7 +116,7 @@ module _ {c : Checks} {states plan : List ℕ} {early steps pivots : ℕ} (made 
     other_step h x g ne = rw (ne_eqb x (position_of plan t) ne) at ((reads-step h).each x g)
 
     -- the new row t makes its step hold
-    step-holds : {l' : List ℕ} → early ≤ t → t < steps → RowIs c plan l l' words early t (row_of plan t) (position_of plan t)
+    step-holds : {l' : List ℕ} → early ≤ t → t < steps → RowIs c plan l l' words early t (row_of plan t) (Some (position_of plan t))
         → (i : ℕ) → i < 64 * words → sum (c.has (row_of plan t)) (λ x. coefficient plan l' words early x i) c.n ≡ 0
     step-holds {l'} late h row i hi =
         sum_without a (λ x. coefficient plan l' words early x i) p c.n s.position s.has
@@ -152,7 +153,7 @@ module _ {c : Checks} {states plan : List ℕ} {early steps pivots : ℕ} (made 
         (λ x g on. ap (λ (b : Bool). pick b 1) (depends_same only (other_step h x g (step_apart made t s h hs x g on)) i hi))
         ∙ e
 
-    pub steps-more : {l' : List ℕ} → early ≤ t → t < steps → RowIs c plan l l' words early t (row_of plan t) (position_of plan t)
+    pub steps-more : {l' : List ℕ} → early ≤ t → t < steps → RowIs c plan l l' words early t (row_of plan t) (Some (position_of plan t))
         → StepsExpressed c plan l words early t → StepsExpressed c plan l' words early (t + 1)
     steps-more {l'} late h row done s i hs hi =
         ⊎_elim (λ e. rw e (step-holds late h row i hi)) (λ lt. step_kept row.only h s lt i hi (done s i lt hi))
@@ -175,7 +176,7 @@ module _ {c : Checks} {states plan : List ℕ} {early steps pivots : ℕ} (made 
 
 -- ---- the check rows that no step used
 
-module _ {c : Checks} {states plan : List ℕ} {early steps pivots : ℕ} (made : Plan c states plan early steps pivots) (closed : Closed c plan)
+module _ {c : Checks} {states : List ℕ} {plan : Arrays} {early steps pivots : ℕ} (made : Plan c states plan early steps pivots) (closed : Closed c plan)
     (unsolved : Unsolved plan pivots) where
   unsolved-kind : (x : ℕ) → x < c.n → kind_of plan x ≤ 4096
   unsolved-kind x h = go (settled made closed x h)
@@ -198,12 +199,12 @@ module _ {c : Checks} {states plan : List ℕ} {early steps pivots : ℕ} (made 
     reads_other : steps ≤ t → (x : ℕ) → x < c.n → Reads l words early c.m t (kind_of plan x)
     reads_other h x g = reads_settled made closed places x g (λ s hs e q. omega arith) (λ k q. omega (arith, unsolved-kind x g))
 
-    pub reads-rest : steps ≤ t → ReadsAll c plan l words early c.m t 3072
+    pub reads-rest : steps ≤ t → ReadsAll c plan l words early c.m t None
     reads-rest h = record {
-      each = λ x g. cond-elim (λ (k : ℕ). Reads l words early c.m t k) (eqb x 3072) 0 (kind_of plan x) (λ e. reads_none) (λ ne. reads_other h x g);
+      each = λ x g. reads_other h x g;
     }
 
-    pub rest_more : {l' : List ℕ} (j : ℕ) → t ≡ steps + unused_below plan j → used_by plan j ≡ 0 → RowIs c plan l l' words early t j 3072
+    pub rest_more : {l' : List ℕ} (j : ℕ) → t ≡ steps + unused_below plan j → used_by plan j ≡ 0 → RowIs c plan l l' words early t j None
         → RestTo c plan l words early steps j → RestTo c plan l' words early steps (j + 1)
     rest_more {l'} j e unused row done k i h z hi =
         ⊎_elim (λ q. rw q here) before (eq-or-lt_of_le (let g : k ≤ j = omega arith in g))
@@ -214,8 +215,7 @@ module _ {c : Checks} {states plan : List ℕ} {early steps pivots : ℕ} (made 
         here : pick (row_bit l' ((steps + unused_below plan j) * (words + 1)) i) 1 ≡ sum (c.has j) (λ x. coefficient plan l' words early x i) c.n
         here =
             ap (λ (r : ℕ). pick (row_bit l' (r * (words + 1)) i) 1) (sym e) ∙ row.bits i hi
-            ∙ sum_ext (c.has j) (λ x. cond (eqb x 3072) 0 (coefficient plan l words early x i)) (λ x. coefficient plan l' words early x i) c.n
-            (λ x g. ap (λ (b : Bool). cond b 0 (coefficient plan l words early x i)) (ne_eqb x 3072 (λ q. omega (arith, made.positions))) ∙ same x g)
+            ∙ sum_ext (c.has j) (λ x. coefficient plan l words early x i) (λ x. coefficient plan l' words early x i) c.n same
 
         before : k < j → pick (row_bit l' ((steps + unused_below plan k) * (words + 1)) i) 1 ≡ sum (c.has k) (λ x. coefficient plan l' words early x i) c.n
         before lt =
@@ -223,6 +223,6 @@ module _ {c : Checks} {states plan : List ℕ} {early steps pivots : ℕ} (made 
             ∙ sum_ext (c.has k) (λ x. coefficient plan l words early x i) (λ x. coefficient plan l' words early x i) c.n same
 
 -- a used row has none
-pub rest_skip : (c : Checks) (plan l : List ℕ) (words early steps j : ℕ) → used_by plan j ≢ 0 → RestTo c plan l words early steps j → RestTo c plan l words early steps (j + 1)
+pub rest_skip : (c : Checks) (plan : Arrays) (l : List ℕ) (words early steps j : ℕ) → used_by plan j ≢ 0 → RestTo c plan l words early steps j → RestTo c plan l words early steps (j + 1)
 rest_skip c plan l words early steps j ne done k i h z hi =
     ⊎_elim (λ q. absurd (ne (ap (used_by plan) (sym q) ∙ z))) (λ lt. done k i lt z hi) (eq-or-lt_of_le (let g : k ≤ j = omega arith in g))

@@ -10,20 +10,21 @@ use native.Mathlib.Numerals.{add-one}
 use native.Mathlib.Decide.{dec_lt}
 use native.Mathlib.Omega.{arith}
 use lib.Dec.{eqb}
-use lib.ListN.{length, get_or, set, length-set}
+use lib.ListN.{length, get_or, set, take, length-set}
 use lib.Seq.{get_or-set_same, get_or-set_other}
 use borrow.Author.Tests.{eq-eqb, ne_eqb, eqb-false}
 use Rattle.algebra.specs.Sums.{◌⊕◌, sum}
 use Rattle.algebra.specs.Codeword.{Checks, byte_at}
 use Rattle.algebra.proofs.Sums as sums
 use Rattle.symbol_sums.specs.Gather.{gathered, Inside, Replaced}
+use Rattle.symbol_sums.proofs.Fronts.{inside_front}
 use Rattle.encoder.specs.inner.Positions.{RowOf}
-use Rattle.peeling.specs.Plan.{kind_of, row_of, position_of, Step, Plan}
+use Rattle.peeling.specs.Plan.{Arrays, kind_of, row_of, position_of, Step, Plan}
 use Rattle.peeling.specs.Values.{row_sum, StepsHold, StepsRestored}
 use Rattle.pivot_equations.specs.Unused.{Others}
 use Rattle.peeling.proofs.StepLaws.{few-steps, step_apart}
 use Rattle.peeling.proofs.SymbolLaws.{replaced_other}
-use Rattle.peeling.proofs.CodeSizes.{row_inside}
+use Rattle.peeling.proofs.CodeSizes.{row_within}
 use Rattle.pivot_equations.proofs.SumWithout.{without, sum_without}
 
 -- ---- the numbers other than p
@@ -103,14 +104,13 @@ others-at {xs} {xs'} {n' = n'} {p} {k} h e f = subst (λ (m : ℕ). Others xs n'
 -- ---- of a row
 
 module _ {c : Checks} {j n k p : ℕ} {xs xs' : List ℕ} (r : RowOf c j n xs) (o : Others xs n p xs' k) where
-  pub others_inside : {w bytes : ℕ} → bytes ≡ c.n * w → Inside xs' k w bytes
-  others_inside {w} {bytes} e = record {
-    size = o.size ∙ r.size;
-    few = omega (arith, r.few, o.few);
-    each = λ i h.
-        let y = (o.each i h).1 in
-        subst (λ (v : ℕ). v * w + w ≤ bytes) (sym y.1.1) ((row_inside r e).each y.0 y.1.0);
-  }
+  pub others_few : k ≤ length xs'
+  others_few = omega (arith, o.size, o.few, r.size, r.few)
+
+  pub others_inside : {w bytes : ℕ} → bytes ≡ c.n * w → Inside (take k xs') w bytes
+  others_inside {w} {bytes} e = inside_front xs' k others_few (λ i h.
+      let y = (o.each i h).1 in
+      subst (λ (v : ℕ). v * w + w ≤ bytes) (sym y.1.1) (omega (arith, row_within w r y.0 y.1.0)))
 
   pub others-sum : (f : ℕ → ℕ) → gathered f xs' k ≡ sum (c.has j) (without p f) c.n
   others-sum f = o.total f ∙ r.total (without p f)
@@ -135,7 +135,7 @@ module _ (c : Checks) (w j p : ℕ) {s s' : List ℕ} (h : Replaced (λ b. sum (
 
 -- ---- step after step
 
-module _ (c : Checks) (w : ℕ) {states plan : List ℕ} {early steps pivots : ℕ} (made : Plan c states plan early steps pivots) where
+module _ (c : Checks) (w : ℕ) {states : List ℕ} {plan : Arrays} {early steps pivots : ℕ} (made : Plan c states plan early steps pivots) where
   pub restored-none : {s : List ℕ} → StepsHold c w plan s early → StepsRestored c w plan s s early early
   restored-none h = record { size = refl; same = λ p b l g k. refl; holds = h }
 

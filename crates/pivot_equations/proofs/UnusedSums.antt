@@ -8,18 +8,27 @@ use Prim.Native.Nat.{ℕ, ◌+◌, ◌*◌, ◌<◌, ◌≤◌}
 use native.Mathlib.Nat.{not-suc-le-zero}
 use native.Mathlib.Decide.{dec_lt}
 use native.Mathlib.Omega.{arith}
-use lib.ListN.{length, get_or}
+use lib.ListN.{length, get_or, take}
 use Rattle.algebra.specs.Sums.{◌⊕◌}
 use Rattle.algebra.specs.Codeword.{Checks, byte_at}
-use Rattle.algebra.specs.Staircase.{before}
 use Rattle.algebra.proofs.Sums.{unit_l}
 use Rattle.algebra.proofs.Codeword.{slot}
-use Rattle.symbol_sums.specs.Gather.{gathered, Replaced, CancelIs}
+use Rattle.symbol_sums.specs.Gather.{gathered, Replaced, CancelIs, byte_before}
+use Rattle.symbol_sums.proofs.Fronts.{gathered_front}
+use Rattle.peeling.proofs.PlanLaws.{used_as}
+use Rattle.std.specs.Prelude.{None}
 use Rattle.encoder.specs.inner.Positions.{RowOf}
-use Rattle.peeling.specs.Plan.{used_by, unused_below}
+use Rattle.peeling.specs.Plan.{Arrays, used_by, unused_below}
 use Rattle.peeling.specs.Values.{row_sum, HoldIs, Sides}
-use Rattle.pivot_equations.specs.Unused.{PassIs, SidesTo}
+use Rattle.pivot_equations.specs.Unused.{SidesTo}
 use Rattle.peeling.proofs.UnusedRows.{unused-none, unused-one, unused_le, unused-below}
+
+-- whether a step used check row j, as the plan holds it
+pub is_unused : (plan : Arrays) (j : ℕ) → get_or plan.used j false ≡ false → used_by plan j ≡ 0
+is_unused plan j e = used_as plan j false e
+
+pub is_used : (plan : Arrays) (j : ℕ) → get_or plan.used j false ≡ true → used_by plan j ≢ 0
+is_used plan j e z = omega (arith, used_as plan j true e, z)
 
 -- ---- whether they are zero
 
@@ -27,29 +36,34 @@ use Rattle.peeling.proofs.UnusedRows.{unused-none, unused-one, unused_le, unused
 sum_is : {c : Checks} {j n : ℕ} {xs : List ℕ} (w : ℕ) (symbols : List ℕ) → RowOf c j n xs → (b : ℕ) → gathered (byte_at w symbols b) xs n ≡ row_sum c w symbols j b
 sum_is w symbols r b = r.total (byte_at w symbols b)
 
-pub pass_row : {c : Checks} {j n : ℕ} {xs : List ℕ} (w : ℕ) (plan symbols : List ℕ) → RowOf c j n xs → used_by plan j ≡ 0
-    → (r : Bool) → CancelIs w symbols xs n r → PassIs c w plan symbols j r
-pass_row w plan symbols h u true z = λ e b l. sym (sum_is w symbols h b) ∙ z b l
-pass_row w plan symbols h u false z = (u, (z.0, (z.1.0, λ e. z.1.1 (sum_is w symbols h z.0 ∙ e))))
+front_is : {c : Checks} {j n : ℕ} {xs : List ℕ} (w : ℕ) (symbols : List ℕ) → RowOf c j n xs → (b : ℕ)
+    → gathered (byte_at w symbols b) (take n xs) (length (take n xs)) ≡ row_sum c w symbols j b
+front_is {n = n} {xs} w symbols r b = gathered_front (byte_at w symbols b) xs n (omega (arith, r.few, r.size)) ∙ sum_is w symbols r b
 
-module _ (c : Checks) (w : ℕ) (plan symbols : List ℕ) where
-  -- the first j rows pass
+module _ (c : Checks) (w : ℕ) (plan : Arrays) (symbols : List ℕ) where
+  -- those of the first j rows that no step used add up to zero
   abbrev pub Passed : ℕ → Type 0
   Passed j = (x b : ℕ) → x < j → used_by plan x ≡ 0 → b < w → row_sum c w symbols x b ≡ 0
 
-  pub pass_more : (j : ℕ) (r : Bool) → Passed j → PassIs c w plan symbols j r → not r ≡ false → Passed (j + 1)
-  pass_more j false h z e = absurd (false≢true (sym e))
-  pass_more j true h z e = λ x b l u g. go x b u g l (dec_lt x j)
+  pass_more : {j : ℕ} → Passed j → (used_by plan j ≡ 0 → (b : ℕ) → b < w → row_sum c w symbols j b ≡ 0) → Passed (j + 1)
+  pass_more {j} h z x b l u g = go (dec_lt x j)
     where
-      go : (x b : ℕ) → used_by plan x ≡ 0 → b < w → x < j + 1 → Dec (x < j) → row_sum c w symbols x b ≡ 0
-      go x b u g l (yes d) = h x b d u g
-      go x b u g l (no d) =
+      go : Dec (x < j) → row_sum c w symbols x b ≡ 0
+      go (yes d) = h x b d u g
+      go (no d) =
           let q : x ≡ j = omega arith in
           ap (λ (y : ℕ). row_sum c w symbols y b) q ∙ z (ap (used_by plan) (sym q) ∙ u) b g
 
-  pub pass_not : (j : ℕ) (r : Bool) → j < c.m → PassIs c w plan symbols j r → not r ≡ true → HoldIs c w plan symbols false
-  pass_not j true l z e = absurd (false≢true e)
-  pass_not j false l z e = (j, (z.1.0, (l, (z.0, (z.1.1.0, z.1.1.1)))))
+  pub pass_used : {j : ℕ} → Passed j → used_by plan j ≢ 0 → Passed (j + 1)
+  pass_used h ne = pass_more h (λ e. absurd (ne e))
+
+  pub pass_row : {j n : ℕ} {xs : List ℕ} → Passed j → RowOf c j n xs → (r : Bool) → CancelIs w symbols (take n xs) (length (take n xs)) r → not r ≡ false → Passed (j + 1)
+  pass_row h r false z e = absurd (false≢true (sym e))
+  pass_row h r true z e = pass_more h (λ u b g. sym (front_is w symbols r b) ∙ z b g)
+
+  pub pass_not : {j n : ℕ} {xs : List ℕ} → j < c.m → used_by plan j ≡ 0 → RowOf c j n xs → (r : Bool) → CancelIs w symbols (take n xs) (length (take n xs)) r → not r ≡ true → HoldIs c w plan symbols false
+  pass_not l u r true z e = absurd (false≢true e)
+  pass_not {j} l u r false z e = (j, (z.0, (l, (u, (z.1.0, λ q. z.1.1 (front_is w symbols r z.0 ∙ q))))))
 
   -- ---- their sums
 
@@ -73,7 +87,7 @@ module _ (c : Checks) (w : ℕ) (plan symbols : List ℕ) where
   sides-room {d} {j} {i} s l = omega (arith, slot i c.m w (omega (arith, s.count, unused_le plan j)), s.size)
 
   pub sides-put : {d d' xs : List ℕ} {j i n : ℕ} → SidesTo c w plan symbols d j i → used_by plan j ≡ 0 → RowOf c j n xs
-      → Replaced (λ b. before (byte_at w d b) 0 ⊕ gathered (byte_at w symbols b) xs n) w i d d' → SidesTo c w plan symbols d' (j + 1) (i + 1)
+      → Replaced (λ b. byte_before w d None b ⊕ gathered (byte_at w symbols b) (take n xs) (length (take n xs))) w i d d' → SidesTo c w plan symbols d' (j + 1) (i + 1)
   sides-put {d} {d'} {xs} {j} {i} {n} s u r p = record {
     size = p.size ∙ s.size;
     count = ap (λ (k : ℕ). k + 1) s.count ∙ sym (unused-one plan j u);
@@ -86,8 +100,8 @@ module _ (c : Checks) (w : ℕ) (plan symbols : List ℕ) where
           ∙ s.each x b k e g
       go x b l e g (no k) =
           let q : x ≡ j = omega arith in
-          ap (λ (y : ℕ). get_or d' (y * w + b) 0) (ap (unused_below plan) q ∙ sym s.count) ∙ p.each b g ∙ unit_l (gathered (byte_at w symbols b) xs n)
-          ∙ sum_is w symbols r b ∙ ap (λ (y : ℕ). row_sum c w symbols y b) (sym q)
+          ap (λ (y : ℕ). get_or d' (y * w + b) 0) (ap (unused_below plan) q ∙ sym s.count) ∙ p.each b g ∙ unit_l (gathered (byte_at w symbols b) (take n xs) (length (take n xs)))
+          ∙ front_is w symbols r b ∙ ap (λ (y : ℕ). row_sum c w symbols y b) (sym q)
 
   pub sides_all : {d : List ℕ} {j i : ℕ} → SidesTo c w plan symbols d j i → j ≡ c.m → Sides c w plan symbols d
   sides_all s q = λ x b l e g. s.each x b (omega arith) e g

@@ -1,18 +1,13 @@
 -- Inner steps of what is done with the check rows that no step used, and of restoring. Internal: no public contract cites it.
 -- Assumes nothing.
-use Rattle.std.specs.Prelude.{◌≡◌, ◌≢◌, Bool, true, false, cond, List, ℕ, ◌+◌, ◌*◌, ◌<◌, ◌≤◌, eqb, length, get_or}
+use Rattle.std.specs.Prelude.{◌≡◌, ◌≢◌, cond, List, ℕ, ◌+◌, ◌*◌, ◌<◌, ◌≤◌, eqb, length, get_or}
 use Rattle.algebra.specs.Codeword.{Checks}
 use Rattle.symbol_sums.specs.Gather.{gathered}
-use Rattle.peeling.specs.Plan.{used_by, unused_below}
+use Rattle.peeling.specs.Plan.{Arrays, used_by, unused_below}
 use Rattle.peeling.specs.Values.{row_sum}
 
--- r is the answer to: does check row j add up to zero, or did a step use it?
-abbrev pub PassIs : Checks → ℕ → List ℕ → List ℕ → ℕ → Bool → Type 0
-PassIs c w plan symbols j true = used_by plan j ≡ 0 → (b : ℕ) → b < w → row_sum c w symbols j b ≡ 0
-PassIs c w plan symbols j false = (used_by plan j ≡ 0) × ((b : ℕ) × ((b < w) × (row_sum c w symbols j b ≢ 0)))
-
 -- the sums of those of the first j check rows that no step used, i of them, stand one after the other
-pub record SidesTo (c : Checks) (w : ℕ) (plan symbols d : List ℕ) (j i : ℕ) : Type 0 where
+pub record SidesTo (c : Checks) (w : ℕ) (plan : Arrays) (symbols d : List ℕ) (j i : ℕ) : Type 0 where
   pub size : length d ≡ c.m * w
   pub count : i ≡ unused_below plan j
   pub each : (x b : ℕ) → x < j → used_by plan x ≡ 0 → b < w → get_or d (unused_below plan x * w + b) 0 ≡ row_sum c w symbols x b

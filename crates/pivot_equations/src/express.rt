@@ -1,31 +1,15 @@
 // What each symbol is in terms of the pivots.
 ghost use Rattle.std.specs.Prelude.{◌≡◌, ◌+◌, ◌*◌, ◌/◌, ◌≤◌, ◌<◌, length};
 ghost use Rattle.ccsds.specs.Tables.{code_of};
-ghost use Rattle.encoder.specs.inner.Positions.{checks, Table};
-ghost use Rattle.peeling.specs.Plan.{kind_of, unused_below, Unsolved, plan_size};
-ghost use Rattle.pivot_equations.specs.Express.{Reads, Added, RowIs, Places, StepsExpressed, SameFrom, SameBelow, RestExpressed, flip_row_bit, kind_but, ReadsAll, RestTo, Planned, Room};
+ghost use Rattle.encoder.specs.inner.Positions.{checks};
+ghost use Rattle.peeling.specs.Plan.{kind_of, Unsolved};
+ghost use Rattle.pivot_equations.specs.Express.{all_rows, Reads, Added, RowIs, Places, StepsExpressed, SameFrom, SameBelow, RestExpressed, flip_row_bit, kind_but, ReadsAll, Planned, Room};
 ghost use Rattle.symbol_sums.specs.Gather.{max_positions};
 ghost use Rattle.ccsds.specs.inner.Layout.{max_n};
 
-use ccsds::tables;
-use encoder::positions;
-use encoder::positions::{Shape, TABLE_SIZE};
-use peeling::peel;
-use peeling::plan::{
-    FIRST_PIVOT, FIRST_SOLVED, LAST_PIVOT, LAST_STEP, PIVOTS, STEP_POSITIONS, STEP_ROWS, USED,
-};
+use crate::system::System;
+use peeling::plan::{FIRST_PIVOT, FIRST_SOLVED, LAST_PIVOT, LAST_STEP};
 use symbol_sums::MAX_POSITIONS;
-
-// The rows of the equations: `steps` rows of the steps, the first `early` of which are not made, and `rest` rows of the check rows that no step used;
-// each has `packed` words for the `pivots` pivots, and one more.
-#[derive(Clone, Copy)]
-pub struct Rows {
-    pub early: usize,
-    pub steps: usize,
-    pub rest: usize,
-    pub pivots: usize,
-    pub packed: usize,
-}
 
 // Flips unknown u in the row at `base`.
 fn flip(words: &mut [u64], base: usize, u: usize)
@@ -36,181 +20,112 @@ fn flip(words: &mut [u64], base: usize, u: usize)
     words[k] = words[k] ^ 1 << (u % 64);
 }
 
-// Row t gets the expression of position p added.
-fn add(
-    early: usize,
-    packed: usize,
-    rows: usize,
-    t: usize,
-    p: usize,
-    plan: &[u16],
-    words: &mut [u64],
-)
-    requires packed_bound { (packed ≤ 48) × (rows * (packed + 1) ≤ length words.old) }
-    requires t_lt_rows { (t < rows) × ((p < max_n) × (length plan.now ≡ plan_size)) }
-    requires reads { Reads words.old packed early rows t (kind_of plan.now p) }
-    ensures { Added words.old words.new packed early t (kind_of plan.now p) }
-{
-    let stride = packed + 1;
-    let kind = plan[p] as usize;
-    if kind <= early {
-        return;
-    }
-    if kind <= LAST_STEP {
-        elimination::parts::xor_words(words, (kind - 1) * stride, t * stride, packed);
-        return;
-    }
-    if kind <= LAST_PIVOT {
-        flip(words, t * stride, kind - FIRST_PIVOT);
-        return;
-    }
-    let h = (kind - FIRST_SOLVED) * stride;
-    let u = words[h + packed] as usize;
-    elimination::parts::xor_words(words, h, t * stride, packed);
-    flip(words, t * stride, u - 1);
-}
-
-// The same of position x, unless it is p.
-fn add_other(
-    early: usize,
-    packed: usize,
-    rows: usize,
-    t: usize,
-    p: usize,
-    x: usize,
-    plan: &[u16],
-    words: &mut [u64],
-)
-    requires packed_bound { (packed ≤ 48) × (rows * (packed + 1) ≤ length words.old) }
-    requires t_lt_rows { (t < rows) × ((x < max_n) × (length plan.now ≡ plan_size)) }
-    requires reads { Reads words.old packed early rows t (kind_but plan.now p x) }
-    ensures { Added words.old words.new packed early t (kind_but plan.now p x) }
-{
-    if x == p {
-        return;
-    }
-    add(early, packed, rows, t, x, plan, words);
-}
-
-// Row `row` of the equations, which is to be made from check row `check` without position `but`.
+// Row `row` of the equations, which is to be made from check row `check`, without position `but` if one is left out.
 #[derive(Clone, Copy)]
 struct Target {
     row: usize,
     check: usize,
-    but: usize,
+    but: Option<usize>,
 }
 
-// The row becomes the sum of the expressions of the check row's other positions.
-fn row(
-    s: Shape,
-    r: Rows,
-    e: Target,
-    table: &[u16; TABLE_SIZE],
-    xs: &mut [u16; MAX_POSITIONS],
-    plan: &[u16],
-    words: &mut [u64],
-)
-    requires table { Table s table.now }
-    requires xs_len { length xs.old ≡ max_positions }
-    requires packed_bound { (r.packed ≤ 48) × (s.layout.m * (r.packed + 1) ≤ length words.old) }
-    requires row_lt_m { (e.row < s.layout.m) × ((e.check < (code_of s.number).m) × (length plan.now ≡ plan_size)) }
-    requires reads_all { ReadsAll (checks s) plan.now words.old r.packed r.early s.layout.m e.row e.but }
-    ensures xs_len_after { length xs.new ≡ max_positions }
-    ensures row_is { RowIs (checks s) plan.now words.old words.new r.packed r.early e.row e.check e.but }
-{
-    let l = s.layout;
-    let early = r.early;
-    let packed = r.packed;
-    let t = e.row;
-    let p = e.but;
-    let stride = packed + 1;
-    let at = t * stride;
-    buffers::clear_words(&mut words[at..at + stride]);
-    let n = positions::of_row(s, table, e.check, xs);
-    let mut i = 0;
-    while i < n {
-        add_other(early, packed, l.m, t, p, tables::wide(xs[i]), plan, words);
-        i += 1;
+impl System<'_> {
+    // Row t gets the expression of position p added.
+    fn add(&self, t: usize, p: usize, words: &mut [u64])
+        requires words_len { all_rows self.now.rows * (self.now.rows.packed + 1) ≤ length words.old }
+        requires t_bound { (t < all_rows self.now.rows) × (p < max_n) }
+        requires reads { Reads words.old self.now.rows.packed self.now.rows.early (all_rows self.now.rows) t (kind_of self.now.plan.now p) }
+        ensures { Added words.old words.new self.now.rows.packed self.now.rows.early t (kind_of self.now.plan.now p) }
+    {
+        let packed = self.rows.packed;
+        let stride = packed + 1;
+        let kind = self.plan.kinds[p] as usize;
+        if kind <= self.rows.early {
+            return;
+        }
+        if kind <= LAST_STEP {
+            elimination::parts::xor_words(words, (kind - 1) * stride, t * stride, packed);
+            return;
+        }
+        if kind <= LAST_PIVOT {
+            flip(words, t * stride, kind - FIRST_PIVOT);
+            return;
+        }
+        let h = (kind - FIRST_SOLVED) * stride;
+        let u = words[h + packed] as usize;
+        elimination::parts::xor_words(words, h, t * stride, packed);
+        flip(words, t * stride, u - 1);
     }
-}
 
-// The steps from `early` on.
-pub fn steps(s: Shape, r: Rows, table: &[u16; TABLE_SIZE], plan: &[u16], words: &mut [u64])
-    requires table { Table s table.now }
-    requires planned { Planned (checks s) plan.now r }
-    requires room { Room (checks s) r (length words.old) }
-    requires places { Places (checks s) plan.now words.old r.packed r.steps (checks s).m }
-    ensures steps_expressed { StepsExpressed (checks s) plan.now words.new r.packed r.early r.steps }
-    ensures same_from { SameFrom words.old words.new r.packed r.steps }
-{
-    let mut xs = peel::no_positions();
-    let mut t = r.early;
-    while t < r.steps {
-        let j = plan[STEP_ROWS + t] as usize;
-        let p = plan[STEP_POSITIONS + t] as usize;
-        let e = Target {
-            row: t,
-            check: j,
-            but: p,
-        };
-        row(s, r, e, table, &mut xs, plan, words);
-        t += 1;
+    // The same of position x, unless it is the one that is left out.
+    fn add_other(&self, t: usize, but: Option<usize>, x: usize, words: &mut [u64])
+        requires words_len { all_rows self.now.rows * (self.now.rows.packed + 1) ≤ length words.old }
+        requires t_bound { (t < all_rows self.now.rows) × (x < max_n) }
+        requires reads { Reads words.old self.now.rows.packed self.now.rows.early (all_rows self.now.rows) t (kind_but self.now.plan.now but x) }
+        ensures { Added words.old words.new self.now.rows.packed self.now.rows.early t (kind_but self.now.plan.now but x) }
+    {
+        if Some(x) == but {
+            return;
+        }
+        self.add(t, x, words);
     }
-}
 
-// Check row j, if no step used it: it becomes row t, behind the steps. Returns the next such row's number.
-fn remaining_row(
-    s: Shape,
-    r: Rows,
-    t: usize,
-    j: usize,
-    table: &[u16; TABLE_SIZE],
-    xs: &mut [u16; MAX_POSITIONS],
-    plan: &[u16],
-    words: &mut [u64],
-) -> usize
-    requires table { Table s table.now }
-    requires xs_len { length xs.old ≡ max_positions }
-    requires planned { Planned (checks s) plan.now r }
-    requires room { Room (checks s) r (length words.old) }
-    requires places { Places (checks s) plan.now words.old r.packed r.steps (checks s).m }
-    requires unsolved { Unsolved plan.now r.pivots }
-    requires j_bound { (j < (code_of s.number).m) × (t ≡ r.steps + unused_below plan.now j) }
-    requires rest_to { RestTo (checks s) plan.now words.old r.packed r.early r.steps j }
-    ensures xs_len_after { length xs.new ≡ max_positions }
-    ensures value { result ≡ r.steps + unused_below plan.now (j + 1) }
-    ensures rest_to_next { RestTo (checks s) plan.now words.new r.packed r.early r.steps (j + 1) }
-    ensures same_below { SameBelow words.old words.new r.packed r.steps }
-{
-    if plan[USED + j] != 0 {
-        return t;
+    // The row becomes the sum of the expressions of the check row's other positions.
+    fn row(&self, e: Target, xs: &mut [u16; MAX_POSITIONS], words: &mut [u64])
+        requires words_len { all_rows self.now.rows * (self.now.rows.packed + 1) ≤ length words.old }
+        requires row_bound { (e.row < all_rows self.now.rows) × (e.check < (code_of self.now.block.now.shape.number).m) }
+        requires reads_all { ReadsAll (checks self.now.block.now.shape) self.now.plan.now words.old self.now.rows.packed self.now.rows.early (all_rows self.now.rows) e.row e.but }
+        ensures xs_len { length xs.new ≡ max_positions }
+        ensures row_is { RowIs (checks self.now.block.now.shape) self.now.plan.now words.old words.new self.now.rows.packed self.now.rows.early e.row e.check e.but }
+    {
+        let stride = self.rows.packed + 1;
+        let at = e.row * stride;
+        words[at..at + stride].fill(0);
+        let n = self.block.of_row(e.check, xs);
+        for x in &xs[..n] {
+            self.add_other(e.row, e.but, usize::from(*x), words);
+        }
     }
-    let e = Target {
-        row: t,
-        check: j,
-        but: PIVOTS,
-    };
-    row(s, r, e, table, xs, plan, words);
-    t + 1
-}
 
-// The check rows that no step used, after the steps.
-pub fn remaining(s: Shape, r: Rows, table: &[u16; TABLE_SIZE], plan: &[u16], words: &mut [u64])
-    requires table { Table s table.now }
-    requires planned { Planned (checks s) plan.now r }
-    requires room { Room (checks s) r (length words.old) }
-    requires places { Places (checks s) plan.now words.old r.packed r.steps (checks s).m }
-    requires unsolved { Unsolved plan.now r.pivots }
-    ensures rest_expressed { RestExpressed (checks s) plan.now words.new r.packed r.early r.steps }
-    ensures same_below { SameBelow words.old words.new r.packed r.steps }
-{
-    let l = s.layout;
-    let m = l.m;
-    let mut xs = peel::no_positions();
-    let mut t = r.steps;
-    let mut j = 0;
-    while j < m {
-        t = remaining_row(s, r, t, j, table, &mut xs, plan, words);
-        j += 1;
+    // The steps from `early` on.
+    pub fn steps(&self, words: &mut [u64])
+        requires planned { Planned (checks self.now.block.now.shape) self.now.plan.now self.now.rows }
+        requires room { Room (checks self.now.block.now.shape) self.now.rows (length words.old) }
+        requires places { Places (checks self.now.block.now.shape) self.now.plan.now words.old self.now.rows.packed self.now.rows.steps (checks self.now.block.now.shape).m }
+        ensures steps_expressed { StepsExpressed (checks self.now.block.now.shape) self.now.plan.now words.new self.now.rows.packed self.now.rows.early self.now.rows.steps }
+        ensures same_from { SameFrom words.old words.new self.now.rows.packed self.now.rows.steps }
+    {
+        let mut xs = [0u16; MAX_POSITIONS];
+        for t in self.rows.early..self.rows.steps {
+            let e = Target {
+                row: t,
+                check: self.plan.step_rows[t] as usize,
+                but: Some(self.plan.step_positions[t] as usize),
+            };
+            self.row(e, &mut xs, words);
+        }
+    }
+
+    // The check rows that no step used, after the steps.
+    pub fn remaining(&self, words: &mut [u64])
+        requires planned { Planned (checks self.now.block.now.shape) self.now.plan.now self.now.rows }
+        requires room { Room (checks self.now.block.now.shape) self.now.rows (length words.old) }
+        requires places { Places (checks self.now.block.now.shape) self.now.plan.now words.old self.now.rows.packed self.now.rows.steps (checks self.now.block.now.shape).m }
+        requires unsolved { Unsolved self.now.plan.now self.now.rows.pivots }
+        ensures rest_expressed { RestExpressed (checks self.now.block.now.shape) self.now.plan.now words.new self.now.rows.packed self.now.rows.early self.now.rows.steps }
+        ensures same_below { SameBelow words.old words.new self.now.rows.packed self.now.rows.steps }
+    {
+        let mut xs = [0u16; MAX_POSITIONS];
+        let mut t = self.rows.steps;
+        for j in 0..self.block.shape.layout.m {
+            if !self.plan.used[j] {
+                let e = Target {
+                    row: t,
+                    check: j,
+                    but: None,
+                };
+                self.row(e, &mut xs, words);
+                t += 1;
+            }
+        }
     }
 }

@@ -1,98 +1,42 @@
 // The check rows that no step used.
-ghost use Rattle.std.specs.Prelude.{◌≡◌, ◌+◌, ◌*◌, ◌<◌, length};
-ghost use Rattle.encoder.specs.inner.Positions.{checks, Table};
+ghost use Rattle.std.specs.Prelude.{◌≡◌, ◌*◌, length};
+ghost use Rattle.encoder.specs.inner.Positions.{checks};
 ghost use Rattle.peeling.specs.Values.{HoldIs, Sides};
-ghost use Rattle.pivot_equations.specs.Unused.{PassIs, SidesTo};
-ghost use Rattle.symbol_sums.specs.Gather.{max_positions};
-ghost use Rattle.peeling.specs.Plan.{plan_size};
 
-use encoder::positions;
-use encoder::positions::{Shape, TABLE_SIZE};
-use peeling::peel;
-use peeling::plan::USED;
+use encoder::positions::CheckRows;
+use peeling::plan::Plan;
 use symbol_sums::MAX_POSITIONS;
 
-// Check row j adds up to zero, or a step used it.
-fn passes(
-    s: Shape,
-    j: usize,
-    table: &[u16; TABLE_SIZE],
-    xs: &mut [u16; MAX_POSITIONS],
-    plan: &[u16],
-    symbols: &[u8],
-) -> bool
-    requires table { Table s table.now }
-    requires xs_len { (length xs.old ≡ max_positions) × (j < (checks s).m) }
-    requires plan_len { (length plan.now ≡ plan_size) × (length symbols.now ≡ (checks s).n * s.w) }
-    ensures xs_len_after { length xs.new ≡ max_positions }
-    ensures pass_is { PassIs (checks s) s.w plan.now symbols.now j result }
-{
-    if plan[USED + j] != 0 {
-        return true;
-    }
-    let n = positions::of_row(s, table, j, xs);
-    symbol_sums::cancels(s.w, xs, n, symbols)
-}
-
 // Each of them adds up to zero.
-pub fn hold(s: Shape, table: &[u16; TABLE_SIZE], plan: &[u16], symbols: &[u8]) -> bool
-    requires table { Table s table.now }
-    requires plan_len { (length plan.now ≡ plan_size) × (length symbols.now ≡ (checks s).n * s.w) }
-    ensures { HoldIs (checks s) s.w plan.now symbols.now result }
+pub fn hold(block: &CheckRows, plan: &Plan, symbols: &[u8]) -> bool
+    requires { length symbols.now ≡ (checks block.now.shape).n * block.now.shape.w }
+    ensures { HoldIs (checks block.now.shape) block.now.shape.w plan.now symbols.now result }
 {
-    let l = s.layout;
-    let m = l.m;
-    let mut xs = peel::no_positions();
-    let mut j = 0;
-    while j < m {
-        if !passes(s, j, table, &mut xs, plan, symbols) {
-            return false;
+    let mut xs = [0u16; MAX_POSITIONS];
+    for j in 0..block.shape.layout.m {
+        if !plan.used[j] {
+            let n = block.of_row(j, &mut xs);
+            if !symbol_sums::cancels(block.shape.w, &xs[..n], symbols) {
+                return false;
+            }
         }
-        j += 1;
     }
     true
 }
 
-// The sum of check row j becomes symbol i of bytes, unless a step used the row; returns the number of the next.
-fn put_row(
-    s: Shape,
-    j: usize,
-    i: usize,
-    table: &[u16; TABLE_SIZE],
-    xs: &mut [u16; MAX_POSITIONS],
-    plan: &[u16],
-    symbols: &[u8],
-    bytes: &mut [u8],
-) -> usize
-    requires table { Table s table.now }
-    requires xs_len { (length xs.old ≡ max_positions) × (j < (checks s).m) }
-    requires plan_len { (length plan.now ≡ plan_size) × (length symbols.now ≡ (checks s).n * s.w) }
-    requires sides_to { SidesTo (checks s) s.w plan.now symbols.now bytes.old j i }
-    ensures xs_len_after { length xs.new ≡ max_positions }
-    ensures sides_to_next { SidesTo (checks s) s.w plan.now symbols.now bytes.new (j + 1) result }
-{
-    if plan[USED + j] != 0 {
-        return i;
-    }
-    let n = positions::of_row(s, table, j, xs);
-    symbol_sums::put_sum(s.w, i, 0, xs, n, symbols, bytes);
-    i + 1
-}
-
 // Their sums, one after the other.
-pub fn sums(s: Shape, table: &[u16; TABLE_SIZE], plan: &[u16], symbols: &[u8], bytes: &mut [u8])
-    requires table { Table s table.now }
-    requires plan_len { (length plan.now ≡ plan_size) × (length symbols.now ≡ (checks s).n * s.w) }
-    requires bytes_len { length bytes.old ≡ (checks s).m * s.w }
-    ensures { Sides (checks s) s.w plan.now symbols.now bytes.new }
+pub fn sums(block: &CheckRows, plan: &Plan, symbols: &[u8], bytes: &mut [u8])
+    requires symbols_len { length symbols.now ≡ (checks block.now.shape).n * block.now.shape.w }
+    requires bytes_len { length bytes.old ≡ (checks block.now.shape).m * block.now.shape.w }
+    ensures { Sides (checks block.now.shape) block.now.shape.w plan.now symbols.now bytes.new }
 {
-    let l = s.layout;
-    let m = l.m;
-    let mut xs = peel::no_positions();
+    let mut xs = [0u16; MAX_POSITIONS];
     let mut i = 0;
-    let mut j = 0;
-    while j < m {
-        i = put_row(s, j, i, table, &mut xs, plan, symbols, bytes);
-        j += 1;
+    for j in 0..block.shape.layout.m {
+        if !plan.used[j] {
+            let n = block.of_row(j, &mut xs);
+            symbol_sums::put_sum(block.shape.w, i, None, &xs[..n], symbols, bytes);
+            i += 1;
+        }
     }
 }

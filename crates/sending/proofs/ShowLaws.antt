@@ -19,20 +19,20 @@ use Rattle.ccsds.proofs.Refusals.{code-known, width_right, position_right, encod
 use Rattle.ccsds.proofs.FillLaws.{sent_below}
 use Rattle.algebra.proofs.Codeword.{slot}
 
-pub record Showable (number w fill infoLength parityLength lwc : ℕ) : Type 0 where
+pub record Showable (number w fill info_len parity_len lwc : ℕ) : Type 0 where
   pub known : Known number
   pub width : (0 < w) × (w ≤ 1024)
-  pub information : infoLength ≡ fill * w
-  pub parity : parityLength ≡ (code_of number).m * w
+  pub information : info_len ≡ fill * w
+  pub parity : parity_len ≡ (code_of number).m * w
   pub position : (0 < lwc) × (lwc ≤ n_of (code_of number))
   pub sent : lwc - 1 < (code_of number).k → lwc - 1 < fill
 
-pub showable : (number w fill infoLength parityLength lwc : ℕ) → show_refusal number w fill infoLength parityLength lwc ≡ 0
-    → Showable number w fill infoLength parityLength lwc
+pub showable : (number w fill info_len parity_len lwc : ℕ) → show_refusal number w fill info_len parity_len lwc ≡ 0
+    → Showable number w fill info_len parity_len lwc
 unfolding show_refusal idle_lwc
-showable number w fill infoLength parityLength lwc e =
-    let a = parts_none (encoder_conditions number w fill infoLength parityLength) _ (sym (in_order _ refl) ∙ e) in
-    let b = encoder_none number w fill infoLength parityLength a.0 in
+showable number w fill info_len parity_len lwc e =
+    let a = parts_none (encoder_conditions number w fill info_len parity_len) _ (sym (in_order _ refl) ∙ e) in
+    let b = encoder_none number w fill info_len parity_len a.0 in
     let p = first-none refusal.position (wrong_position (n_of (code_of number)) lwc) _ a.1 in
     record {
       known = code-known number b.0;
@@ -44,11 +44,11 @@ showable number w fill infoLength parityLength lwc e =
     }
 
 -- the symbol lies within its buffer
-module _ {number w fill infoLength parityLength lwc : ℕ} (s : Showable number w fill infoLength parityLength lwc) where
-  pub in_information : lwc - 1 < (code_of number).k → (lwc - 1) * w + w ≤ infoLength
+module _ {number w fill info_len parity_len lwc : ℕ} (s : Showable number w fill info_len parity_len lwc) where
+  pub in_information : lwc - 1 < (code_of number).k → (lwc - 1) * w + w ≤ info_len
   in_information h = omega (arith, slot (lwc - 1) fill w (s.sent h), s.information)
 
-  pub in_parity : (code_of number).k ≤ lwc - 1 → (lwc - 1 - (code_of number).k) * w + w ≤ parityLength
+  pub in_parity : (code_of number).k ≤ lwc - 1 → (lwc - 1 - (code_of number).k) * w + w ≤ parity_len
   in_parity h =
       let l : lwc - 1 - (code_of number).k < (code_of number).m = omega (arith, s.position) in
       omega (arith, slot (lwc - 1 - (code_of number).k) (code_of number).m w l, s.parity)

@@ -22,9 +22,9 @@ part_of s from len = record { start = (s.ref_ptr.0, s.ref_ptr.1 + from); bytes =
 
 -- where the empty part is shown: of a code's number, a width, a fill, the lengths of the two buffers, and an LWC
 unfoldable pub show_refusal : ℕ → ℕ → ℕ → ℕ → ℕ → ℕ → ℕ
-show_refusal number w fill infoLength parityLength lwc =
+show_refusal number w fill info_len parity_len lwc =
     first_of (
-    encoder_conditions number w fill infoLength parityLength
+    encoder_conditions number w fill info_len parity_len
     ++ (refusal.position, wrong_position (n_of (code_of number)) lwc)
     ∷ (refusal.idle, idle_lwc (code_of number).k fill lwc)
     ∷ []

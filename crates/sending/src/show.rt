@@ -1,33 +1,32 @@
 // Show: the symbol of an LWC in the encoder's two buffers.
 ghost use Rattle.std.specs.Prelude.{◌≡◌};
+ghost use Rattle.ccsds.specs.Refusals.{checked_as};
 ghost use Rattle.sending.specs.Show.{slice_as, show_refusal, show_of};
 
+use ccsds::checks;
 use ccsds::code::Code;
-use ccsds::{checks, refusal};
+use ccsds::refusal::Refusal;
 
-// The number of the refusal for which the empty part is shown, or 0.
+// The refusal for which the empty part is shown.
 fn check_show(
     number: usize,
     w: usize,
     fill: usize,
-    infoLength: usize,
-    parityLength: usize,
+    info_len: usize,
+    parity_len: usize,
     lwc: usize,
-) -> u8
-    ensures { result ≡ show_refusal number w fill infoLength parityLength lwc }
+) -> Result<(), Refusal>
+    ensures { checked_as result ≡ show_refusal number w fill info_len parity_len lwc }
 {
-    let earlier = checks::check_encoder(number, w, fill, infoLength, parityLength);
-    if earlier != 0 {
-        return earlier;
-    }
+    checks::check_encoder(number, w, fill, info_len, parity_len)?;
     let code = Code { number };
     if code.wrong_position(lwc) {
-        return refusal::POSITION;
+        return Err(Refusal::Position);
     }
     if checks::idle_lwc(code.k(), fill, lwc) {
-        return refusal::IDLE;
+        return Err(Refusal::Idle);
     }
-    0
+    Ok(())
 }
 
 // The symbol as a part of the information or of the parity; or the empty part at the start of the information.
@@ -41,7 +40,7 @@ pub fn show<'a>(
 ) -> &'a [u8]
     ensures { slice_as result ≡ show_of code w fill info.entry parity.entry lwc }
 {
-    if check_show(code, w, fill, info.len(), parity.len(), lwc) != 0 {
+    if check_show(code, w, fill, info.len(), parity.len(), lwc).is_err() {
         return &info[..0];
     }
     let c = Code { number: code };

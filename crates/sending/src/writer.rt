@@ -1,54 +1,46 @@
 // The unit writer.
 ghost use Rattle.std.specs.Prelude.{◌≡◌, ◌+◌, ◌<◌, ◌≤◌, length};
 ghost use Rattle.ccsds.specs.Tables.{code_of};
-ghost use Rattle.ccsds.specs.Refusals.{first_of, outcome, afterwards};
+ghost use Rattle.ccsds.specs.Refusals.{checked_as, first_of, outcome, afterwards};
 ghost use Rattle.ccsds.specs.Units.{header_of, value_bytes, extension_of, unit_of};
 ghost use Rattle.sending.specs.Writer.{unit_conditions, write_refusal, written_as};
 ghost use Rattle.wire.specs.inner.Appended.{Appended};
-ghost use Rattle.ccsds.specs.inner.Compact.{Compact};
-ghost use Rattle.ccsds.specs.inner.Layout.{LayoutOf};
+ghost use Rattle.ccsds.specs.Codes.{n_of};
 
-use ccsds::tables::Layout;
-use ccsds::{checks, refusal, tables, unit_size};
+use ccsds::refusal::Refusal;
+use ccsds::tables::CodeLayout;
+use ccsds::unit_size::Coding;
+use ccsds::{checks, tables};
 use wire::{copy, put};
 
-// What write answers: that it is done, or the number of the refusal.
-#[derive(Clone, Copy)]
-pub enum Written {
-    Done,
-    Refused(u8),
-}
-
-// 4, 9, 14 or 10, or 0: for a record that is not refused.
+// 4, 9, 14 or 10: for a record that is not refused.
 fn check_unit(
     number: usize,
-    l: Layout,
-    w: usize,
+    c: Coding,
     fill: usize,
     lwc: usize,
-    symbolLength: usize,
-    outLength: usize,
-) -> u8
-    requires { LayoutOf (code_of number) l × Compact w l.k (l.k + l.m) }
-    ensures { result ≡ first_of (unit_conditions number w fill lwc symbolLength outLength) }
+    symbol_len: usize,
+    out_len: usize,
+) -> Result<(), Refusal>
+    requires { (c.k ≡ (code_of number).k) × (c.n ≡ n_of (code_of number)) }
+    ensures { checked_as result ≡ first_of (unit_conditions number c.w fill lwc symbol_len out_len) }
 {
-    let n = l.k + l.m;
-    let size = unit_size::unit_length(w, l.k, n);
-    if outLength != size {
-        return refusal::LENGTH;
+    if out_len != c.unit_length() {
+        return Err(Refusal::Length);
     }
-    if checks::wrong_position(n, lwc) {
-        return refusal::POSITION;
+    if checks::wrong_position(c.n, lwc) {
+        return Err(Refusal::Position);
     }
-    if checks::idle_lwc(l.k, fill, lwc) {
-        return refusal::IDLE;
+    if checks::idle_lwc(c.k, fill, lwc) {
+        return Err(Refusal::Idle);
     }
-    if symbolLength != w {
-        return refusal::SYMBOL;
+    if symbol_len != c.w {
+        return Err(Refusal::Symbol);
     }
-    0
+    Ok(())
 }
 
+#[tactic(auto, using(wire::proofs::AppendedLaws::then_appended), unfolding(ccsds::specs::Units::header_of))]
 fn put_header(out: &mut [u8], protocol: usize, lsc: usize, lwc: usize) -> usize
     requires { (6 ≤ length out.old) × (protocol < 8) × (lsc < 65536) × (lwc < 65536) }
     ensures { Appended out.old out.new 0 result (header_of protocol lsc lwc) }
@@ -59,25 +51,23 @@ fn put_header(out: &mut [u8], protocol: usize, lsc: usize, lwc: usize) -> usize
     put::pair(out, c, lsc)
 }
 
-fn put_value(out: &mut [u8], at: usize, w: usize, k: usize, n: usize) -> usize
-    requires compact { Compact w k n }
-    requires n_in_bounds { at + length (value_bytes w k n) ≤ length out.old }
-    ensures { Appended out.old out.new at result (value_bytes w k n) }
+fn put_value(out: &mut [u8], at: usize, c: Coding) -> usize
+    requires { at + length (value_bytes c.w c.k c.n) ≤ length out.old }
+    ensures { Appended out.old out.new at result (value_bytes c.w c.k c.n) }
 {
-    let a = put::sdnv(out, at, w);
-    let b = put::sdnv_2(out, a, k);
-    let c = put::sdnv_2(out, b, n);
-    put::byte(out, c, 0)
+    let a = put::sdnv(out, at, c.w);
+    let b = put::sdnv_2(out, a, c.k);
+    let d = put::sdnv_2(out, b, c.n);
+    put::byte(out, d, 0)
 }
 
-fn put_extension(out: &mut [u8], at: usize, w: usize, k: usize, n: usize) -> usize
-    requires compact { Compact w k n }
-    requires n_in_bounds { at + length (extension_of w k n) ≤ length out.old }
-    ensures { Appended out.old out.new at result (extension_of w k n) }
+fn put_extension(out: &mut [u8], at: usize, c: Coding) -> usize
+    requires { at + length (extension_of c.w c.k c.n) ≤ length out.old }
+    ensures { Appended out.old out.new at result (extension_of c.w c.k c.n) }
 {
     let a = put::byte(out, at, 1);
-    let b = put::sdnv(out, a, unit_size::value_bytes(w, k, n));
-    put_value(out, b, w, k, n)
+    let b = put::sdnv(out, a, c.value_bytes());
+    put_value(out, b, c)
 }
 
 // Writes the unit of one symbol into an output of exactly its length; or a refusal, which changes nothing.
@@ -90,21 +80,24 @@ pub fn write(
     lwc: usize,
     symbol: &[u8],
     out: &mut [u8],
-) -> Written
+) -> Result<(), Refusal>
     ensures answer { written_as result ≡ outcome (write_refusal code w protocol lsc fill lwc (length symbol.now) (length out.old)) tt }
     ensures output { out.new ≡ afterwards (write_refusal code w protocol lsc fill lwc (length symbol.now) (length out.old)) (unit_of (code_of code) w protocol lsc lwc symbol.now) out.old }
 {
     let l = tables::layout_of(code);
-    let earlier = checks::check_record(code, l, w, protocol, lsc, fill);
-    if earlier != 0 {
-        return Written::Refused(earlier);
-    }
-    let refusal = check_unit(code, l, w, fill, lwc, symbol.len(), out.len());
-    if refusal != 0 {
-        return Written::Refused(refusal);
-    }
+    let number = CodeLayout {
+        number: code,
+        layout: l,
+    };
+    checks::check_record(number, w, protocol, lsc, fill)?;
+    let c = Coding {
+        w,
+        k: l.k,
+        n: l.k + l.m,
+    };
+    check_unit(code, c, fill, lwc, symbol.len(), out.len())?;
     let a = put_header(out, protocol, lsc, lwc);
-    let b = put_extension(out, a, w, l.k, l.k + l.m);
+    let b = put_extension(out, a, c);
     copy::symbol(out, b, symbol);
-    Written::Done
+    Ok(())
 }

@@ -4,132 +4,93 @@ use mathlib.Core.Path.{◌≡◌, refl, sym, ap, ap₂, ◌∙◌, subst}
 use mathlib.Core.Logic.{◌⊎◌, inl, inr, ◌≢◌}
 use mathlib.Core.Bool.{true}
 use mathlib.Core.List.{List}
-use Prim.Native.Nat.{ℕ, zero, suc, ◌+◌, ◌-◌, ◌*◌, ◌<◌, ◌≤◌}
+use Prim.Native.Nat.{ℕ, ◌+◌, ◌-◌, ◌*◌, ◌/◌, ◌<◌, ◌≤◌}
 use native.Mathlib.Nat.{not-suc-le-zero, add_assoc}
 use native.Mathlib.Numerals.{add-one}
 use native.Mathlib.Decide.{dec_lt}
 use native.Mathlib.Omega.{arith}
 use lib.Bits.{bit_xor}
-use lib.ListN.{length, get_or, set, length-set, replicate, length-replicate}
-use lib.Seq.{get_or-set_same, get_or-set_other}
+use Rattle.std.proofs.Math.Path.{fun_ext}
+use Rattle.std.proofs.Math.Nat.{suc-mul, le-div_iff_mul-le}
+use lib.ListN.{length, get_or}
+use Rattle.std.specs.Prelude.{Some, None, IfSome}
+use Rattle.std.specs.declared.option.Option.{Option}
 use Rattle.algebra.specs.Sums.{◌⊕◌, sum}
 use Rattle.algebra.specs.Codeword.{byte_at}
-use Rattle.algebra.specs.Staircase.{before}
 use Rattle.algebra.proofs.Sums as sums
 use Rattle.algebra.proofs.Codeword.{slot}
-use Rattle.buffers.specs.Parts.{put, Part, Sum}
-use Rattle.symbol_sums.specs.declared.Chunk64.{Chunk64}
-use Rattle.symbol_sums.specs.Gather.{gathered, Inside, Replaced, summed, byte_before, Chunk16Is, Chunk64Is, Sum64, Sized64, PlusSymbols, put64, Written, SumWritten}
-use Rattle.buffers.proofs.Zeros.{zeros}
+use Rattle.buffers.specs.Parts.{put, Sum}
+use Rattle.symbol_sums.specs.declared.chunk.Chunk64.{Chunk64}
+use Rattle.symbol_sums.specs.Gather.{gathered, Replaced, summed, byte_before, Chunk16Is, Written, SumWritten}
+use Rattle.symbol_sums.specs.Chunks.{Chunk64Is, PlusBytes}
 use Rattle.buffers.proofs.Put.{put-length, put_out, put_in, from_zero}
 
 -- ---- one position after the other
 
-module _ (u : ℕ → ℕ) (xs : List ℕ) where
-  pub gathered_none : (s : ℕ) → s ≡ s ⊕ gathered u xs 0
-  unfolding sum
-  gathered_none s = sym (sums.unit s)
+gathered_next : (u : ℕ → ℕ) (xs : List ℕ) (i s : ℕ) → s ⊕ gathered u xs i ⊕ u (get_or xs i 0) ≡ s ⊕ gathered u xs (i + 1)
+unfolding sum
+gathered_next u xs i s = sums.assoc s (gathered u xs i) (u (get_or xs i 0)) ∙ ap (λ (n : ℕ). s ⊕ gathered u xs n) (sym (add-one i))
 
-  gathered_next : (i s : ℕ) → s ⊕ gathered u xs i ⊕ u (get_or xs i 0) ≡ s ⊕ gathered u xs (i + 1)
-  unfolding sum
-  gathered_next i s = sums.assoc s (gathered u xs i) (u (get_or xs i 0)) ∙ ap (λ (n : ℕ). s ⊕ gathered u xs n) (sym (add-one i))
-
-  pub gathered-more : (i s t : ℕ) → t ≡ s ⊕ gathered u xs i → bit_xor t (u (get_or xs i 0)) ≡ s ⊕ gathered u xs (i + 1)
-  unfolding ◌⊕◌
-  gathered-more i s t e = ap (λ (v : ℕ). bit_xor v (u (get_or xs i 0))) e ∙ gathered_next i s
-
-  pub gathered_all : (i n s t : ℕ) → t ≡ s ⊕ gathered u xs i → i ≡ n → t ≡ s ⊕ gathered u xs n
-  gathered_all i n s t h e = h ∙ ap (λ (k : ℕ). s ⊕ gathered u xs k) e
-
--- a byte of 16 sums
-sum-next : (w c : ℕ) (src xs : List ℕ) (i s : ℕ) {t t' : List ℕ} → Sum t 0 src (get_or xs i 0 * w + c) 16 t' → (b : ℕ) → b < 16
-    → get_or t b 0 ≡ s ⊕ gathered (byte_at w src (c + b)) xs i → get_or t' b 0 ≡ s ⊕ gathered (byte_at w src (c + b)) xs (i + 1)
-sum-next w c src xs i s {t} g b k e =
-    g.each b k ∙ ap₂ ◌⊕◌ (from_zero t b ∙ e) (ap (λ (m : ℕ). get_or src m 0) (add_assoc (get_or xs i 0 * w) c b))
-    ∙ gathered_next (byte_at w src (c + b)) xs i s
-
-module _ {w c : ℕ} {src xs s : List ℕ} where
-  pub plus_none : length s ≡ 16 → PlusSymbols w c src xs 0 s s
-  plus_none h = record { size = h; each = λ b g. gathered_none (byte_at w src (c + b)) xs (get_or s b 0) }
-
-  pub plus_more : {i o : ℕ} {t t' : List ℕ} → PlusSymbols w c src xs i s t → o ≡ get_or xs i 0 * w + c → Sum t 0 src o 16 t' → PlusSymbols w c src xs (i + 1) s t'
-  plus_more {i} {t = t} {t'} h e g = record { size = g.size; each = λ b k. sum-next w c src xs i (get_or s b 0) (subst (λ (m : ℕ). Sum t 0 src m 16 t') e g) b k (h.each b k) }
-
-  pub plus_all : {i n : ℕ} {t : List ℕ} → PlusSymbols w c src xs i s t → i ≡ n → PlusSymbols w c src xs n s t
-  plus_all {i} {n} {t} h e = subst (λ (k : ℕ). PlusSymbols w c src xs k s t) e h
-
-  -- to a chunk that is known
-  pub chunk16_plus : {f : ℕ → ℕ} {n : ℕ} {t : List ℕ} → Chunk16Is f c s → PlusSymbols w c src xs n s t → Chunk16Is (summed f w src xs n) c t
-  unfolding summed
-  chunk16_plus {f} {n} h g = record {
-    size = g.size;
-    each = λ b k. g.each b k ∙ ap (λ (v : ℕ). v ⊕ gathered (byte_at w src (c + b)) xs n) (h.each b k);
-  }
-
-pub byte_plus : (f : ℕ → ℕ) (w c : ℕ) (src xs : List ℕ) (n : ℕ) {s t : ℕ} → s ≡ f c → t ≡ s ⊕ gathered (byte_at w src c) xs n → t ≡ summed f w src xs n c
-unfolding summed
-byte_plus f w c src xs n h g = g ∙ ap (λ (v : ℕ). v ⊕ gathered (byte_at w src c) xs n) h
-
--- 16 zeros
-pub chunk16_zero : {c : ℕ} → Chunk16Is (λ b. 0) c (replicate 16 0)
-chunk16_zero = record { size = length-replicate {A = ℕ} 16 0; each = λ b g. zeros 16 b }
-
-pub chunk64_zero : {c : ℕ} → Chunk64Is (λ b. 0) c (record { a = replicate 16 0; b = replicate 16 0; c = replicate 16 0; d = replicate 16 0 })
-chunk64_zero = record { first = chunk16_zero; second = chunk16_zero; third = chunk16_zero; fourth = chunk16_zero }
-
--- a chunk, and the positions added to it so far
+-- what `holds` of a chunk (`chunk::Chunk`) says of the positions added so far
 module _ (f : ℕ → ℕ) (w : ℕ) (src xs : List ℕ) where
-  chunk16_none : {c : ℕ} {t : List ℕ} → Chunk16Is f c t → Chunk16Is (summed f w src xs 0) c t
+  -- none
+  pub summed_none : f ≡ summed f w src xs 0
+  unfolding sum summed
+  summed_none = fun_ext (λ b. sym (sums.unit (f b)))
+
+  -- one more, which stands at index o
+  pub summed_next : {c n : ℕ} (i : ℕ) {o : ℕ} → o ≡ get_or xs i 0 * w + c → PlusBytes (summed f w src xs i) (summed f w src xs (i + 1)) c n src o
   unfolding summed
-  chunk16_none {c} h = record { size = h.size; each = λ b k. h.each b k ∙ gathered_none (byte_at w src (c + b)) xs (f (c + b)) }
-
-  chunk16_more : (i : ℕ) {c : ℕ} {t t' : List ℕ} → Chunk16Is (summed f w src xs i) c t → Sum t 0 src (get_or xs i 0 * w + c) 16 t'
-      → Chunk16Is (summed f w src xs (i + 1)) c t'
-  unfolding summed
-  chunk16_more i {c} h g = record { size = g.size; each = λ b k. sum-next w c src xs i (f (c + b)) g b k (h.each b k) }
-
-  -- 64 bytes
-  pub chunk64_none : {c : ℕ} {s : Chunk64} → Chunk64Is f c s → Chunk64Is (summed f w src xs 0) c s
-  chunk64_none h = record { first = chunk16_none h.first; second = chunk16_none h.second; third = chunk16_none h.third; fourth = chunk16_none h.fourth }
-
-  -- one position more; its four parts stand 16 apart
-  pub chunk64_more : (i : ℕ) {o c : ℕ} {s r : Chunk64} → Chunk64Is (summed f w src xs i) c s → o ≡ get_or xs i 0 * w + c → Sum64 s src o r
-      → Chunk64Is (summed f w src xs (i + 1)) c r
-  chunk64_more i {o} {c} {s} {r} h e g = record {
-    first = chunk16_more i h.first (subst (λ (m : ℕ). Sum s.a 0 src m 16 r.a) e g.first);
-    second = chunk16_more i h.second (moved s.b r.b 16 g.second);
-    third = chunk16_more i h.third (moved s.c r.c 32 g.third);
-    fourth = chunk16_more i h.fourth (moved s.d r.d 48 g.fourth);
+  summed_next {c} i {o} e = record {
+    each = λ b l.
+        sym (gathered_next (byte_at w src (c + b)) xs i (f (c + b)))
+        ∙ ap (λ (k : ℕ). f (c + b) ⊕ gathered (byte_at w src (c + b)) xs i ⊕ get_or src k 0) (sym (ap (λ (m : ℕ). m + b) e ∙ add_assoc (get_or xs i 0 * w) c b));
   }
-    where
-      moved : (l l' : List ℕ) (k : ℕ) → Sum l 0 src (o + k) 16 l' → Sum l 0 src (get_or xs i 0 * w + (c + k)) 16 l'
-      moved l l' k g = subst (λ (m : ℕ). Sum l 0 src m 16 l') (ap (λ (m : ℕ). m + k) e ∙ add_assoc (get_or xs i 0 * w) c k) g
 
-  pub chunk64_all : {i n c : ℕ} {s : Chunk64} → Chunk64Is (summed f w src xs i) c s → i ≡ n → Chunk64Is (summed f w src xs n) c s
-  chunk64_all {c = c} {s} h e = subst (λ (k : ℕ). Chunk64Is (summed f w src xs k) c s) e h
+-- ---- chunks
 
--- it has four arrays of 16 bytes
-pub chunk64_sized : {f : ℕ → ℕ} {c : ℕ} {s : Chunk64} → Chunk64Is f c s → Sized64 s
-chunk64_sized h = record { first = h.first.size; second = h.second.size; third = h.third.size; fourth = h.fourth.size }
+-- 16 sums
+pub chunk16_plus : {f g : ℕ → ℕ} {c : ℕ} {src t t' : List ℕ} {from : ℕ} → Chunk16Is f c t → PlusBytes f g c 16 src from → Sum t 0 src from 16 t' → Chunk16Is g c t'
+chunk16_plus {c = c} {src} {t} {from = from} h p s = record {
+  size = s.size;
+  each = λ b l. s.each b l ∙ ap (λ (v : ℕ). v ⊕ get_or src (from + b) 0) (from_zero t b ∙ h.each b l) ∙ sym (p.each b l);
+}
+
+-- a byte
+pub byte_plus : {f g : ℕ → ℕ} {c s : ℕ} {src : List ℕ} {from : ℕ} → s ≡ f c → PlusBytes f g c 1 src from → bit_xor s (get_or src from 0) ≡ g c
+unfolding ◌⊕◌
+byte_plus {f} {g} {c} {s} {src} {from} h p =
+    let z : c + 0 ≡ c = omega arith in
+    let y : from + 0 ≡ from = omega arith in
+    ap₂ bit_xor (h ∙ ap f (sym z)) (ap (λ (i : ℕ). get_or src i 0) (sym y)) ∙ sym (p.each 0 (omega arith)) ∙ ap g z
+
+-- 16 of 64 bytes
+plus_part : {f g : ℕ → ℕ} {c n : ℕ} {src : List ℕ} {from : ℕ} → PlusBytes f g c n src from → (k m : ℕ) → k + m ≤ n → PlusBytes f g (c + k) m src (from + k)
+plus_part {f} {g} {c} {src = src} {from} p k m l = record {
+  each = λ b h.
+      ap g (add_assoc c k b) ∙ p.each (k + b) (omega arith)
+      ∙ ap₂ ◌⊕◌ (ap f (sym (add_assoc c k b))) (ap (λ (i : ℕ). get_or src i 0) (sym (add_assoc from k b)));
+}
+
+pub chunk64_plus : {f g : ℕ → ℕ} {c : ℕ} {src : List ℕ} {from : ℕ} {s r : Chunk64} → Chunk64Is f c s → PlusBytes f g c 64 src from
+    → Sum s.a 0 src from 16 r.a → Sum s.b 0 src (from + 16) 16 r.b → Sum s.c 0 src (from + 32) 16 r.c → Sum s.d 0 src (from + 48) 16 r.d → Chunk64Is g c r
+chunk64_plus h p a b c d = record {
+  first = chunk16_plus h.first (record { each = λ k l. p.each k (omega arith) }) a;
+  second = chunk16_plus h.second (plus_part p 16 16 (omega arith)) b;
+  third = chunk16_plus h.third (plus_part p 32 16 (omega arith)) c;
+  fourth = chunk16_plus h.fourth (plus_part p 48 16 (omega arith)) d;
+}
 
 -- ---- the symbol before
 
--- it lies within what comes before symbol prev
-pub earlier : (w prev : ℕ) → 0 < prev → (prev - 1) * w + w ≤ prev * w
-earlier w prev h = slot (prev - 1) prev w (omega arith)
+-- it lies in the buffer, as symbol j does, which it comes before
+pub prev_within : (w j : ℕ) (prev : Option ℕ) {m : ℕ} → IfSome prev (λ i. i < j) → j * w + w ≤ m → IfSome prev (λ i. i * w + w ≤ m)
+prev_within w j None h l = tt
+prev_within w j (Some i) h l = omega (arith, slot i j w h, l)
 
-pub before-some : (w : ℕ) (p : List ℕ) (prev b : ℕ) → 0 < prev → get_or p ((prev - 1) * w + b) 0 ≡ byte_before w p prev b
-before-some w p zero b h = absurd (not-suc-le-zero h)
-before-some w p (suc j) b h = let e : suc j - 1 ≡ j = omega arith in ap (λ (i : ℕ). get_or p (i * w + b) 0) e
-
-pub before-none : (w : ℕ) (p : List ℕ) (prev b : ℕ) → prev ≡ 0 → byte_before w p prev b ≡ 0
-before-none w p prev b e = ap (before (byte_at w p b)) e
-
-pub chunk16_before : (w : ℕ) (p : List ℕ) (prev : ℕ) {c : ℕ} {t : List ℕ} → 0 < prev → Part p ((prev - 1) * w + c) 16 t → Chunk16Is (byte_before w p prev) c t
-chunk16_before w p prev {c} h s = record {
-  size = s.size;
-  each = λ b g. s.each b g ∙ ap (λ (k : ℕ). get_or p k 0) (add_assoc ((prev - 1) * w) c b) ∙ before-some w p prev (c + b) h;
-}
+-- its bytes, added to zeros
+pub before_plus : (w : ℕ) (p : List ℕ) (i c n : ℕ) → PlusBytes (λ b. 0) (byte_before w p (Some i)) c n p (i * w + c)
+before_plus w p i c n = record { each = λ b l. ap (λ (k : ℕ). get_or p k 0) (sym (add_assoc (i * w) c b)) ∙ sym (sums.unit_l (get_or p (i * w + c + b) 0)) }
 
 -- ---- part after part
 
@@ -145,19 +106,6 @@ put_written {f} {at} {c} {p} {p'} {t} h l e = record {
     apart : (i b : ℕ) → b < 16 → i ≡ at + c + b → (i < at + c) ⊎ (at + (c + 16) ≤ i) → ⊥
     apart i b k q (inl o) = omega arith
     apart i b k q (inr o) = omega arith
-
-pub set_written : {f : ℕ → ℕ} {at c v : ℕ} {p p' : List ℕ} → v ≡ f c → at + c < length p → p' ≡ set p (at + c) v → Written f at c 1 p p'
-set_written {f} {at} {c} {v} {p} {p'} h l e = record {
-  size = ap length e ∙ length-set p (at + c) v;
-  outside = λ i o. ap (λ (x : List ℕ). get_or x i 0) e ∙ get_or-set_other p (at + c) i v 0 (λ q. apart i q o);
-  each = λ b g.
-      let z : c + b ≡ c = omega arith in
-      ap₂ (λ (x : List ℕ) (k : ℕ). get_or x (at + k) 0) e z ∙ get_or-set_same p (at + c) v 0 l ∙ h ∙ ap f (sym z);
-}
-  where
-    apart : (i : ℕ) → i ≡ at + c → (i < at + c) ⊎ (at + (c + 1) ≤ i) → ⊥
-    apart i q (inl o) = omega arith
-    apart i q (inr o) = omega arith
 
 -- n bytes from byte c on were written, and then k from byte i on, some of them perhaps again
 written_join : {f g : ℕ → ℕ} {at c n i k : ℕ} {p p' p'' : List ℕ} → Written f at c n p p' → Written g at i k p' p'' → ((b : ℕ) → b < i + k → g b ≡ f b)
@@ -179,25 +127,28 @@ written_join {f} {g} {at} {c} {n} {i} {k} {p} {p'} {p''} h r same l₁ l₂ l₃
         subst (λ (j : ℕ). get_or p'' (at + j) 0 ≡ f j) z (r.each (c + b - i) (omega arith) ∙ same (i + (c + b - i)) (omega arith))
 
 -- the next 16 bytes
-written_next : {f : ℕ → ℕ} {at c n : ℕ} {p p' t : List ℕ} → Written f at c n p p' → Chunk16Is f (c + n) t → at + c + n + 16 ≤ length p
-    → Written f at c (n + 16) p (put p' (at + c + n) t 0 16)
-written_next {f} {at} {c} {n} {p} {p'} {t} h b l =
-    written_join h (put_written b (omega (arith, h.size)) (ap (λ (k : ℕ). put p' k t 0 16) (add_assoc at c n))) (λ b q. refl) (omega arith) (omega arith) (omega arith) (n + 16) (omega arith)
+written_next : {f : ℕ → ℕ} {at c n : ℕ} {p p' p'' t : List ℕ} → Written f at c n p p' → Chunk16Is f (c + n) t → at + c + n + 16 ≤ length p
+    → p'' ≡ put p' (at + c + n) t 0 16 → Written f at c (n + 16) p p''
+written_next {f} {at} {c} {n} {p} {p'} {t = t} h b l e =
+    written_join h (put_written b (omega (arith, h.size)) (e ∙ ap (λ (k : ℕ). put p' k t 0 16) (add_assoc at c n))) (λ b q. refl) (omega arith) (omega arith) (omega arith) (n + 16) (omega arith)
 
 -- 64 bytes, one part after the other
-pub put_parts : (d : List ℕ) (at : ℕ) (s : Chunk64) {d₁ d₂ d₃ d₄ : List ℕ} → d₁ ≡ put d at s.a 0 16 → d₂ ≡ put d₁ (at + 16) s.b 0 16
-    → d₃ ≡ put d₂ (at + 32) s.c 0 16 → d₄ ≡ put d₃ (at + 48) s.d 0 16 → d₄ ≡ put64 d at s
-put_parts d at s e₁ e₂ e₃ e₄ =
-    e₄ ∙ ap (λ (x : List ℕ). put x (at + 48) s.d 0 16)
-    (e₃ ∙ ap (λ (x : List ℕ). put x (at + 32) s.c 0 16) (e₂ ∙ ap (λ (x : List ℕ). put x (at + 16) s.b 0 16) e₁))
+pub put64_written : {f : ℕ → ℕ} {at c : ℕ} {p p₁ p₂ p₃ p₄ : List ℕ} {s : Chunk64} → Chunk64Is f c s → at + c + 64 ≤ length p → p₁ ≡ put p (at + c) s.a 0 16
+    → p₂ ≡ put p₁ (at + c + 16) s.b 0 16 → p₃ ≡ put p₂ (at + c + 32) s.c 0 16 → p₄ ≡ put p₃ (at + c + 48) s.d 0 16 → Written f at c 64 p p₄
+put64_written h l e₁ e₂ e₃ e₄ =
+    written_next
+    (written_next (written_next (put_written h.first (omega arith) e₁) h.second (omega arith) e₂) h.third (omega arith) e₃)
+    h.fourth (omega arith) e₄
 
-pub put64_written : {f : ℕ → ℕ} {at c : ℕ} {p p' : List ℕ} {s : Chunk64} → Chunk64Is f c s → at + c + 64 ≤ length p → p' ≡ put64 p (at + c) s
-    → Written f at c 64 p p'
-put64_written {f} {at} {c} {p} {p'} {s} h l e =
-    subst (λ (x : List ℕ). Written f at c 64 p x) (sym e)
-    (written_next
-    (written_next (written_next (put_written h.first (omega arith) refl) h.second (omega arith)) h.third (omega arith))
-    h.fourth (omega arith))
+-- where it stands at index i
+pub put16_at : {f : ℕ → ℕ} {at c i : ℕ} {p p' t : List ℕ} → Chunk16Is f c t → i ≡ at + c → i + 16 ≤ length p → p' ≡ put p i t 0 16 → Written f at c 16 p p'
+put16_at {p = p} {t = t} h e l q = put_written h (omega (arith, e, l)) (q ∙ ap (λ (k : ℕ). put p k t 0 16) e)
+
+pub put64_at : {f : ℕ → ℕ} {at c i : ℕ} {p p₁ p₂ p₃ p₄ : List ℕ} {s : Chunk64} → Chunk64Is f c s → i ≡ at + c → i + 64 ≤ length p → p₁ ≡ put p i s.a 0 16
+    → p₂ ≡ put p₁ (i + 16) s.b 0 16 → p₃ ≡ put p₂ (i + 32) s.c 0 16 → p₄ ≡ put p₃ (i + 48) s.d 0 16 → Written f at c 64 p p₄
+put64_at {p = p} {p₁} {p₂} {p₃} {s = s} h e l e₁ e₂ e₃ e₄ =
+    put64_written h (omega (arith, e, l)) (e₁ ∙ ap (λ (k : ℕ). put p k s.a 0 16) e) (e₂ ∙ ap (λ (k : ℕ). put p₁ (k + 16) s.b 0 16) e)
+    (e₃ ∙ ap (λ (k : ℕ). put p₂ (k + 32) s.c 0 16) e) (e₄ ∙ ap (λ (k : ℕ). put p₃ (k + 48) s.d 0 16) e)
 
 pub written_none : {f : ℕ → ℕ} {at : ℕ} {p : List ℕ} → Written f at 0 0 p p
 written_none = record { size = refl; outside = λ t o. refl; each = λ b g. absurd (not-suc-le-zero g) }
@@ -215,12 +166,12 @@ written_replaced {f} {g} {w} {j} {c} {p} {p'} h e same = record { size = h.size;
         let z : 0 + b ≡ b = omega arith in
         subst (λ (m : ℕ). get_or p' (j * w + m) 0 ≡ f m) z (h.each b (omega arith)) ∙ same b
 
-pub sum_replaced : (w j prev : ℕ) (src xs : List ℕ) (n : ℕ) {c : ℕ} {p p' : List ℕ} → SumWritten w j prev src xs n 0 c p p' → c ≡ w
-    → Replaced (λ b. before (byte_at w p b) prev ⊕ gathered (byte_at w src b) xs n) w j p p'
+pub sum_replaced : (w j : ℕ) (prev : Option ℕ) (src xs : List ℕ) (n : ℕ) {c : ℕ} {p p' : List ℕ} → SumWritten w j prev src xs n 0 c p p' → c ≡ w
+    → Replaced (λ b. byte_before w p prev b ⊕ gathered (byte_at w src b) xs n) w j p p'
 unfolding summed
 sum_replaced w j prev src xs n h e = written_replaced h e (λ b. refl)
 
-pub restore_replaced : (w j : ℕ) (xs : List ℕ) (n : ℕ) {c : ℕ} {p p' : List ℕ} → SumWritten w j 0 p xs n 0 c p p' → c ≡ w
+pub restore_replaced : (w j : ℕ) (xs : List ℕ) (n : ℕ) {c : ℕ} {p p' : List ℕ} → SumWritten w j None p xs n 0 c p p' → c ≡ w
     → Replaced (λ b. gathered (byte_at w p b) xs n) w j p p'
 unfolding summed
 restore_replaced w j xs n {p = p} h e = written_replaced h e (λ b. sums.unit_l (gathered (byte_at w p b) xs n))
@@ -241,13 +192,13 @@ other {f} {w} {j} {c} {p} {p'} h l i b q ne = go (dec_lt i j)
         above (yes a) = a
         above (no a) = let e : i ≡ j = omega arith in absurd (ne e)
 
-before-kept : {f : ℕ → ℕ} {w j c : ℕ} {p p' : List ℕ} → Written f (j * w) 0 c p p' → c ≤ w → (prev b : ℕ) → prev ≤ j → b < w
+before-kept : (j : ℕ) {f : ℕ → ℕ} {w c : ℕ} {p p' : List ℕ} → Written f (j * w) 0 c p p' → c ≤ w → (prev : Option ℕ) (b : ℕ) → IfSome prev (λ i. i < j) → b < w
     → byte_before w p' prev b ≡ byte_before w p prev b
-before-kept h l zero b le q = refl
-before-kept h l (suc i) b le q = other h l i b q (λ e. omega arith)
+before-kept j h l None b le q = refl
+before-kept j h l (Some i) b le q = other h l i b q (λ e. omega arith)
 
 -- c bytes of symbol j were written, and then k from byte i on, and the symbols that are added hold what they held
-symbol-join : (w j prev : ℕ) (src src' xs : List ℕ) (n : ℕ) {p p' p'' : List ℕ} {c i k : ℕ} → prev ≤ j
+symbol-join : (w j : ℕ) (prev : Option ℕ) (src src' xs : List ℕ) (n : ℕ) {p p' p'' : List ℕ} {c i k : ℕ} → IfSome prev (λ i. i < j)
     → ((x b : ℕ) → x < n → b < w → byte_at w src' b (get_or xs x 0) ≡ byte_at w src b (get_or xs x 0))
     → SumWritten w j prev src xs n 0 c p p' → SumWritten w j prev src' xs n i k p' p'' → i ≤ c → c ≤ i + k → i + k ≤ w
     → SumWritten w j prev src xs n 0 (i + k) p p''
@@ -255,21 +206,43 @@ unfolding summed
 symbol-join w j prev src src' xs n {i = i} {k} le same h g l₁ l₂ l₃ =
     written_join h g
     (λ b q.
-    ap₂ ◌⊕◌ (before-kept h (omega arith) prev b le (omega arith))
+    ap₂ ◌⊕◌ (before-kept j h (omega arith) prev b le (omega arith))
     (sums.sum_ext (λ x. true) (λ x. byte_at w src' b (get_or xs x 0)) (λ x. byte_at w src b (get_or xs x 0)) n (λ x r. same x b r (omega arith))))
     (omega arith) (omega arith) (omega arith) (i + k) (omega arith)
 
 -- they are another buffer's
-pub sum-join : (w j prev : ℕ) (src xs : List ℕ) (n : ℕ) {p p' p'' : List ℕ} {c i k : ℕ} → prev ≤ j → SumWritten w j prev src xs n 0 c p p'
+pub sum-join : (w j : ℕ) (prev : Option ℕ) (src xs : List ℕ) (n : ℕ) {p p' p'' : List ℕ} {c i k : ℕ} → IfSome prev (λ i. i < j) → SumWritten w j prev src xs n 0 c p p'
     → SumWritten w j prev src xs n i k p' p'' → i ≤ c → c ≤ i + k → i + k ≤ w → SumWritten w j prev src xs n 0 (i + k) p p''
 sum-join w j prev src xs n le = symbol-join w j prev src src xs n le (λ x b r q. refl)
 
 -- they are the same buffer's, and symbol j is none of them
 pub restore_join : (w j : ℕ) (xs : List ℕ) (n : ℕ) {p p' p'' : List ℕ} {c i k : ℕ} → ((x : ℕ) → x < n → get_or xs x 0 ≢ j)
-    → SumWritten w j 0 p xs n 0 c p p' → SumWritten w j 0 p' xs n i k p' p'' → i ≤ c → c ≤ i + k → i + k ≤ w → SumWritten w j 0 p xs n 0 (i + k) p p''
+    → SumWritten w j None p xs n 0 c p p' → SumWritten w j None p' xs n i k p' p'' → i ≤ c → c ≤ i + k → i + k ≤ w → SumWritten w j None p xs n 0 (i + k) p p''
 restore_join w j xs n {p} {p'} ne h g l₁ l₂ l₃ =
-    symbol-join w j 0 p p' xs n (omega arith) (λ x b r q. other h (omega arith) (get_or xs x 0) b q (ne x r)) h g l₁ l₂ l₃
+    symbol-join w j None p p' xs n tt (λ x b r q. other h (omega arith) (get_or xs x 0) b q (ne x r)) h g l₁ l₂ l₃
 
--- positions within a buffer are within each of its length
-pub inside_kept : {xs : List ℕ} {n w m m' : ℕ} → Inside xs n w m → m' ≡ m → Inside xs n w m'
-inside_kept {xs} {n} {w} h e = subst (λ (k : ℕ). Inside xs n w k) (sym e) h
+-- ---- chunk after chunk
+
+-- n whole chunks of k bytes fit from byte `from` on, and chunk i is one of them
+next_end : (from i k : ℕ) → from + i * k + k ≡ from + (i + 1) * k
+next_end from i k = add_assoc from (i * k) k ∙ ap (λ (m : ℕ). from + m) (sym (ap (λ (m : ℕ). m * k) (add-one i) ∙ suc-mul i k))
+
+pub room : (w from k i : ℕ) {s : ℕ} → s ≡ k → 0 < k → from ≤ w → i < (w - from) / s → from + i * k + k ≤ w
+room w from k i e pos l h =
+    let g : i < (w - from) / k = subst (λ (m : ℕ). i < (w - from) / m) e h in
+    let m : (i + 1) * k ≤ w - from = (le-div_iff_mul-le pos).0 (omega arith) in
+    omega (arith, m, next_end from i k)
+
+pub sum_part : (w j : ℕ) (prev : Option ℕ) (src xs : List ℕ) (n from i k : ℕ) {o : ℕ} {p p' p'' : List ℕ} → o ≡ from + i * k → IfSome prev (λ x. x < j)
+    → SumWritten w j prev src xs n 0 (from + i * k) p p' → SumWritten w j prev src xs n o k p' p'' → from + i * k + k ≤ w
+    → SumWritten w j prev src xs n 0 (from + (i + 1) * k) p p''
+sum_part w j prev src xs n from i k {o} {p} {p'' = p''} e le h g l =
+    subst (λ (m : ℕ). SumWritten w j prev src xs n 0 m p p'') (ap (λ (m : ℕ). m + k) e ∙ next_end from i k)
+    (sum-join w j prev src xs n le h g (omega (arith, e)) (omega (arith, e)) (omega (arith, e, l)))
+
+pub restore_chunk : (w j : ℕ) (xs : List ℕ) (n from i k : ℕ) {o : ℕ} {p p' p'' : List ℕ} → o ≡ from + i * k → ((x : ℕ) → x < n → get_or xs x 0 ≢ j)
+    → SumWritten w j None p xs n 0 (from + i * k) p p' → SumWritten w j None p' xs n o k p' p'' → from + i * k + k ≤ w
+    → SumWritten w j None p xs n 0 (from + (i + 1) * k) p p''
+restore_chunk w j xs n from i k {o} {p} {p'' = p''} e ne h g l =
+    subst (λ (m : ℕ). SumWritten w j None p xs n 0 m p p'') (ap (λ (m : ℕ). m + k) e ∙ next_end from i k)
+    (restore_join w j xs n ne h g (omega (arith, e)) (omega (arith, e)) (omega (arith, e, l)))

@@ -5,6 +5,7 @@ use mathlib.Core.Logic.{◌≢◌}
 use mathlib.Core.Bool.{Bool, true, false, not, false≢true}
 use mathlib.Core.List.{List}
 use Prim.Native.Nat.{ℕ, ◌+◌, ◌-◌, ◌<◌, ◌≤◌}
+use native.Mathlib.Nat.{not-suc-le-zero}
 use native.Mathlib.Decide.{dec_lt, ℕ_discrete}
 use native.Mathlib.Omega.{arith}
 use lib.Bits.{bit_or, or_zero_l}
@@ -12,8 +13,9 @@ use lib.ListN.{get_or}
 use Rattle.algebra.specs.Codeword.{byte_at}
 use Rattle.algebra.proofs.Sums as sums
 use Rattle.buffers.specs.AllZero.{AllZeroIs}
-use Rattle.symbol_sums.specs.declared.Chunk64.{Chunk64}
-use Rattle.symbol_sums.specs.Gather.{gathered, summed, Chunk16Is, Chunk64Is, CancelIs, Or16, ZeroIs}
+use Rattle.symbol_sums.specs.declared.chunk.Chunk64.{Chunk64}
+use Rattle.symbol_sums.specs.Gather.{gathered, summed, Chunk16Is, CancelIs, Or16, ZeroIs}
+use Rattle.symbol_sums.specs.Chunks.{Chunk64Is}
 use Rattle.buffers.proofs.AllZeroLaws.{or_none}
 use Rattle.buffers.proofs.Put.{from_zero}
 
@@ -96,6 +98,15 @@ module _ (f : ℕ → ℕ) (c from to : ℕ) where
   pub zero-last : (w : ℕ) → ((b : ℕ) → b < c → f b ≡ 0) → from ≤ c → to ≡ w → (r : Bool) → ZeroIs f from to r → ZeroIs f 0 w r
   zero-last w h l e true z = λ b g₁ g₂. zero_more true h l z refl b (omega arith)
   zero-last w h l e false z = zero-not w false z refl (omega arith)
+
+-- as far as two parts reach, one after the other
+pub zero_two : (f : ℕ → ℕ) (from to mid : ℕ) (a b : Bool) → ZeroIs f 0 to a → not a ≡ false → from ≤ to → ZeroIs f from mid b → not b ≡ false
+    → (k : ℕ) → k < mid → f k ≡ 0
+zero_two f from to mid a b h e l z q = zero_more f to from mid b (λ k g. zero_more f 0 0 to a (λ m g'. absurd (not-suc-le-zero g')) (omega arith) h e k g) l z q
+
+-- up to the same byte
+pub zero_to : (f : ℕ → ℕ) (from : ℕ) {to to' : ℕ} (r : Bool) → to ≡ to' → ZeroIs f from to r → ZeroIs f from to' r
+zero_to f from r e z = subst (λ (k : ℕ). ZeroIs f from k r) e z
 
 pub cancel_is : (w : ℕ) (src xs : List ℕ) (n : ℕ) (r : Bool) → ZeroIs (summed (λ b. 0) w src xs n) 0 w r → CancelIs w src xs n r
 unfolding summed

@@ -1,32 +1,33 @@
 -- Sums of symbols that stand anywhere in a buffer.
 -- Assumes nothing.
-use Rattle.std.specs.Prelude.{◌≡◌, ◌⊎◌, ◌≢◌, Bool, true, false, List, ℕ, ◌+◌, ◌*◌, ◌<◌, ◌≤◌, length, get_or}
+use Rattle.std.specs.Prelude.{◌≡◌, ◌⊎◌, ◌≢◌, Bool, true, false, List, ℕ, ◌+◌, ◌*◌, ◌<◌, ◌≤◌, length, get_or, Some, None}
+use Rattle.std.specs.declared.option.Option.{Option}
 use Rattle.std.specs.Int.Bits.{bit_or}
 use Rattle.algebra.specs.Sums.{◌⊕◌, sum}
 use Rattle.algebra.specs.Codeword.{byte_at}
-use Rattle.algebra.specs.Staircase.{before}
-use Rattle.buffers.specs.Parts.{put, Sum}
-use Rattle.symbol_sums.specs.declared.Chunk64.{Chunk64}
 
 -- the sum of u at the first n positions of xs
 abbrev pub gathered : (ℕ → ℕ) → List ℕ → ℕ → ℕ
 gathered u xs n = sum (λ i. true) (λ i. u (get_or xs i 0)) n
 
--- the length of an array of positions
+-- the most positions of a check row
 abbrev pub max_positions : ℕ
 max_positions = 64
 
--- xs is an array of positions, and its first n are positions of symbols of w bytes within a buffer of `bytes` bytes
-pub record Inside (xs : List ℕ) (n w bytes : ℕ) : Type 0 where
-  pub size : length xs ≡ max_positions
-  pub few : n ≤ max_positions
-  pub each : (i : ℕ) → i < n → get_or xs i 0 * w + w ≤ bytes
+-- xs are positions of symbols of w bytes within a buffer of `bytes` bytes
+pub record Inside (xs : List ℕ) (w bytes : ℕ) : Type 0 where
+  pub each : (i : ℕ) → i < length xs → get_or xs i 0 * w + w ≤ bytes
 
 -- symbol j of p became f 0, .., f (w - 1), and nothing else changed
 pub record Replaced (f : ℕ → ℕ) (w j : ℕ) (p p' : List ℕ) : Type 0 where
   pub size : length p' ≡ length p
   pub outside : (t : ℕ) → (t < j * w) ⊎ (j * w + w ≤ t) → get_or p' t 0 ≡ get_or p t 0
   pub each : (b : ℕ) → b < w → byte_at w p' b j ≡ f b
+
+-- byte b of symbol prev, and 0 where there is none
+abbrev pub byte_before : ℕ → List ℕ → Option ℕ → ℕ → ℕ
+byte_before w p None b = 0
+byte_before w p (Some i) b = byte_at w p b i
 
 -- r is the answer to: do the first n symbols xs of src add up to zero?
 abbrev pub CancelIs : ℕ → List ℕ → List ℕ → ℕ → Bool → Type 0
@@ -39,44 +40,10 @@ CancelIs w src xs n false = (b : ℕ) × ((b < w) × (gathered (byte_at w src b)
 unfoldable pub summed : (ℕ → ℕ) → ℕ → List ℕ → List ℕ → ℕ → ℕ → ℕ
 summed f w src xs n b = f b ⊕ gathered (byte_at w src b) xs n
 
--- byte b of symbol prev - 1, and 0 where prev is 0
-abbrev pub byte_before : ℕ → List ℕ → ℕ → ℕ → ℕ
-byte_before w p prev b = before (byte_at w p b) prev
-
 -- t is f c, .., f (c + 15)
 pub record Chunk16Is (f : ℕ → ℕ) (c : ℕ) (t : List ℕ) : Type 0 where
   pub size : length t ≡ 16
   pub each : (b : ℕ) → b < 16 → get_or t b 0 ≡ f (c + b)
-
--- s is f c, .., f (c + 63)
-pub record Chunk64Is (f : ℕ → ℕ) (c : ℕ) (s : Chunk64) : Type 0 where
-  pub first : Chunk16Is f c s.a
-  pub second : Chunk16Is f (c + 16) s.b
-  pub third : Chunk16Is f (c + 32) s.c
-  pub fourth : Chunk16Is f (c + 48) s.d
-
--- four arrays of 16 bytes
-pub record Sized64 (s : Chunk64) : Type 0 where
-  pub first : length s.a ≡ 16
-  pub second : length s.b ≡ 16
-  pub third : length s.c ≡ 16
-  pub fourth : length s.d ≡ 16
-
--- r is s plus the 64 bytes of src from index `from` on
-pub record Sum64 (s : Chunk64) (src : List ℕ) (from : ℕ) (r : Chunk64) : Type 0 where
-  pub first : Sum s.a 0 src from 16 r.a
-  pub second : Sum s.b 0 src (from + 16) 16 r.b
-  pub third : Sum s.c 0 src (from + 32) 16 r.c
-  pub fourth : Sum s.d 0 src (from + 48) 16 r.d
-
--- t is s plus bytes c, .., c + 15 of each of the first n symbols xs of src
-pub record PlusSymbols (w c : ℕ) (src xs : List ℕ) (n : ℕ) (s t : List ℕ) : Type 0 where
-  pub size : length t ≡ 16
-  pub each : (b : ℕ) → b < 16 → get_or t b 0 ≡ get_or s b 0 ⊕ gathered (byte_at w src (c + b)) xs n
-
--- d, where s stands from index `at` on
-abbrev pub put64 : List ℕ → ℕ → Chunk64 → List ℕ
-put64 d at s = put (put (put (put d at s.a 0 16) (at + 16) s.b 0 16) (at + 32) s.c 0 16) (at + 48) s.d 0 16
 
 -- f c, .., f (c + n - 1) were written from index at + c on, and nothing else changed
 pub record Written (f : ℕ → ℕ) (at c n : ℕ) (p p' : List ℕ) : Type 0 where
@@ -84,8 +51,8 @@ pub record Written (f : ℕ → ℕ) (at c n : ℕ) (p p' : List ℕ) : Type 0 w
   pub outside : (t : ℕ) → (t < at + c) ⊎ (at + (c + n) ≤ t) → get_or p' t 0 ≡ get_or p t 0
   pub each : (b : ℕ) → b < n → get_or p' (at + (c + b)) 0 ≡ f (c + b)
 
--- bytes c, .., c + k - 1 of symbol j of p became those of symbol prev - 1 plus those of the first n symbols xs of src, and nothing else changed
-abbrev pub SumWritten : ℕ → ℕ → ℕ → List ℕ → List ℕ → ℕ → ℕ → ℕ → List ℕ → List ℕ → Type 0
+-- bytes c, .., c + k - 1 of symbol j of p became those of symbol prev, where there is one, plus those of the first n symbols xs of src, and nothing else changed
+abbrev pub SumWritten : ℕ → ℕ → Option ℕ → List ℕ → List ℕ → ℕ → ℕ → ℕ → List ℕ → List ℕ → Type 0
 SumWritten w j prev src xs n c k p p' = Written (summed (byte_before w p prev) w src xs n) (j * w) c k p p'
 
 -- t is the bitwise or of s and u, 16 bytes each

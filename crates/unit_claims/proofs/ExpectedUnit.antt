@@ -7,6 +7,8 @@ use Prim.Native.Nat.{ℕ, ◌+◌, ◌-◌, ◌*◌, ◌/◌, ◌%◌, ◌≤◌
 use native.Mathlib.Omega.{arith}
 use lib.Dec.{lit<}
 use lib.ListN.{length, get_or, drop}
+use Rattle.std.specs.Prelude.{Bool, true, false, Some}
+use Rattle.std.specs.Bool.{then_some}
 use Rattle.ccsds.specs.Codes.{Params}
 use Rattle.ccsds.specs.Refusals.{answered}
 use Rattle.wire.specs.Bytes.{part, pair_at, OfBytes}
@@ -82,27 +84,29 @@ joined : (s : List ℕ) (a b e : ℕ) {x y : List ℕ} → a ≤ b → b ≤ e �
 joined s a b e p q f g = sym (part_then s a b e p q) ∙ ap₂ (λ (x y : List ℕ). x ++ y) f g
 
 -- it stands after the header
-stands : (s x y : List ℕ) (e : ℕ) → 6 ≤ e → part s 6 e ≡ y → x ≡ y → e ≡ 6 + length y → Starts s x e
+stands : (s x y : List ℕ) (e : ℕ) → 6 ≤ e → part s 6 e ≡ y → x ≡ y → e ≡ 6 + length y → Starts s x (Some e)
 stands s x y e h f g l =
-    record { after = λ _. (l ∙ ap (λ (t : List ℕ). 6 + length t) (sym g), sym (part-rest s 6 e h) ∙ ap (λ (t : List ℕ). t ++ drop e s) (f ∙ sym g)) }
+    (l ∙ ap (λ (t : List ℕ). 6 + length t) (sym g), sym (part-rest s 6 e h) ∙ ap (λ (t : List ℕ). t ++ drop e s) (f ∙ sym g))
 
 pub starts_short : (s : List ℕ) {a b c d f g h i : ℕ} (x : List ℕ) → part s 6 10 ≡ a ∷ b ∷ c ∷ d ∷ [] → part s 10 14 ≡ f ∷ g ∷ h ∷ i ∷ []
-    → x ≡ a ∷ b ∷ c ∷ d ∷ f ∷ g ∷ h ∷ i ∷ [] → Starts s x 14
+    → x ≡ a ∷ b ∷ c ∷ d ∷ f ∷ g ∷ h ∷ i ∷ [] → Starts s x (Some 14)
 starts_short s x p q e = stands s x _ 14 (omega arith) (joined s 6 10 14 (omega arith) (omega arith) p q) e refl
 
 pub starts_long : (s : List ℕ) {a b c d f g h i : ℕ} (x : List ℕ) → 15 ≤ length s → part s 6 10 ≡ a ∷ b ∷ c ∷ d ∷ [] → part s 10 14 ≡ f ∷ g ∷ h ∷ i ∷ []
-    → get_or s 14 0 ≡ 0 → x ≡ a ∷ b ∷ c ∷ d ∷ f ∷ g ∷ h ∷ i ∷ 0 ∷ [] → Starts s x 15
+    → get_or s 14 0 ≡ 0 → x ≡ a ∷ b ∷ c ∷ d ∷ f ∷ g ∷ h ∷ i ∷ 0 ∷ [] → Starts s x (Some 15)
 starts_long s x l p q z e =
     let last : part s 14 15 ≡ 0 ∷ [] = part_cons s 14 15 (omega arith) (omega arith) ∙ ap (λ (y : ℕ). y ∷ []) z in
     stands s x _ 15 (omega arith) (joined s 6 14 15 (omega arith) (omega arith) (joined s 6 10 14 (omega arith) (omega arith) p q) last) e refl
 
-pub nowhere : (s x : List ℕ) → Starts s x 0
-nowhere s x = record { after = λ h. absurd (h refl) }
+-- where a test says that it stands
+pub where_it_stands : (s x : List ℕ) (b : Bool) (e : ℕ) → (b ≡ true → Starts s x (Some e)) → Starts s x (then_some b e)
+where_it_stands s x true e h = h refl
+where_it_stands s x false e h = tt
 
 -- ---- the unit
 
 pub expected_reads : (w k m protocol lsc : ℕ) (s : List ℕ) {lwc r : ℕ} → Compact w k (k + m) → lwc ≡ pair_at s 2 → protocol ≤ 7
-    → s ≡ header_of protocol lsc (pair_at s 2) ++ drop 6 s → Starts s (extension_of w k (k + m)) r → (r ≡ 0 → ⊥)
+    → s ≡ header_of protocol lsc (pair_at s 2) ++ drop 6 s → Starts s (extension_of w k (k + m)) (Some r)
     → answered (record {
       protocol = protocol;
       count = 1;
@@ -113,11 +117,10 @@ pub expected_reads : (w k m protocol lsc : ℕ) (s : List ℕ) {lwc r : ℕ} →
     })
     ≡ read_unit s
 unfolding unit_of
-expected_reads w k m protocol lsc s {lwc} {r} g el hp e f h =
+expected_reads w k m protocol lsc s {lwc} {r} g el hp e a =
     -- the table has no part in a unit
     let c : Params = record { k = k; m = m; q = 0; a = 0; rows = [] } in
     let x = extension_of w k (k + m) in
-    let a : (r ≡ 6 + length x) × (drop 6 s ≡ x ++ drop r s) = f.after h in
     let u : s ≡ unit_of c w protocol lsc (pair_at s 2) (drop r s) =
     e ∙ ap (λ (t : List ℕ). header_of protocol lsc (pair_at s 2) ++ t) a.1 ∙ sym (append_assoc (header_of protocol lsc (pair_at s 2)) x (drop r s)) in
     let q = (unit_reads c w protocol lsc (pair_at s 2) (drop r s) (omega (arith, g.few-w)) (omega (arith, g.two_n.1)) hp).read in

@@ -160,25 +160,25 @@ module _ (number w fill position : ℕ) (code : wrong_code number ≡ false) (wi
   right = position_is_right (n_of (code_of number)) (lwc_of position) (omega arith) (omega arith)
 
   -- it is idle: write refuses it
-  write_refuses : (protocol lsc symbolLength : ℕ) → wrong_label protocol lsc ≡ false → is_idle (code_of number).k fill position ≡ true
-      → write_refusal number w protocol lsc fill (lwc_of position) symbolLength (unit_bytes number w) ≡ 14
+  write_refuses : (protocol lsc symbol_len : ℕ) → wrong_label protocol lsc ≡ false → is_idle (code_of number).k fill position ≡ true
+      → write_refusal number w protocol lsc fill (lwc_of position) symbol_len (unit_bytes number w) ≡ 14
   unfolding write_refusal first_of first_in applies
-  write_refuses protocol lsc symbolLength label idle =
+  write_refuses protocol lsc symbol_len label idle =
       rw (code, width, label, fills, length-same _ _ (unit_right number w code width), right, idle_of (code_of number).k fill position idle)
 
   -- it is not: its symbol is shown, and can be written
   module _ (sent : is_idle (code_of number).k fill position ≡ false) where
-    show_admits : (infoLength parityLength : ℕ) → infoLength ≡ fill * w → parityLength ≡ (code_of number).m * w
-        → show_refusal number w fill infoLength parityLength (lwc_of position) ≡ 0
+    show_admits : (info_len parity_len : ℕ) → info_len ≡ fill * w → parity_len ≡ (code_of number).m * w
+        → show_refusal number w fill info_len parity_len (lwc_of position) ≡ 0
     unfolding show_refusal first_of first_in applies
-    show_admits infoLength parityLength hi hp =
-        rw (code, width, fills, length-same infoLength _ hi, length-same parityLength _ hp, right, idle_of (code_of number).k fill position sent)
+    show_admits info_len parity_len hi hp =
+        rw (code, width, fills, length-same info_len _ hi, length-same parity_len _ hp, right, idle_of (code_of number).k fill position sent)
 
-    write_admits : (protocol lsc symbolLength : ℕ) → wrong_label protocol lsc ≡ false → symbolLength ≡ w
-        → write_refusal number w protocol lsc fill (lwc_of position) symbolLength (unit_bytes number w) ≡ 0
+    write_admits : (protocol lsc symbol_len : ℕ) → wrong_label protocol lsc ≡ false → symbol_len ≡ w
+        → write_refusal number w protocol lsc fill (lwc_of position) symbol_len (unit_bytes number w) ≡ 0
     unfolding write_refusal first_of first_in applies
-    write_admits protocol lsc symbolLength label h =
-        rw (code, width, label, fills, length-same _ _ (unit_right number w code width), right, idle_of (code_of number).k fill position sent, length-same symbolLength w h)
+    write_admits protocol lsc symbol_len label h =
+        rw (code, width, label, fills, length-same _ _ (unit_right number w code width), right, idle_of (code_of number).k fill position sent, length-same symbol_len w h)
 
     shown_is : (info parity : Bor (List ℕ)) → length info.now ≡ fill * w → length parity.now ≡ (code_of number).m * w
         → (show_of number w fill info parity (lwc_of position)).bytes ≡ symbol_at w (padded (code_of number).k w fill info.now ++ parity.now) position
@@ -216,12 +216,12 @@ sends_codeword number w protocol lsc fill position info parity code width label 
     (o, record { read = r.read; rest = r.rest ∙ s })
 
 pub idle-not_sent : IdleNotSent
-idle-not_sent number w protocol lsc fill position info parity symbolLength code width label fills idle =
+idle-not_sent number w protocol lsc fill position info parity symbol_len code width label fills idle =
     let k = (code_of number).k in
     let r = idle_range k fill position idle in
     let h : position < k = r.1 in (
       shows-none number w fill info parity (lwc_of position) (λ z. absurd (omega (arith, (showable number w fill _ _ _ z).sent (rw (back position) h), back position, r.0))),
-      write_refuses number w fill position code width fills (omega arith) protocol lsc symbolLength label idle,
+      write_refuses number w fill position code width fills (omega arith) protocol lsc symbol_len label idle,
     )
 
 -- with fill k
@@ -235,7 +235,7 @@ none-idle k lwc = go (dec_lt (lwc - 1) k)
 
 pub sends_full : SendsFull
 unfolding show_refusal write_refusal first_of first_in applies
-sends_full number w protocol lsc lwc infoLength parityLength symbolLength outLength code =
+sends_full number w protocol lsc lwc info_len parity_len symbol_len out_len code =
     let k = (code_of number).k in
     let v = valid_of number (code-known number code) in
     let f : wrong_fill k k ≡ false = fill_is_right k k (omega (arith, v.large_k)) (omega arith) in

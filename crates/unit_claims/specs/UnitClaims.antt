@@ -45,7 +45,7 @@ pub record ReadsAs (u : List ℕ) (parts : Parts) (symbol : List ℕ) : Type 0 w
 -- what write writes is read as its parts and its symbol
 abbrev pub RoundTrip : Type 0
 RoundTrip =
-    (number w protocol lsc fill lwc : ℕ) (symbol : List ℕ) (outLength : ℕ) → write_refusal number w protocol lsc fill lwc (length symbol) outLength ≡ 0
+    (number w protocol lsc fill lwc : ℕ) (symbol : List ℕ) (out_len : ℕ) → write_refusal number w protocol lsc fill lwc (length symbol) out_len ≡ 0
     → ReadsAs (unit_of (code_of number) w protocol lsc lwc symbol) (parts_of (code_of number) w protocol lsc lwc) symbol
 
 -- a unit of one extension that is read with a code's parameters is, byte for byte, what write makes of its numbers and its symbol
@@ -76,35 +76,35 @@ SendsCodeword =
 -- An idle position is never sent: show has the empty part for its LWC, whatever the buffers are, and write refuses it, whatever the symbol is.
 abbrev pub IdleNotSent : Type 0
 IdleNotSent =
-    (number w protocol lsc fill position : ℕ) (info parity : Bor (List ℕ)) (symbolLength : ℕ)
+    (number w protocol lsc fill position : ℕ) (info parity : Bor (List ℕ)) (symbol_len : ℕ)
     → wrong_code number ≡ false → wrong_width w ≡ false → wrong_label protocol lsc ≡ false → wrong_fill (code_of number).k fill ≡ false
     → is_idle (code_of number).k fill position ≡ true
     → (show_of number w fill info parity (lwc_of position) ≡ part_of info 0 0)
-    × (write_refusal number w protocol lsc fill (lwc_of position) symbolLength (unit_bytes number w) ≡ number_of refusal.idle)
+    × (write_refusal number w protocol lsc fill (lwc_of position) symbol_len (unit_bytes number w) ≡ number_of refusal.idle)
 
 -- With fill k no position is idle: show and write turn down what document 01 says, by its lists, which know neither 13 nor 14.
 abbrev pub SendsFull : Type 0
 SendsFull =
-    (number w protocol lsc lwc infoLength parityLength symbolLength outLength : ℕ) → wrong_code number ≡ false
+    (number w protocol lsc lwc info_len parity_len symbol_len out_len : ℕ) → wrong_code number ≡ false
     → let c = code_of number in
     (
-    show_refusal number w c.k infoLength parityLength lwc
+    show_refusal number w c.k info_len parity_len lwc
     ≡ first_of (
     code_conditions number w
-    ++ (refusal.length, wrong_length infoLength (c.k * w))
-    ∷ (refusal.length, wrong_length parityLength (c.m * w))
+    ++ (refusal.length, wrong_length info_len (c.k * w))
+    ∷ (refusal.length, wrong_length parity_len (c.m * w))
     ∷ (refusal.position, wrong_position (n_of c) lwc)
     ∷ []
     )
     )
     × (
-    write_refusal number w protocol lsc c.k lwc symbolLength outLength
+    write_refusal number w protocol lsc c.k lwc symbol_len out_len
     ≡ first_of (
     code_conditions number w
     ++ (refusal.label, wrong_label protocol lsc)
-    ∷ (refusal.length, wrong_length outLength (unit_length c w))
+    ∷ (refusal.length, wrong_length out_len (unit_length c w))
     ∷ (refusal.position, wrong_position (n_of c) lwc)
-    ∷ (refusal.symbol, wrong_length symbolLength w)
+    ∷ (refusal.symbol, wrong_length symbol_len w)
     ∷ []
     )
     )

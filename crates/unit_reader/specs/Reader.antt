@@ -2,24 +2,19 @@
 -- first byte. Extensions are read byte by byte, and the first byte that can't be accepted decides: 6 where the bytes end early, 19 for a
 -- number, 20 for an extension's kind.
 -- Assumes nothing.
-use Rattle.std.specs.Prelude.{Bool, true, false, cond, not, ◌&&◌, ◌||◌, List, ℕ, zero, suc, ◌+◌, ◌/◌, ◌%◌, eqb, ltb, leb, length, get_or}
+use Rattle.std.specs.Prelude.{Result, Ok, Err, Some, None, Bool, true, false, cond, not, ◌&&◌, ◌||◌, List, ℕ, zero, suc, ◌+◌, ◌/◌, ◌%◌, eqb, ltb, leb, length, get_or}
+use Rattle.std.specs.Prelude as rust
 use Rattle.std.proofs.Math.Option.{Option, none, some}
 use Rattle.ccsds.specs.RefusalTable.{Refusal}
 use Rattle.ccsds.specs.RefusalTable as refusal
-use Rattle.ccsds.specs.Refusals.{Outcome, refused, answered, ◌⟫◌, refused_for, refuse_if}
+use Rattle.ccsds.specs.Refusals.{Outcome, refused, answered, ◌⟫◌, refused_for, refuse_if, refusal_number}
 use Rattle.wire.specs.Bytes.{part, pair_at}
 use Rattle.wire.specs.Sdnv.{Number, Reading, finished, unfinished, wrong, number_at}
-use Rattle.unit_reader.specs.declared.NumberRead.{NumberRead}
-use Rattle.unit_reader.specs.declared.NumberRead.TheVariants as number
+use Rattle.wire.specs.declared.sdnv.Number as wire
+use Rattle.ccsds.specs.declared.refusal.Refusal as answer
 use Rattle.unit_reader.specs.declared.Parameters.{Parameters}
-use Rattle.unit_reader.specs.declared.ParametersRead.{ParametersRead}
-use Rattle.unit_reader.specs.declared.ParametersRead.TheVariants as parameters
-use Rattle.unit_reader.specs.declared.Extension.{Extension}
-use Rattle.unit_reader.specs.declared.Extension.TheVariants as extension
-use Rattle.unit_reader.specs.declared.Walk.{Walk}
-use Rattle.unit_reader.specs.declared.Walk.TheVariants as walk
-use Rattle.unit_reader.specs.declared.UnitRead.{UnitRead}
-use Rattle.unit_reader.specs.declared.UnitRead.TheVariants as unit
+use Rattle.unit_reader.specs.declared.Extensions.{Extensions}
+use Rattle.unit_reader.specs.declared.UnitParts.{UnitParts}
 
 -- the coding parameters
 pub record Coding : Type 0 where
@@ -128,27 +123,27 @@ read_unit s =
 
 -- ---- the cases of the reader's answers in the paper's words
 
-abbrev pub number_as : NumberRead → Outcome Number
-number_as (number.Read x) = answered (record { value = x.value; end = x.end })
-number_as (number.Refused n) = refused n
+abbrev pub number_as : Result wire.Number answer.Refusal → Outcome Number
+number_as (Ok x) = answered (record { value = x.value; end = x.end })
+number_as (Err r) = refused (refusal_number r)
 
 abbrev pub four_as : Parameters → Coding
 four_as p = record { w = p.w; k = p.k; n = p.n; seed = p.seed }
 
-abbrev pub coding_as : ParametersRead → Outcome Coding
-coding_as (parameters.Four p) = answered (four_as p)
-coding_as (parameters.Refused n) = refused n
+abbrev pub coding_as : Result Parameters answer.Refusal → Outcome Coding
+coding_as (Ok p) = answered (four_as p)
+coding_as (Err r) = refused (refusal_number r)
 
-abbrev pub extension_as : Extension → Option Coding
-extension_as (extension.Coding p) = some (four_as p)
-extension_as extension.PassedOver = none
+abbrev pub extension_as : rust.Option Parameters → Option Coding
+extension_as (Some p) = some (four_as p)
+extension_as None = none
 
-abbrev pub walk_as : Walk → Outcome ExtensionsRead
-walk_as (walk.To x end) = answered (record { coding = extension_as x; end = end })
-walk_as (walk.Refused n) = refused n
+abbrev pub walk_as : Result Extensions answer.Refusal → Outcome ExtensionsRead
+walk_as (Ok x) = answered (record { coding = extension_as x.coding; end = x.end })
+walk_as (Err r) = refused (refusal_number r)
 
-abbrev pub read_as : UnitRead → Outcome Parts
-read_as (unit.Read p) =
+abbrev pub read_as : Result UnitParts answer.Refusal → Outcome Parts
+read_as (Ok p) =
     answered (record {
       protocol = p.protocol;
       count = p.count;
@@ -157,4 +152,4 @@ read_as (unit.Read p) =
       coding = extension_as p.coding;
       symbol = p.symbol;
     })
-read_as (unit.Refused n) = refused n
+read_as (Err r) = refused (refusal_number r)

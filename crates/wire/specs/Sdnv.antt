@@ -1,9 +1,10 @@
 -- Document 01, "The unit", and document 02, job 6: SDNV numbers (RFC 6256). Seven bits a byte, high group first, the top bit set on all
 -- bytes but the last, and the shortest form alone.
 -- Assumes nothing.
-use Rattle.std.specs.Prelude.{cond, ◌&&◌, List, [], ◌∷◌, ◌++◌, ℕ, zero, suc, ◌+◌, ◌*◌, ◌/◌, ◌%◌, eqb, ltb, leb, length, get_or}
-use Rattle.wire.specs.declared.sdnv.Sdnv.{Sdnv}
-use Rattle.wire.specs.declared.sdnv.Sdnv.TheVariants.{Whole, Unfinished, Wrong}
+use Rattle.std.specs.Prelude.{Result, Ok, Err, cond, ◌&&◌, List, [], ◌∷◌, ◌++◌, ℕ, zero, suc, ◌+◌, ◌*◌, ◌/◌, ◌%◌, eqb, ltb, leb, length, get_or}
+use Rattle.wire.specs.declared.sdnv.Number as declared
+use Rattle.wire.specs.declared.sdnv.SdnvError.{SdnvError}
+use Rattle.wire.specs.declared.sdnv.SdnvError.TheVariants.{Unfinished, Wrong}
 
 -- ---- reading
 
@@ -39,10 +40,10 @@ abbrev pub number_at : List ℕ → ℕ → Reading
 number_at s at = sdnv_from 5 0 s at
 
 -- the cases of the SDNV reader's answer in the paper's words
-abbrev pub sdnv_as : Sdnv → Reading
-sdnv_as (Whole x) = finished (record { value = x.value; end = x.end })
-sdnv_as Unfinished = unfinished
-sdnv_as Wrong = wrong
+abbrev pub sdnv_as : Result declared.Number SdnvError → Reading
+sdnv_as (Ok x) = finished (record { value = x.value; end = x.end })
+sdnv_as (Err Unfinished) = unfinished
+sdnv_as (Err Wrong) = wrong
 
 -- ---- writing
 

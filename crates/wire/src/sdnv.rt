@@ -2,8 +2,6 @@
 ghost use Rattle.std.specs.Prelude.{◌≡◌};
 ghost use Rattle.wire.specs.Sdnv.{number_at, sdnv_as};
 
-use crate::big_endian;
-
 // A number, and the position after it.
 #[derive(Clone, Copy)]
 pub struct Number {
@@ -11,39 +9,37 @@ pub struct Number {
     pub end: usize,
 }
 
-// How the reading of a number ends: with the number, with the bytes, or at a byte that can't be accepted.
-#[derive(Clone, Copy)]
-pub enum Sdnv {
-    Whole(Number),
+// Why there is no number: the bytes end before it does, or one of them can't be accepted.
+#[derive(Clone, Copy, Debug, PartialEq, Eq)]
+pub enum SdnvError {
     Unfinished,
     Wrong,
 }
 
 // The number at a position: at most five bytes, at most 4,294,967,295, in its shortest form.
-pub fn number_at(s: &[u8], at: usize) -> Sdnv
+pub fn number_at(s: &[u8], at: usize) -> Result<Number, SdnvError>
     ensures { sdnv_as result ≡ number_at s.now at }
 {
-    let mut more: usize = 5;
     let mut value: usize = 0;
-    let mut end = at;
-    while more > 0 {
-        if end >= s.len() {
-            return Sdnv::Unfinished;
-        }
-        let b = big_endian::byte(s[end]);
-        end += 1;
-        more -= 1;
+    for i in 0..5 {
+        let Some(b) = s.get(at + i) else {
+            return Err(SdnvError::Unfinished);
+        };
+        let b = usize::from(*b);
         value = value * 128 + b % 128;
         if b < 128 {
             if value > 4294967295 {
-                return Sdnv::Wrong;
+                return Err(SdnvError::Wrong);
             }
-            return Sdnv::Whole(Number { value, end });
+            return Ok(Number {
+                value,
+                end: at + i + 1,
+            });
         }
         // still 0: this was a leading 80
         if value == 0 {
-            return Sdnv::Wrong;
+            return Err(SdnvError::Wrong);
         }
     }
-    Sdnv::Wrong
+    Err(SdnvError::Wrong)
 }

@@ -1,21 +1,14 @@
--- `buffers::add_chunks_16` meets its contract: after each turn, i bytes are added.
+-- `buffers::add_chunks_16` meets its contract: after k turns, 16 * k bytes more are added.
 -- Assumes nothing.
-use mathlib.Core.Path.{refl, ◌∙◌}
-use Prim.Native.Nat.{◌+◌, ◌≤◌}
+use mathlib.Core.Path.{◌≡◌, ap, ◌∙◌}
+use Prim.Native.Nat.{◌+◌, ◌*◌}
 use native.Mathlib.Omega.{arith}
+use Rattle.buffers.specs.Parts.{added}
 use Rattle.buffers.proofs.Sums.{within_chunk}
 use Rattle.buffers.proofs.add_chunks_16.Goals as goal
 
-pub loop-i-init : goal.loop-i-init
-loop-i-init c = (omega arith, refl, λ d e. e)
-
-pub loop-i-preserved : goal.loop-i-preserved
-loop-i-preserved c =
-    let more : c.loop-i.i + 16 ≤ c.args.len = omega arith in
-    (more, c.add_within_16.auto.buf ∙ c.loop-i.invariant.1, λ d e. within_chunk d _ _ _ _ 16 _ _ c.requires.apart more (c.loop-i.invariant.2 d e) c.add_within_16.ensures)
-
-pub shape_of-buf : goal.shape_of-buf
-shape_of-buf c = c.loop-i.invariant.1
-
-pub returns : goal.returns
-returns c = (c.loop-i.invariant.0, c.loop-i.invariant.2)
+pub loop-k-preserved : goal.loop-k-preserved
+loop-k-preserved c =
+    let i = c.args.done + 16 * c.loop-k.k in
+    let e : i + 16 ≡ c.args.done + 16 * (c.loop-k.k + 1) = omega arith in
+    λ d h. within_chunk d _ _ _ i 16 _ _ c.requires.apart (omega arith) (c.loop-k.invariant d h) c.add_within_16.ensures ∙ ap (added _ _ _ _) e

@@ -2,21 +2,16 @@
 -- Assumes nothing.
 use mathlib.Core.Path.{◌≡◌, refl, sym, ap, ◌∙◌}
 use native.Mathlib.Omega.{arith}
-use lib.ListN.{length-set}
 use Rattle.buffers.specs.Parts.{put}
 use Rattle.buffers.proofs.Put.{put-more, from_zero}
 use Rattle.buffers.proofs.put_16.Goals as goal
 
 pub loop-i-init : goal.loop-i-init
 unfolding put
-loop-i-init c = (omega arith, refl, refl)
+loop-i-init c = refl
 
 pub loop-i-preserved : goal.loop-i-preserved
-loop-i-preserved c =
-    (omega arith, simp length-set (omega arith), put-more _ _ _ 0 _ _ c.loop-i.invariant.2 _ (sym (from_zero c.args.t.now c.loop-i.i)))
-
-pub shape_of-dst : goal.shape_of-dst
-shape_of-dst c = c.loop-i.invariant.1
+loop-i-preserved c = put-more _ _ _ 0 _ _ c.loop-i.invariant _ (sym (from_zero c.args.t.now c.loop-i.i))
 
 pub returns : goal.returns
-returns c = let e : c.loop-i.i ≡ 16 = omega arith in c.loop-i.invariant.2 ∙ ap (put _ _ _ _) e
+returns c = let e : c.loop-i.i ≡ 16 = omega arith in c.loop-i.invariant ∙ ap (put _ _ _ _) e

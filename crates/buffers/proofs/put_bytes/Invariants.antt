@@ -2,13 +2,9 @@
 -- Assumes nothing.
 use mathlib.Core.Path.{◌≡◌}
 use mathlib.Core.List.{List}
-use Prim.Native.Nat.{ℕ, ◌≤◌, ◌-◌}
-use lib.ListN.{length}
+use Prim.Native.Nat.{ℕ}
 use Rattle.buffers.specs.Parts.{put}
 use Rattle.buffers.proofs.put_bytes.Given as goal
 
 abbrev pub invariant-loop-i : goal.invariant-loop-i
-invariant-loop-i l = (l.i ≤ l.len) × (length l.dst ≡ length l.initial.dst) × ((d : List ℕ) → l.initial.dst ≡ put d l.at l.src l.from l.done → l.dst ≡ put d l.at l.src l.from l.i)
-
-abbrev pub decreases-loop-i : goal.decreases-loop-i
-decreases-loop-i l = l.len - l.i
+invariant-loop-i l = (d : List ℕ) → l.initial.dst ≡ put d l.at l.src l.from l.done → l.dst ≡ put d l.at l.src l.from l.i

@@ -1,14 +1,15 @@
 -- The positions of a check row, computed from the table's addresses, and the array that holds them. Internal: no public contract cites it.
 -- Assumes nothing.
-use Rattle.std.specs.Prelude.{◌≡◌, ℕ, zero, suc, ◌+◌, ◌-◌, ◌*◌, ◌/◌, ◌%◌, ◌<◌, ◌≤◌, Bool, true, false, cond, ◌&&◌, List, [], ◌∷◌, ◌++◌, map, length, take, ◌==◌, nat_lt, slice_index, slice_index_or, slice_set}
+use Rattle.std.specs.Prelude.{◌≡◌, ℕ, zero, suc, ◌+◌, ◌-◌, ◌*◌, ◌/◌, ◌%◌, ◌<◌, ◌≤◌, Bool, true, false, cond, ◌&&◌, List, [], ◌∷◌, ◌++◌, map, length, take, replicate, ◌==◌, nat_lt, slice_index, slice_index_or, slice_set}
 use Rattle.algebra.specs.Sums.{pick, sum}
 use Rattle.algebra.specs.Codeword.{Checks}
 use Rattle.algebra.specs.Staircase.{staircase}
 use Rattle.symbol_sums.specs.Gather.{gathered, max_positions}
 use Rattle.ccsds.specs.Codes.{Params, touches}
 use Rattle.ccsds.specs.Tables.{code_of, Known}
-use Rattle.ccsds.specs.inner.Layout.{LayoutOf, max_rows, max_degree}
+use Rattle.ccsds.specs.inner.Layout.{LayoutOf, max_degree, max_addresses}
 use Rattle.encoder.specs.declared.positions.Shape.{Shape}
+use Rattle.encoder.specs.declared.positions.ClassTable.{ClassTable}
 
 -- the first n elements of xs, an array of positions, are the positions of check row j
 pub record RowOf (c : Checks) (j n : ℕ) (xs : List ℕ) : Type 0 where
@@ -51,53 +52,65 @@ position_at q s e = e.0 * q + (q - e.1 + s) % q
 unfoldable pub positions : Params → ℕ → List ℕ
 positions c j = map (position_at c.q (j / c.a)) (class_of c (j % c.a))
 
--- ---- the table by class, in one array
+-- ---- the table by class
 
 -- the most classes of a code
 abbrev pub max_classes : ℕ
 max_classes = 8
 
--- where the positions of entry i of class r start, and where they end
-abbrev pub first_at : ℕ → ℕ → ℕ
-first_at r i = r * max_positions + i
+-- places for the entries of all classes
+abbrev pub max_entries : ℕ
+max_entries = max_classes * max_positions
 
-abbrev pub end_at : ℕ → ℕ → ℕ
-end_at r i = max_classes * max_positions + r * max_positions + i
+-- the place of entry i of class r
+abbrev pub entry_place : ℕ → ℕ → ℕ
+entry_place r i = r * max_positions + i
 
--- how many entries class r has
-abbrev pub count_at : ℕ → ℕ
-count_at r = 2 * (max_classes * max_positions) + r
-
--- address i of a table row
-abbrev pub address_at : ℕ → ℕ → ℕ
-address_at row i = 2 * (max_classes * max_positions) + max_classes + row * max_degree + i
-
--- how many entries of class r are of table rows that end by fill
-abbrev pub whole_at : ℕ → ℕ
-whole_at r = address_at max_rows 0 + r
-
-abbrev pub table_size : ℕ
-table_size = whole_at max_classes
+-- before any entry
+abbrev pub no_entries : ClassTable
+no_entries = record {
+  starts = replicate max_entries 0;
+  ends = replicate max_entries 0;
+  counts = replicate max_classes 0;
+  whole = replicate max_classes 0;
+  addresses = replicate max_addresses 0;
+}
 
 -- entry n of class r gets its start and its end, and the class one entry more
-abbrev pub entry_put : ℕ → ℕ → ℕ → ℕ → List ℕ → List ℕ
-entry_put r n first end t = slice_set (slice_set (slice_set t (first_at r n) first) (end_at r n) end) (count_at r) (n + 1)
+abbrev pub entry_put : ℕ → ℕ → ℕ → ℕ → ClassTable → ClassTable
+entry_put r n first end t = record {
+  starts = slice_set t.starts (entry_place r n) first;
+  ends = slice_set t.ends (entry_place r n) end;
+  counts = slice_set t.counts r (n + 1);
+  whole = t.whole;
+  addresses = t.addresses;
+}
 
 -- so for a quotient, where the class has room
-abbrev pub entry_added : ℕ → ℕ → ℕ → ℕ → List ℕ → List ℕ
-entry_added q row r y t = cond (nat_lt (slice_index t (count_at r)) max_positions) (entry_put r (slice_index t (count_at r)) (row * q + q - y) (row * q + q) t) t
+abbrev pub entry_added : ℕ → ℕ → ℕ → ℕ → ClassTable → ClassTable
+entry_added q row r y t = cond (nat_lt (slice_index t.counts r) max_positions) (entry_put r (slice_index t.counts r) (row * q + q - y) (row * q + q) t) t
+
+-- address y is written to place i of a table row
+abbrev pub address_put : ℕ → ℕ → ℕ → ClassTable → ClassTable
+address_put row i y t = record {
+  starts = t.starts;
+  ends = t.ends;
+  counts = t.counts;
+  whole = t.whole;
+  addresses = slice_set t.addresses (row * max_degree + i) y;
+}
 
 -- address y, at place i of a table row, is entered into its class
-unfoldable pub entered : ℕ → ℕ → ℕ → ℕ → ℕ → List ℕ → List ℕ
-entered q a row i y t = entry_added q row (y % a) (y / a) (slice_set t (address_at row i) y)
+unfoldable pub entered : ℕ → ℕ → ℕ → ℕ → ℕ → ClassTable → ClassTable
+entered q a row i y t = entry_added q row (y % a) (y / a) (address_put row i y t)
 
 -- the first n addresses of a table row
-unfoldable pub row_entered : Params → ℕ → ℕ → List ℕ → List ℕ
+unfoldable pub row_entered : Params → ℕ → ℕ → ClassTable → ClassTable
 row_entered c row zero t = t
 row_entered c row (suc n) t = entered c.q c.a row n (slice_index (slice_index_or c.rows row []) n) (row_entered c row n t)
 
 -- the first n table rows
-unfoldable pub table_entered : Params → ℕ → List ℕ → List ℕ
+unfoldable pub table_entered : Params → ℕ → ClassTable → ClassTable
 table_entered c zero t = t
 table_entered c (suc n) t = row_entered c n (length (slice_index_or c.rows n [])) (table_entered c n t)
 
@@ -122,12 +135,11 @@ abbrev pub entries_of : Params → ℕ → ℕ → ℕ
 entries_of c r rows = length (class_from c.a r 0 (take rows c.rows))
 
 -- the classes of c stand in the table, as far as the first `rows` table rows go
-pub record Classes (c : Params) (rows : ℕ) (t : List ℕ) : Type 0 where
+pub record Classes (c : Params) (rows : ℕ) (t : ClassTable) : Type 0 where
   pub few : ClassSizes c
-  pub size : length t ≡ table_size
-  pub counts : (r : ℕ) → r < c.a → slice_index t (count_at r) ≡ entries_of c r rows
+  pub counts : (r : ℕ) → r < c.a → slice_index t.counts r ≡ entries_of c r rows
   pub each : (r : ℕ) → r < c.a → (i : ℕ) → i < entries_of c r rows
-      → EntryBounds c.q (slice_index_or (class_of c r) i (0, 0)) (slice_index t (first_at r i)) (slice_index t (end_at r i))
+      → EntryBounds c.q (slice_index_or (class_of c r) i (0, 0)) (slice_index t.starts (entry_place r i)) (slice_index t.ends (entry_place r i))
 
 -- ---- the positions that are sent
 
@@ -148,20 +160,20 @@ pub record Shaped (s : Shape) : Type 0 where
   pub within : s.rows ≤ length (code_of s.number).rows
 
 -- of n entries of class r, the first e are of table rows that end by fill
-pub record Whole (fill r n : ℕ) (t : List ℕ) (e : ℕ) : Type 0 where
+pub record Whole (fill r n : ℕ) (ends : List ℕ) (e : ℕ) : Type 0 where
   pub few : e ≤ n
-  pub last : 0 < e → slice_index t (end_at r (e - 1)) ≤ fill
+  pub last : 0 < e → slice_index ends (entry_place r (e - 1)) ≤ fill
 
 -- the classes of these rows stand in the table, and of the first r classes how many entries have no idle position
-pub record Counted (s : Shape) (r : ℕ) (t : List ℕ) : Type 0 where
+pub record Counted (s : Shape) (r : ℕ) (t : ClassTable) : Type 0 where
   pub laid : Classes (code_of s.number) s.rows t
-  pub whole : (x : ℕ) → x < r → Whole s.fill x (slice_index t (count_at x)) t (slice_index t (whole_at x))
+  pub whole : (x : ℕ) → x < r → Whole s.fill x (slice_index t.counts x) t.ends (slice_index t.whole x)
 
 -- so of all classes
-pub record Table (s : Shape) (t : List ℕ) : Type 0 where
+pub record Table (s : Shape) (t : ClassTable) : Type 0 where
   pub shaped : Shaped s
   pub laid : Classes (code_of s.number) s.rows t
-  pub whole : (r : ℕ) → r < (code_of s.number).a → Whole s.fill r (slice_index t (count_at r)) t (slice_index t (whole_at r))
+  pub whole : (r : ℕ) → r < (code_of s.number).a → Whole s.fill r (slice_index t.counts r) t.ends (slice_index t.whole r)
 
 -- the n information positions of check row j in the first `rows` table rows, at the front of an array
 pub record Entries (c : Params) (rows j n : ℕ) (xs : List ℕ) : Type 0 where

@@ -10,13 +10,14 @@ use Rattle.ccsds.specs.Tables.{code_of}
 use Rattle.ccsds.specs.Fill.{wrong_fill}
 use Rattle.ccsds.specs.RefusalTable as refusal
 use Rattle.ccsds.specs.Refusals.{first_of, code_conditions, encoder_conditions, wrong_length}
-use Rattle.ccsds.proofs.RefusalOrder.{chain, in_order, part_refuses, part-passed, first_is, first_on, first-end}
+use Rattle.std.proofs.lemmas.Result.{err_from_is_err_and}
+use Rattle.ccsds.proofs.RefusalOrder.{numbered, chain, in_order, part_refuses, part-passed, first_is, first_on, first-end}
 use Rattle.ccsds.proofs.Refusals.{code-none, width_right, fill_right, length-same, length-wrong}
 use Rattle.ccsds.proofs.checks.check_encoder.Goals as goal
-use Rattle.ccsds.proofs.checks.check_encoder.Goals.{After-wrong_fill, Else-earlier-ne0, Else-infoLength-fill, Else-wrong_fill}
+use Rattle.ccsds.proofs.checks.check_encoder.Goals.{After-wrong_fill, In_ok-check_code, Else-info_len-fill, Else-wrong_fill}
 
-width : (c : Else-earlier-ne0) → c.args.w ≤ 1024
-width c = (width_right _ (code-none _ _ (sym (in_order _ refl) ∙ sym c.check_code-earlier.ensures ∙ c.if-earlier-ne0.false)).1).1
+width : (c : In_ok-check_code) → c.args.w ≤ 1024
+width c = (width_right _ (code-none _ _ (sym (in_order _ refl) ∙ sym c.in_ok-check_code.ensures)).1).1
 
 -- the test of the fill, and the fill where it passes
 fills : (c : After-wrong_fill) → let a = c.args in wrong_fill (code_of a.number).k a.fill ≡ c.wrong_fill.result
@@ -31,45 +32,46 @@ parity : (c : Else-wrong_fill) → c.layout_of-layout.result.m * c.args.w ≡ (c
 parity c = ap (λ (m : ℕ). m * c.args.w) c.layout_of-layout.ensures.m
 
 -- the code and the width are right; the fill, too; and the length of the information
-passed : (c : Else-earlier-ne0) → let a = c.args in
-    first_of (encoder_conditions a.number a.w a.fill a.infoLength a.parityLength)
+passed : (c : In_ok-check_code) → let a = c.args in
+    first_of (encoder_conditions a.number a.w a.fill a.info_len a.parity_len)
     ≡ chain (
     (refusal.fill, wrong_fill (code_of a.number).k a.fill)
-    ∷ (refusal.length, wrong_length a.infoLength (a.fill * a.w))
-    ∷ (refusal.length, wrong_length a.parityLength ((code_of a.number).m * a.w))
+    ∷ (refusal.length, wrong_length a.info_len (a.fill * a.w))
+    ∷ (refusal.length, wrong_length a.parity_len ((code_of a.number).m * a.w))
     ∷ []
     )
-passed c = let a = c.args in part-passed (code_conditions a.number a.w) _ refl refl _ c.check_code-earlier.ensures c.if-earlier-ne0.false
+passed c = let a = c.args in part-passed (code_conditions a.number a.w) _ refl refl _ c.in_ok-check_code.ensures refl
 
-after-information : (c : Else-infoLength-fill) → let a = c.args in
-    first_of (encoder_conditions a.number a.w a.fill a.infoLength a.parityLength)
-    ≡ chain ((refusal.length, wrong_length a.parityLength ((code_of a.number).m * a.w)) ∷ [])
-after-information c = passed c.before.before.before.before.before ∙ first_on _ _ _ (filled c.before) ∙ first_on _ _ _ (length-same _ _ c.if-infoLength-fill.false)
+after-information : (c : Else-info_len-fill) → let a = c.args in
+    first_of (encoder_conditions a.number a.w a.fill a.info_len a.parity_len)
+    ≡ chain ((refusal.length, wrong_length a.parity_len ((code_of a.number).m * a.w)) ∷ [])
+after-information c = passed c.before.before.before.before.before ∙ first_on _ _ _ (filled c.before) ∙ first_on _ _ _ (length-same _ _ c.if-info_len-fill.false)
 
-pub returns-then-earlier-ne0 : goal.returns-then-earlier-ne0
-returns-then-earlier-ne0 c =
+pub returns-in_err-check_code : goal.returns-in_err-check_code
+returns-in_err-check_code c =
     let a = c.args in
-    part_refuses (code_conditions a.number a.w) _ refl refl _ c.check_code-earlier.ensures c.if-earlier-ne0.true
+    let p = err_from_is_err_and c.from_residual.result c.from_residual.ensures.1 in
+    rw (p.1, p.2) (part_refuses (code_conditions a.number a.w) _ refl refl _ c.in_err-check_code.ensures (numbered _))
 
-pub overflow_mul-paritySize : goal.overflow_mul-paritySize
-overflow_mul-paritySize c =
+pub overflow_mul-parity_size : goal.overflow_mul-parity_size
+overflow_mul-parity_size c =
     let l = c.layout_of-layout in
     let m : l.result.m ≤ 3072 = omega (arith, l.ensures.few) in
-    omega (arith, mul-le-mul m (width (goal.at.overflow_mul-paritySize c).Else-earlier-ne0))
+    omega (arith, mul-le-mul m (width (goal.at.overflow_mul-parity_size c).In_ok-check_code))
 
 pub returns-then-wrong_fill : goal.returns-then-wrong_fill
-returns-then-wrong_fill c = sym (passed (goal.at.returns-then-wrong_fill c).Else-earlier-ne0 ∙ first_is _ _ _ (fills (goal.at.returns-then-wrong_fill c).After-wrong_fill ∙ c.if-wrong_fill.true))
+returns-then-wrong_fill c = sym (passed (goal.at.returns-then-wrong_fill c).In_ok-check_code ∙ first_is _ _ _ (fills (goal.at.returns-then-wrong_fill c).After-wrong_fill ∙ c.if-wrong_fill.true))
 
 pub overflow_mul-fill : goal.overflow_mul-fill
 overflow_mul-fill c =
     let f : c.args.fill ≤ 3072 = omega (arith, fill_right _ _ (filled (goal.at.overflow_mul-fill c).Else-wrong_fill), c.layout_of-layout.ensures.k, c.layout_of-layout.ensures.few) in
-    omega (arith, mul-le-mul f (width (goal.at.overflow_mul-fill c).Else-earlier-ne0))
+    omega (arith, mul-le-mul f (width (goal.at.overflow_mul-fill c).In_ok-check_code))
 
-pub returns-then-infoLength-fill : goal.returns-then-infoLength-fill
-returns-then-infoLength-fill c = sym (passed (goal.at.returns-then-infoLength-fill c).Else-earlier-ne0 ∙ first_on _ _ _ (filled (goal.at.returns-then-infoLength-fill c).Else-wrong_fill) ∙ first_is _ _ _ (length-wrong _ _ c.if-infoLength-fill.true))
+pub returns-then-info_len-fill : goal.returns-then-info_len-fill
+returns-then-info_len-fill c = sym (passed (goal.at.returns-then-info_len-fill c).In_ok-check_code ∙ first_on _ _ _ (filled (goal.at.returns-then-info_len-fill c).Else-wrong_fill) ∙ first_is _ _ _ (length-wrong _ _ c.if-info_len-fill.true))
 
-pub returns-then-parityLength-paritySize : goal.returns-then-parityLength-paritySize
-returns-then-parityLength-paritySize c = sym (after-information (goal.at.returns-then-parityLength-paritySize c).Else-infoLength-fill ∙ first_is _ _ _ (length-wrong _ _ (λ e. c.if-parityLength-paritySize.true (e ∙ sym (parity (goal.at.returns-then-parityLength-paritySize c).Else-wrong_fill)))))
+pub returns-then-parity_len-parity_size : goal.returns-then-parity_len-parity_size
+returns-then-parity_len-parity_size c = sym (after-information (goal.at.returns-then-parity_len-parity_size c).Else-info_len-fill ∙ first_is _ _ _ (length-wrong _ _ (λ e. c.if-parity_len-parity_size.true (e ∙ sym (parity (goal.at.returns-then-parity_len-parity_size c).Else-wrong_fill)))))
 
 pub returns : goal.returns
-returns c = sym (after-information (goal.at.returns c).Else-infoLength-fill ∙ first_on _ _ _ (length-same _ _ (c.if-parityLength-paritySize.false ∙ parity (goal.at.returns c).Else-wrong_fill)) ∙ first-end)
+returns c = sym (after-information (goal.at.returns c).Else-info_len-fill ∙ first_on _ _ _ (length-same _ _ (c.if-parity_len-parity_size.false ∙ parity (goal.at.returns c).Else-wrong_fill)) ∙ first-end)

@@ -8,6 +8,6 @@ pub returns-then-fill-eq0 : goal.returns-then-fill-eq0
 unfolding wrong_fill
 returns-then-fill-eq0 c = rw (eq-eqb _ _ c.if-fill-eq0.true)
 
-pub returns : goal.returns
+pub returns-else-fill-eq0 : goal.returns-else-fill-eq0
 unfolding wrong_fill
-returns c = rw (ne_eqb _ _ c.if-fill-eq0.false)
+returns-else-fill-eq0 c = rw (ne_eqb _ _ c.if-fill-eq0.false)

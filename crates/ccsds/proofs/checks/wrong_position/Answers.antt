@@ -8,6 +8,6 @@ pub returns-then-lwc-eq0 : goal.returns-then-lwc-eq0
 unfolding wrong_position
 returns-then-lwc-eq0 c = rw (eq-eqb _ _ c.if-lwc-eq0.true)
 
-pub returns : goal.returns
+pub returns-else-lwc-eq0 : goal.returns-else-lwc-eq0
 unfolding wrong_position
-returns c = rw (ne_eqb _ _ c.if-lwc-eq0.false)
+returns-else-lwc-eq0 c = rw (ne_eqb _ _ c.if-lwc-eq0.false)

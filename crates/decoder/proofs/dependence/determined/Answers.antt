@@ -1,85 +1,70 @@
 -- `decoder::dependence::determined` meets its contract, by the position's kind.
 -- Assumes nothing.
 use mathlib.Core.Path.{refl}
+use mathlib.Core.List.{List}
 use Prim.Native.Nat.{ℕ, ◌+◌, ◌-◌, ◌*◌, ◌<◌, ◌≤◌}
 use native.Mathlib.Nat.{le_trans}
 use native.Mathlib.Omega.{arith}
 use lib.ListN.{length}
 use Rattle.algebra.proofs.Codeword.{slot}
-use Rattle.elimination.specs.Reduced.{pivot_word}
-use Rattle.peeling.specs.Plan.{kind_of}
+use Rattle.peeling.specs.Plan.{Arrays, kind_of}
+use Rattle.pivot_equations.specs.Express.{all_rows}
+use Rattle.pivot_equations.specs.declared.rows.Rows.{Rows}
+use Rattle.decoder.specs.Pivots.{Readable}
 use Rattle.decoder.proofs.Determined.{determined_early, determined-step, determined-pivot, determined-solved}
 use Rattle.decoder.proofs.dependence.determined.Goals as goal
-use Rattle.decoder.proofs.dependence.determined.Goals.{Else-kind-early, Else-kind-le-LAST_PIVOT, Start, Then-kind-le-LAST_STEP}
 
-abbrev kind : (c : Start) → ℕ
-kind c = kind_of c.args.plan.now c.args.p
+-- the row of a kind ends within the words
+module _ {r : Rows} {l : List ℕ} {plan : Arrays} {p : ℕ} (fit : all_rows r * (r.packed + 1) ≤ length l) (R : Readable r l plan p) where
+  ends : (k : ℕ) → k < all_rows r → k * (r.packed + 1) + (r.packed + 1) ≤ length l
+  ends k h = le_trans (slot k (all_rows r) (r.packed + 1) h) fit
 
--- the end of a row
-ends : (c : Start) (k : ℕ) → k < c.args.r.steps + c.args.r.rest → k * (c.args.r.packed + 1) + (c.args.r.packed + 1) ≤ length c.args.words.now
-ends c k h = le_trans (slot k (c.args.r.steps + c.args.r.rest) (c.args.r.packed + 1) h) c.requires.packed_bound.1
+  step : r.early < kind_of plan p → kind_of plan p ≤ 1024 → (kind_of plan p - 1) * (r.packed + 1) + (r.packed + 1) ≤ length l
+  step late h = ends (kind_of plan p - 1) (R.reads.step late h).1
 
-late : (c : Else-kind-early) → c.args.r.early < kind c.before.before.before.before.before
-late c = omega arith
+  row : 4096 < kind_of plan p → (kind_of plan p - 4097) * (r.packed + 1) + (r.packed + 1) ≤ length l
+  row h = ends (kind_of plan p - 4097) (R.reads.solved h).1.0
 
--- the row of a step
-step : (c : Then-kind-le-LAST_STEP) → (kind c.before.before.before.before.before.before - 1) * (c.args.r.packed + 1) + (c.args.r.packed + 1) ≤ length c.args.words.now
-step c = ends c.before.before.before.before.before.before (kind c.before.before.before.before.before.before - 1) (c.requires.readable.reads.step (omega arith) c.if-kind-le-LAST_STEP.true).1
-
-solved : (c : Else-kind-le-LAST_PIVOT) → 4096 < kind c.before.before.before.before.before.before.before
-solved c = omega arith
-
-row : (c : Else-kind-le-LAST_PIVOT) → (kind c.before.before.before.before.before.before.before - 4097) * (c.args.r.packed + 1) + (c.args.r.packed + 1) ≤ length c.args.words.now
-row c = ends c.before.before.before.before.before.before.before (kind c.before.before.before.before.before.before.before - 4097) (c.requires.readable.reads.solved (solved c)).1.0
-
-abbrev word : (c : Start) → ℕ
-word c = pivot_word c.args.words.now c.args.r.packed (kind c - 4097)
-
-pivot : (c : Else-kind-le-LAST_PIVOT) → (0 < word c.before.before.before.before.before.before.before) × (word c.before.before.before.before.before.before.before ≤ 64 * c.args.r.packed)
-pivot c = (c.requires.readable.reads.solved (solved c)).1.1
-
-pub overflow_cast-kind : goal.overflow_cast-kind
-overflow_cast-kind c = omega (arith, c.shared_slice_known-3-1.given c.args.p)
-
-pub returns-then-kind-early : goal.returns-then-kind-early
-returns-then-kind-early c = determined_early _ _ _ _ c.if-kind-early.true
+pub returns-then-kind-system : goal.returns-then-kind-system
+returns-then-kind-system c = determined_early _ _ _ _ c.if-kind-system.true
 
 pub overflow_mul-kind : goal.overflow_mul-kind
-overflow_mul-kind c = omega (arith, step c)
+overflow_mul-kind c = omega (arith, step c.requires.words_len c.requires.readable c.if-kind-system.false c.if-kind-le-LAST_STEP.true)
 
 pub no_bits-requires : goal.no_bits-requires
-no_bits-requires c = omega (arith, step c)
+no_bits-requires c = omega (arith, step c.requires.words_len c.requires.readable c.if-kind-system.false c.if-kind-le-LAST_STEP.true)
 
 pub returns-then-kind-le-LAST_STEP : goal.returns-then-kind-le-LAST_STEP
 returns-then-kind-le-LAST_STEP c =
-    let a = c.args in
-    determined-step a.words.now a.r.packed _ _ (late (goal.at.returns-then-kind-le-LAST_STEP c).Else-kind-early) c.if-kind-le-LAST_STEP.true c.no_bits.result c.no_bits.ensures
+    determined-step c.args.words.now c.args.system.now.rows.packed _ _ c.if-kind-system.false c.if-kind-le-LAST_STEP.true c.no_bits.result c.no_bits.ensures
 
 pub returns-then-kind-le-LAST_PIVOT : goal.returns-then-kind-le-LAST_PIVOT
 returns-then-kind-le-LAST_PIVOT c =
-    let g : 1024 < kind (goal.at.returns-then-kind-le-LAST_PIVOT c).Start = omega arith in
-    determined-pivot _ _ _ _ (late (goal.at.returns-then-kind-le-LAST_PIVOT c).Else-kind-early) g c.if-kind-le-LAST_PIVOT.true (c.requires.readable.reads.pivot g c.if-kind-le-LAST_PIVOT.true)
+    let g : 1024 < kind_of c.args.system.now.plan.now c.args.p = c.if-kind-le-LAST_STEP.false in
+    determined-pivot _ _ _ _ c.if-kind-system.false g c.if-kind-le-LAST_PIVOT.true (c.requires.readable.reads.pivot g c.if-kind-le-LAST_PIVOT.true)
 
 pub overflow_mul-h : goal.overflow_mul-h
-overflow_mul-h c = omega (arith, row c)
+overflow_mul-h c = omega (arith, row c.requires.words_len c.requires.readable c.if-kind-le-LAST_PIVOT.false)
 
-pub overflow_add-k : goal.overflow_add-k
-overflow_add-k c = omega (arith, row c)
+pub overflow_add-u : goal.overflow_add-u
+overflow_add-u c = omega (arith, row c.requires.words_len c.requires.readable c.if-kind-le-LAST_PIVOT.false)
 
-pub offset_bounds-words-k : goal.offset_bounds-words-k
-offset_bounds-words-k c = omega (arith, row c)
+pub offset_bounds-words-h : goal.offset_bounds-words-h
+offset_bounds-words-h c = omega (arith, row c.requires.words_len c.requires.readable c.if-kind-le-LAST_PIVOT.false)
 
-pub bounds-words-k : goal.bounds-words-k
-bounds-words-k c = omega (arith, row (goal.at.bounds-words-k c).Else-kind-le-LAST_PIVOT)
+pub bounds-words-h : goal.bounds-words-h
+bounds-words-h c = omega (arith, row c.requires.words_len c.requires.readable c.if-kind-le-LAST_PIVOT.false)
 
 pub overflow_sub-u : goal.overflow_sub-u
-overflow_sub-u c = omega (arith, pivot (goal.at.overflow_sub-u c).Else-kind-le-LAST_PIVOT)
+overflow_sub-u c = omega (arith, c.requires.readable.reads.solved c.if-kind-le-LAST_PIVOT.false)
 
 pub only-requires : goal.only-requires
 only-requires c =
-    let p = pivot (goal.at.only-requires c).Else-kind-le-LAST_PIVOT in
-    record { p_bound = (omega arith, omega (arith, row (goal.at.only-requires c).Else-kind-le-LAST_PIVOT)); p_value = c.requires.readable.here (solved (goal.at.only-requires c).Else-kind-le-LAST_PIVOT) }
+    let h = c.if-kind-le-LAST_PIVOT.false in
+    let p = c.requires.readable.reads.solved h in
+    record { p_bound = (omega (arith, p.1.1), omega (arith, row c.requires.words_len c.requires.readable h)); p_value = c.requires.readable.here h }
 
 pub returns : goal.returns
 returns c =
-    determined-solved _ _ _ _ (late (goal.at.returns c).Else-kind-early) (solved (goal.at.returns c).Else-kind-le-LAST_PIVOT) _ refl (c.requires.readable.here (solved (goal.at.returns c).Else-kind-le-LAST_PIVOT)) c.only.result c.only.ensures
+    let h = c.if-kind-le-LAST_PIVOT.false in
+    determined-solved _ _ _ _ c.if-kind-system.false h _ refl (c.requires.readable.here h) c.only.result c.only.ensures

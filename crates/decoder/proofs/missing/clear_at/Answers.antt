@@ -14,4 +14,4 @@ pub returns : goal.returns
 returns c =
     let a = c.args in
     let h = known-not a.states.now a.i c.if-states-i-eq-KNOWN.false in
-    record { symbols_after = zeroed_symbol a.symbols.now a.i a.w c.requires.1 _ c.clear.ensures ∙ goes _ _ _ h; states_after = goes _ _ _ h }
+    record { symbols_after = zeroed_symbol a.symbols.now a.i a.w c.requires.1 _ (c.fill.ensures.after (λ y e. e)) ∙ goes _ _ _ h; states_after = goes _ _ _ h }

@@ -15,14 +15,14 @@ pub fill_at-requires : goal.fill_at-requires
 fill_at-requires c =
     let l = c.loop-i in
     let u = l.invariant.0 in
-    let h : l.i < length c.args.states.now = omega (arith, u.states-size) in record { fill_room = room-same c.requires.fill_room u.states-size; p_in_bounds = (omega (arith, u.states-size), u.symbols-size ∙ c.requires.symbols_len ∙ ap (λ (n : ℕ). n * c.args.w) (sym u.states-size)); readable = λ e. c.requires.by_index l.i h (sym (same_known (l.invariant.1.rest l.i (omega arith))) ∙ e) }
+    let h : l.i < length c.args.states.now = omega (arith, u.states-size) in record { fill_room = room-same c.requires.fill_room u.states-size; p_in_bounds = (omega (arith, u.states-size), u.symbols-size ∙ c.requires.symbols_len ∙ ap (λ (n : ℕ). n * c.args.system.now.block.now.shape.w) (sym u.states-size)); readable = λ e. c.requires.by_index l.i h (sym (same_known (l.invariant.1.rest l.i (omega arith))) ∙ e) }
 
 pub loop-i-preserved : goal.loop-i-preserved
 loop-i-preserved c =
     let k = c.fill_at in
     let l = c.loop-i in
     let u = l.invariant.0 in
-    (upto_more u (omega (arith, u.states-size)) k.auto.symbols k.auto.states, filled_more _ _ _ _ _ _ _ _ _ _ _ _ l.invariant.1 k.ensures)
+    (upto_more u (omega (arith, u.states-size)) k.auto.symbols k.auto.states, filled_more _ _ _ _ _ _ _ _ _ _ _ l.invariant.1 k.ensures)
 
 pub shape_of-symbols : goal.shape_of-symbols
 shape_of-symbols c = c.loop-i.invariant.0.symbols-size

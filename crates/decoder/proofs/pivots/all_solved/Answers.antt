@@ -1,31 +1,54 @@
--- `decoder::pivots::all_solved` meets its contract. The invariant: the pivots passed are solved.
+-- `decoder::pivots::all_solved` meets its contract.
 -- Assumes nothing.
-use Prim.Native.Nat.{◌+◌}
-use native.Mathlib.Omega.{arith}
-use borrow.Author.Count.{below_more}
-use Rattle.peeling.specs.Plan.{pivot_of}
+use Rattle.std.proofs.Common.{rules, arith, ◌≡◌, ℕ, suc, ◌<◌, ◌≤◌, ltb, length, Bool, true, false, List, [], ◌∷◌, get_or, take, sym, refl}
+use Rattle.std.specs.List.{list_all}
+use Rattle.std.proofs.lemmas.List.{get_or-take, get_or_default, length-take}
+use Rattle.std.proofs.lemmas.List.Sums.{AllPass-from_list_all}
+use Rattle.std.proofs.lemmas.Iterator.{YieldsList-from_slice}
+use Rattle.std.proofs.lemmas.Iterator.Search.{all_from_yields_List}
+use Rattle.std.proofs.lemmas.Iterator.Adapters.{serves_from_places}
+use Rattle.std.proofs.lemmas.List.Elements.{All-get_or}
+use borrow.Author.Tests.{ltb-true, ltb-false}
+use Rattle.peeling.specs.Plan.{Arrays, kind_of, pivot_of}
+use Rattle.decoder.specs.Pivots.{AllSolvedIs}
 use Rattle.decoder.proofs.pivots.all_solved.Goals as goal
+use Rattle.decoder.proofs.pivots.all_solved.Goals.{Start}
 
-pub loop-u-init : goal.loop-u-init
-loop-u-init c = (omega arith, λ v h. absurd (omega arith))
+-- the positions of the pivots
+abbrev positions : Arrays → ℕ → List ℕ
+positions plan s = take s plan.pivots
 
-pub overflow_cast-p : goal.overflow_cast-p
-overflow_cast-p c = omega (arith, c.shared_slice_known-1.given (3072 + c.loop-u.u))
+position : (plan : Arrays) (s k : ℕ) → k < s → get_or (positions plan s) k 0 ≡ pivot_of plan k
+position plan s k h = get_or-take s plan.pivots k 0 h
 
-pub offset_bounds-plan-p : goal.offset_bounds-plan-p
-offset_bounds-plan-p c = omega (arith, c.requires.by_index c.loop-u.u c.loop-u-test.true)
+-- some number fails the test
+fails : (p : ℕ → Bool) (xs : List ℕ) → list_all p xs ≡ false → (k : ℕ) × ((k < length xs) × (p (get_or xs k 0) ≡ false))
+fails p [] e = absurd cc
+fails p (x ∷ xs) e = go (p x) refl (λ f. fails p xs (rw f at e))
+  where
+    go : (b : Bool) → p x ≡ b → (p x ≡ true → (k : ℕ) × ((k < length xs) × (p (get_or xs k 0) ≡ false))) → (k : ℕ) × ((k < length (x ∷ xs)) × (p (get_or (x ∷ xs) k 0) ≡ false))
+    go true f rest = let r = rest f in (suc r.0, (omega (arith, r.1.0), r.1.1))
+    go false f rest = (0, (omega arith, f))
 
-pub bounds-plan-p : goal.bounds-plan-p
-bounds-plan-p c = omega (arith, c.requires.by_index c.loop-u.u c.loop-u-test.true)
+solved : (plan : Arrays) (s : ℕ) → s ≤ 3072 → (r : Bool) → r ≡ list_all (λ p. ltb 4096 (kind_of plan p)) (positions plan s) → AllSolvedIs plan s r
+solved plan s fit true e = λ u h.
+    let n : length (positions plan s) ≡ s = omega (arith, length-take s plan.pivots, plan.pivots_len) in
+    rw (← position plan s u h) (ltb-true 4096 _ (All-get_or (λ p. ltb 4096 (kind_of plan p) ≡ true) (positions plan s) u 0 (omega (arith, n)) (AllPass-from_list_all _ _ (sym e))))
+solved plan s fit false e =
+    let n : length (positions plan s) ≤ s = omega (arith, length-take s plan.pivots, plan.pivots_len) in
+    let f = fails (λ p. ltb 4096 (kind_of plan p)) (positions plan s) (sym e) in
+    let h : f.0 < s = omega (arith, f.1.0, n) in
+    (f.0, (h, rw (← position plan s f.0 h) (ltb-false _ _ f.1.1)))
 
-pub overflow_cast-kind : goal.overflow_cast-kind
-overflow_cast-kind c = omega (arith, c.shared_slice_known-in-loop-u-1.given (pivot_of c.args.plan.now c.loop-u.u))
-
-pub returns-then-kind-le-LAST_PIVOT : goal.returns-then-kind-le-LAST_PIVOT
-returns-then-kind-le-LAST_PIVOT c = (c.loop-u.u, (c.loop-u-test.true, omega arith))
-
-pub loop-u-preserved : goal.loop-u-preserved
-loop-u-preserved c = (omega arith, below_more _ _ c.loop-u.invariant.1 (omega arith))
+pub all-requires-clause-callable : goal.all-requires-clause-callable
+all-requires-clause-callable c =
+    let a = c.args in
+    let xs : List ℕ = positions a.plan.now a.pivots in
+    let few : length xs ≤ a.pivots = omega (arith, length-take a.pivots a.plan.now.pivots) in
+    serves_from_places (YieldsList-from_slice xs (search rules)) (λ x q r. search rules) (λ x k h e. let j : x.now < length a.plan.now.kinds = omega (arith, e, get_or_default xs k x.now 0 h, position a.plan.now a.pivots k (omega (arith, few)), c.requires.by_index k (omega (arith, few)), a.plan.now.kinds_len) in search rules)
 
 pub returns : goal.returns
-returns c u h = c.loop-u.invariant.1 u (omega arith)
+returns c =
+    let a = c.args in
+    let q = all_from_yields_List (λ p. ltb 4096 (kind_of a.plan.now p)) _ _ _ c.all.ensures.ran (YieldsList-from_slice (positions a.plan.now a.pivots) (search rules)) (λ x b q k. search rules) in
+    solved a.plan.now a.pivots c.requires.few _ q

@@ -11,20 +11,17 @@ pub put_one-requires : goal.put_one-requires
 put_one-requires c =
     let l = c.loop-i in
     let p = c.requires in
-    put-room _ _ _ _ _ _ p.planned.0.states _ _ _ _ p.planned.0.made p.planned.1 p.symbols_len.0 _ _ _ l.invariant.1
-    c.args.r.rest _ c.loop-i-test.true p.packed_bound.1.0 p.packed_bound.1.1 p.symbols_len.1 p.by_index
+    put-room _ _ _ p.planned.0.states _ _ _ _ p.planned.0.made p.planned.1 p.symbols_len.0 _ _ _ l.invariant.1
+    _ c.loop-i-test.true p.words_len p.symbols_len.1 p.by_index
 
 pub loop-i-preserved : goal.loop-i-preserved
 loop-i-preserved c =
     let l = c.loop-i in
     let p = c.requires in (
       omega arith,
-      put-more _ _ _ _ _ _ p.planned.0.states _ _ _ _ p.planned.0.made p.planned.1 p.symbols_len.0 _ _ _ l.invariant.1
+      put-more _ _ _ p.planned.0.states _ _ _ _ p.planned.0.made p.planned.1 p.symbols_len.0 _ _ _ l.invariant.1
           _ _ (p.by_index l.i c.loop-i-test.true) c.put_one.ensures,
     )
-
-pub shape_of-plan : goal.shape_of-plan
-shape_of-plan c = c.loop-i.invariant.1.plan_size_lem
 
 pub shape_of-symbols : goal.shape_of-symbols
 shape_of-symbols c = c.loop-i.invariant.1.symbols-size

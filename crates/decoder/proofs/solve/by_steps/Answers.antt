@@ -12,7 +12,7 @@ returns-then-hold c =
 
 pub clear_missing-requires : goal.clear_missing-requires
 clear_missing-requires c =
-    c.requires.peeled.0.values.size ∙ ap (λ (n : ℕ). n * c.args.s.w) (sym c.requires.states_len)
+    c.requires.peeled.0.values.size ∙ ap (λ (n : ℕ). n * c.args.block.now.shape.w) (sym c.requires.states_len)
 
 pub returns : goal.returns
 returns c =

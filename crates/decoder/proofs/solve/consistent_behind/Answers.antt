@@ -16,7 +16,7 @@ consistent-requires c =
     let r = a.r in
     let p = c.requires in
     let e = part_all (r.steps * (r.packed + 1)) a.words.now in
-    record { fits = record { in_rows = record { few = p.rows_room.count; short = p.rows_room.few; within = omega (arith, ap length e, length-drop (r.steps * (r.packed + 1)) a.words.now, p.rows_room.fit) }; in_rhs = p.rows_room.sides }; reduced = subst (λ (l : List ℕ). Reduced l r.rest r.packed r.rest) (sym e) p.reduced }
+    record { fits = record { in_rows = record { few = omega (arith, r.most); short = r.few; within = omega (arith, ap length e, length-drop (r.steps * (r.packed + 1)) a.words.now, p.rows_room.fit) }; in_rhs = p.rows_room.sides }; reduced = subst (λ (l : List ℕ). Reduced l r.rest r.packed r.rest) (sym e) p.reduced }
 
 pub returns : goal.returns
 returns c =

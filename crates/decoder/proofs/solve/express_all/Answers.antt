@@ -9,13 +9,13 @@ pub steps-requires : goal.steps-requires
 steps-requires c =
     let p = c.requires in
     let m = p.planned.0 in
-    record { table = p.table; planned = m; room = p.room; places = places_unsolved m.made m.closed p.planned.1 c.args.words.now _ p.room.enough }
+    record { planned = m; room = p.room; places = places_unsolved m.made m.closed p.planned.1 c.args.words.now _ c.args.system.now.rows.enough }
 
 pub remaining-requires : goal.remaining-requires
 remaining-requires c =
     let p = c.requires in
     let m = p.planned.0 in
-    record { table = p.table; planned = m; room = room_at c.steps.auto.words p.room; places = places_unsolved m.made m.closed p.planned.1 c.steps.new.words _ p.room.enough; unsolved = p.planned.1 }
+    record { planned = m; room = room_at c.steps.auto.words p.room; places = places_unsolved m.made m.closed p.planned.1 c.steps.new.words _ c.args.system.now.rows.enough; unsolved = p.planned.1 }
 
 pub returns : goal.returns
 returns c =

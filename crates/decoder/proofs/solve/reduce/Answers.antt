@@ -8,17 +8,17 @@ use Rattle.decoder.proofs.solve.reduce.Goals as goal
 pub sums-requires : goal.sums-requires
 sums-requires c =
     let p = c.requires in
-    record { table = p.table; plan_len = (p.planned.0.made.size, p.symbols_len.0); bytes_len = p.symbols_len.1 }
+    record { symbols_len = p.symbols_len.0; bytes_len = p.symbols_len.1 }
 
 pub express_all-requires : goal.express_all-requires
 express_all-requires c =
     let p = c.requires in
-    record { table = p.table; planned = p.planned; room = p.room.0 }
+    record { planned = p.planned; room = p.room }
 
 pub reduce_behind-requires : goal.reduce_behind-requires
 reduce_behind-requires c =
     let p = c.requires in
-    rows-room p.planned.0.made.rows p.room.1 (room_at c.express_all.auto.words p.room.0) (c.sums.auto.bytes ∙ p.symbols_len.1)
+    rows-room c.args.system.now.all (room_at c.express_all.auto.words p.room) (c.sums.auto.bytes ∙ p.symbols_len.1)
 
 pub returns : goal.returns
 returns c =
@@ -26,7 +26,7 @@ returns c =
     record {
       rows = c.express_all.new.words;
       sides = c.sums.new.bytes;
-      count = omega (arith, p.planned.0.made.steps-unused, p.room.1);
+      count = omega (arith, p.planned.0.made.steps-unused, c.args.system.now.all);
       step-rows = c.express_all.ensures.steps_expressed;
       rest-rows = c.express_all.ensures.rest_expressed;
       sums = c.sums.ensures;

@@ -1,73 +1,72 @@
 -- `decoder::solve::solve` meets its contract.
 -- Assumes nothing.
+use mathlib.Core.Path.{◌≡◌, sym, ap}
+use mathlib.Core.Bool.{Bool, false, cond}
+use mathlib.Core.List.{List}
+use Prim.Native.Nat.{ℕ, ◌+◌, ◌*◌, ◌/◌, ◌<◌}
+use native.Mathlib.Omega.{arith}
+use Rattle.elimination.proofs.Order.{lt_or_le}
+use mathlib.Core.Logic.{⊎_elim}
+use lib.ListN.{length, get_or, replicate, length-replicate, get_or-replicate, get_or-eq_default}
 use Rattle.algebra.specs.Staircase.{staircase}
 use Rattle.ccsds.specs.Tables.{code_of}
-use Rattle.encoder.specs.inner.Positions.{sent_checks, Shaped, Table}
+use Rattle.encoder.specs.inner.Positions.{checks, sent_checks}
 use Rattle.encoder.specs.declared.positions.Shape.{Shape}
-use Rattle.encoder.proofs.Sent.{row-width, shaped}
-use Rattle.ccsds.proofs.Valid.{valid_of}
-use native.Mathlib.Omega.{arith}
+use Rattle.encoder.proofs.Sent.{at_numbers}
+use Rattle.peeling.specs.Plan.{Arrays}
+use Rattle.peeling.specs.Values.{Peeled}
+use Rattle.decoder.specs.Outcome.{Outcome, Decoded}
 use Rattle.decoder.proofs.OutcomeLaws.{decoded}
 use Rattle.decoder.proofs.Assembly.{peeled-here, outcome-same}
 use Rattle.decoder.proofs.solve.solve.Goals as goal
-use Rattle.decoder.proofs.solve.solve.Goals.{After-lay, After-rows_to-rows}
+use Rattle.decoder.proofs.solve.solve.Goals.{After-lay-shape}
 
--- the shape that peeling and what comes after it go by
-module _ (c : After-rows_to-rows) where
-  abbrev shape : Shape
-  shape = record { number = c.args.number; layout = c.layout_of-l.result; w = c.args.w; fill = c.args.fill; rows = c.rows_to-rows.result }
+-- the lengths, by the shape of the block
+sized : (c : After-lay-shape)
+    → let s = c.lay-shape.result in
+    let k = checks s in
+    (length c.args.states.now ≡ k.n) × (length c.args.symbols.now ≡ k.n * s.w) × (length c.args.words.now ≡ k.m * (k.n / 64 + 1)) × (length c.args.bytes.now ≡ k.m * s.w) × (0 < s.w)
+unfolding staircase
+sized c =
+    let a = c.args in
+    let p = c.requires in
+    let e = c.lay-shape.ensures.numbers in
+    at_numbers (λ number w fill.
+    (length a.states.now ≡ (sent_checks (code_of number) fill).n) × (length a.symbols.now ≡ (sent_checks (code_of number) fill).n * w)
+    × (length a.words.now ≡ (sent_checks (code_of number) fill).m * ((sent_checks (code_of number) fill).n / 64 + 1))
+    × (length a.bytes.now ≡ (sent_checks (code_of number) fill).m * w) × (0 < w)) e.0 e.1 e.2
+    (p.symbols_len.1, p.symbols_len.0, p.words_len.0, p.words_len.1, p.known.1)
 
-  is-shaped : Shaped shape
-  is-shaped = shaped shape c.requires.known.0 c.layout_of-l.ensures c.requires.known.2 c.rows_to-rows.ensures
+-- what either way leaves, by the caller's numbers
+module _ {number w fill : ℕ} (s : Shape) (e : (s.number ≡ number) × (s.w ≡ w) × (s.fill ≡ fill)) (some : 0 < w) {y block states : List ℕ} {plan : Arrays} {early steps pivots : ℕ}
+    (L : Peeled (checks s) s.w block states plan y early steps pivots) where
+  left : {s' m' : List ℕ} {r : Bool} → Outcome (checks s) s.w y states s' m' r → Decoded (sent_checks (code_of number) fill) w block states s' m' r
+  left {s'} {m'} {r} O =
+      at_numbers (λ number w fill. Decoded (sent_checks (code_of number) fill) w block states s' m' r) (sym e.0) (sym e.1) (sym e.2)
+      (decoded (checks s) s.w block states s' m' r (rw e.1 some) (outcome-same (checks s) s.w block y states L.values.known-byte s' m' r O))
 
--- and the table
-table : (c : After-lay) → Table (record { number = c.args.number; layout = c.layout_of-l.result; w = c.args.w; fill = c.args.fill; rows = c.rows_to-rows.result }) c.lay.new.table
-table c = c.lay.ensures
+-- no check row is used yet
+none-used : (j : ℕ) → get_or (replicate 1024 false) j false ≡ false
+none-used j = ⊎_elim (λ h. get_or-replicate 1024 j false false h) (λ h. get_or-eq_default (replicate 1024 false) false {n = j} (omega (arith, length-replicate 1024 false))) (lt_or_le j 1024)
 
-pub rows_to-rows-requires : goal.rows_to-rows-requires
-rows_to-rows-requires c =
-    let q = row-width _ _ c.requires.known.0 c.layout_of-l.ensures in
-    (omega (arith, c.requires.known.2, (valid_of _ c.requires.known.0).few), q.0, q.1)
-
-pub lay-requires : goal.lay-requires
-lay-requires c = record { shaped = is-shaped (goal.at.lay-requires c).After-rows_to-rows; flat_len = (c.no_addresses-flat.ensures, c.blank-table.ensures) }
+pub lay-shape-requires : goal.lay-shape-requires
+lay-shape-requires c = record { known = (c.requires.known.0, c.requires.known.2); blank = c.new-table.ensures }
 
 pub peel-g-requires : goal.peel-g-requires
-unfolding staircase
-peel-g-requires c =
-    let p = c.requires in
-    record { table = table (goal.at.peel-g-requires c).After-lay; plan_value = c.blank-plan.ensures; states_len = (p.symbols_len.1, p.symbols_len.0) }
+peel-g-requires c = let z = sized (goal.at.peel-g-requires c).After-lay-shape in record { unused = λ j. ap (λ (b : Bool). cond b 1 0) (none-used j); states_len = (z.0, z.1) }
 
 pub by_steps-requires : goal.by_steps-requires
-unfolding staircase
 by_steps-requires c =
-    let p = c.requires in
-    record { table = table (goal.at.by_steps-requires c).After-lay; peeled = (peeled-here c.peel-g.ensures, c.if-g-eq0.true); states_len = p.symbols_len.1 }
+    let z = sized (goal.at.by_steps-requires c).After-lay-shape in
+    record { peeled = (peeled-here c.peel-g.ensures, c.if-g-eq0.true); states_len = z.0 }
 
 pub returns-then-g-eq0 : goal.returns-then-g-eq0
-returns-then-g-eq0 c =
-    let g = c.peel-g in
-    let e = c.by_steps in
-    let code = sent_checks (code_of c.args.number) c.args.fill in
-    let block = c.args.symbols.now in
-    let states = c.args.states.now in
-    let s' = e.new.symbols in
-    let m' = e.new.states in
-    decoded code c.args.w block states s' m' e.result c.requires.known.1 (outcome-same code c.args.w block g.new.symbols states g.ensures.values.known-byte s' m' e.result e.ensures)
+returns-then-g-eq0 c = left c.lay-shape.result c.lay-shape.ensures.numbers c.requires.known.1 c.peel-g.ensures c.by_steps.ensures
 
 pub by_pivots-requires : goal.by_pivots-requires
-unfolding staircase
 by_pivots-requires c =
-    let p = c.requires in
-    record { table = table (goal.at.by_pivots-requires c).After-lay; peeled = peeled-here c.peel-g.ensures; words_len = (p.words_len.0, p.words_len.1); w_nonzero = (p.known.1, p.symbols_len.1) }
+    let z = sized (goal.at.by_pivots-requires c).After-lay-shape in
+    record { peeled = peeled-here c.peel-g.ensures; words_len = (z.2, z.3); w_nonzero = (z.4, z.0) }
 
 pub returns : goal.returns
-returns c =
-    let g = c.peel-g in
-    let e = c.by_pivots in
-    let code = sent_checks (code_of c.args.number) c.args.fill in
-    let block = c.args.symbols.now in
-    let states = c.args.states.now in
-    let s' = e.new.symbols in
-    let m' = e.new.states in
-    decoded code c.args.w block states s' m' e.result c.requires.known.1 (outcome-same code c.args.w block g.new.symbols states g.ensures.values.known-byte s' m' e.result e.ensures)
+returns c = left c.lay-shape.result c.lay-shape.ensures.numbers c.requires.known.1 c.peel-g.ensures c.by_pivots.ensures

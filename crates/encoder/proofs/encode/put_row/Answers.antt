@@ -1,46 +1,30 @@
 -- `encoder::encode::put_row` meets its contract.
 -- Assumes nothing.
-use Rattle.std.proofs.Common.{◌≡◌, ℕ, ◌+◌, ◌*◌, ◌<◌, ap, arith}
+use Rattle.std.proofs.Common.{◌≤◌, length, arith}
 use Rattle.algebra.proofs.Codeword.{slot}
-use Rattle.ccsds.specs.Codes.{Params}
-use Rattle.ccsds.specs.Tables.{code_of}
-use Rattle.ccsds.proofs.Valid.{Valid, valid_of}
-use Rattle.encoder.proofs.Touched.{row_lt'}
+use Rattle.symbol_sums.proofs.Fronts.{before_lt, put_front_before}
+use Rattle.encoder.proofs.CheckRow.{number}
 use Rattle.encoder.proofs.Parity.{row_inside, done_more}
 use Rattle.encoder.proofs.encode.put_row.Goals as goal
-use Rattle.encoder.proofs.encode.put_row.Goals.{Start}
-
--- the row, as the code has it
-module _ (s : Start) where
-  abbrev code : Params
-  code = code_of s.args.s.number
-
-  abbrev j : ℕ
-  j = s.args.i * s.args.s.layout.a + s.args.r
-
-  v : Valid code
-  v = valid_of _ s.requires.table.0.shaped.known
-
-  row_is : j ≡ s.args.i * code.a + s.args.r
-  row_is = ap (λ (a : ℕ). s.args.i * a + s.args.r) s.requires.table.0.shaped.given.a
-
-  below : s.args.i * code.a + s.args.r < code.m
-  below = row_lt' _ v s.args.r s.args.i s.requires.i_bound.1 s.requires.i_bound.0
-
-  here : j < code.m
-  here = omega (arith, row_is, below)
 
 pub overflow_mul-j : goal.overflow_mul-j
-overflow_mul-j c = omega (arith, here (goal.at.overflow_mul-j c).Start, (v (goal.at.overflow_mul-j c).Start).few-rows)
+overflow_mul-j c = let T = c.args.rows.now.laid in omega (arith, number T c.requires.i_bound.1 _ c.requires.i_bound.0, T.shaped.given.m, T.shaped.given.few)
 
 pub overflow_add-j : goal.overflow_add-j
-overflow_add-j c = omega (arith, here (goal.at.overflow_add-j c).Start, (v (goal.at.overflow_add-j c).Start).few-rows)
+overflow_add-j c = let T = c.args.rows.now.laid in omega (arith, number T c.requires.i_bound.1 _ c.requires.i_bound.0, T.shaped.given.m, T.shaped.given.few)
 
 pub put_sum-requires : goal.put_sum-requires
 put_sum-requires c =
-    record { prev_le_j = (omega arith, omega (arith, slot (j (goal.at.put_sum-requires c).Start) _ c.args.s.w (here (goal.at.put_sum-requires c).Start), c.requires.info_len.1.size)); inside = row_inside _ c.args.s.w c.args.info.now _ c.requires.info_len.0 c.information-n.ensures }
+    let j = number c.args.rows.now.laid c.requires.i_bound.1 _ c.requires.i_bound.0 in
+    record {
+      prev_lt_j = (before_lt _ _ c.checked_sub.ensures, omega (arith, slot _ _ c.args.rows.now.shape.w j.1, c.requires.info_len.1.size));
+      inside = row_inside _ c.args.rows.now.shape.w c.args.info.now _ c.requires.info_len.0 c.information-n.ensures;
+    }
 
 pub returns : goal.returns
 returns c =
-    let i = c.information-n.ensures in
-    (i.size, done_more _ c.args.s.w c.args.info.now c.requires.info_len.0 c.requires.table.0.shaped.most c.requires.info_len.1 i (row_is (goal.at.returns c).Start) c.put_sum.ensures)
+    let T = c.args.rows.now.laid in
+    let n = c.information-n.ensures in
+    let j = number T c.requires.i_bound.1 _ c.requires.i_bound.0 in
+    let few : c.information-n.result ≤ length c.information-n.new.xs = omega (arith, n.size, n.few) in
+    (n.size, done_more _ c.args.rows.now.shape.w c.args.info.now c.requires.info_len.0 T.shaped.most c.requires.info_len.1 n j.0 (put_front_before c.information-n.new.xs c.information-n.result c.args.rows.now.shape.w few _ _ c.args.info.now c.checked_sub.ensures c.put_sum.ensures))

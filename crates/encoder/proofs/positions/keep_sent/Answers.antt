@@ -9,37 +9,20 @@ use Rattle.encoder.proofs.positions.keep_sent.Goals.{In-loop-e}
 
 -- there is room for one more
 room : (c : In-loop-e) → c.loop-e.kept < max_positions
-room c = omega (arith, c.loop-e.invariant.1.few, c.requires.from_le_n.1)
+room c = omega (arith, c.loop-e.invariant.0.few, c.requires.from_le_n.1)
 
 pub loop-e-init : goal.loop-e-init
-loop-e-init c = (c.requires.from_le_n.0, kept_all _ _ _ c.requires.by_index, λ i h. refl)
-
-pub offset_bounds-xs-e : goal.offset_bounds-xs-e
-offset_bounds-xs-e c = omega (arith, c.requires.from_le_n.1)
-
-pub bounds-xs-e : goal.bounds-xs-e
-bounds-xs-e c = omega (arith, c.requires.from_le_n.1)
-
-pub offset_bounds-xs-kept : goal.offset_bounds-xs-kept
-offset_bounds-xs-kept c = omega (arith, room (goal.at.offset_bounds-xs-kept c).In-loop-e)
-
-pub bounds-xs-kept : goal.bounds-xs-kept
-bounds-xs-kept c = room (goal.at.bounds-xs-kept c).In-loop-e
-
-pub place_after-kept-requires : goal.place_after-kept-requires
-place_after-kept-requires c = room (goal.at.place_after-kept-requires c).In-loop-e
-
-pub overflow_add-e : goal.overflow_add-e
-overflow_add-e c = omega (arith, c.requires.from_le_n.1)
+loop-e-init c = (kept_all _ _ _ c.requires.by_index, λ i h. refl)
 
 pub loop-e-preserved : goal.loop-e-preserved
 loop-e-preserved c =
     let l = c.loop-e in
     let r = room (goal.at.loop-e-preserved c).In-loop-e in (
-      omega arith,
-      kept_more _ l.invariant.1 (omega (arith, l.invariant.1.size, c.requires.from_le_n.2)) (l.invariant.2 l.e (omega arith)) _ c.place_after-kept.ensures,
-      λ i h. get_or-set_other l.xs l.kept i _ 0 (λ z. omega (arith, l.invariant.1.few)) ∙ l.invariant.2 i (omega arith),
+      kept_more _ l.invariant.0 (omega (arith, l.invariant.0.size)) (l.invariant.1 l.e (omega arith)) c.from-kept.ensures,
+      λ i h. get_or-set_other l.xs l.kept i _ 0 (λ z. omega (arith, l.invariant.0.few)) ∙ l.invariant.1 i (omega arith),
     )
 
 pub returns : goal.returns
-returns c = let e : c.loop-e.e ≡ c.args.n = omega arith in subst (λ (t : ℕ). Kept c.args.fill t c.args.xs.now c.loop-e.kept c.loop-e.xs) e c.loop-e.invariant.1
+returns c =
+    let e : c.loop-e.e ≡ c.args.n = omega (arith, c.loop-e.auto.e-end c.requires.from_le_n.0) in
+    subst (λ (t : ℕ). Kept c.args.fill t c.args.xs.now c.loop-e.kept c.loop-e.xs) e c.loop-e.invariant.0

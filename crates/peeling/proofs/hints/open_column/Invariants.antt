@@ -1,11 +1,7 @@
 -- `peeling::hints::open_column` meets its contract.
 -- Assumes nothing.
-use Rattle.std.proofs.Common.{◌≡◌, ◌-◌, length}
-use Rattle.ccsds.specs.inner.Layout.{max_m}
+use Rattle.std.proofs.Common.{◌≡◌, length}
 use Rattle.peeling.proofs.hints.open_column.Given as goal
 
-abbrev pub invariant-loop-i : goal.invariant-loop-i
-invariant-loop-i l = length l.counts ≡ max_m
-
-abbrev pub decreases-loop-i : goal.decreases-loop-i
-decreases-loop-i l = l.n - l.i
+abbrev pub invariant-loop-j : goal.invariant-loop-j
+invariant-loop-j l = length l.counts ≡ 1024

@@ -1,6 +1,6 @@
 -- `peeling::peel::none_missing` meets its contract: of the first i positions, `known` are known.
 -- Assumes nothing.
-use Rattle.std.proofs.Common.{◌≡◌, ℕ, ◌-◌, ◌<◌, ◌≤◌, true, false, List, length}
+use Rattle.std.proofs.Common.{◌≡◌, ℕ, ◌<◌, ◌≤◌, true, false, List}
 use Rattle.peeling.specs.States.{is_known}
 use Rattle.peeling.proofs.peel.none_missing.Given as goal
 
@@ -10,8 +10,5 @@ pub record KnownTo (states : List ℕ) (i k : ℕ) : Type 0 where
   pub all : k ≡ i → (p : ℕ) → p < i → is_known states p ≡ true
   pub some : k < i → (p : ℕ) × ((p < i) × (is_known states p ≡ false))
 
-abbrev pub invariant-loop-i : goal.invariant-loop-i
-invariant-loop-i l = (l.i ≤ length l.states) × KnownTo l.states l.i l.known
-
-abbrev pub decreases-loop-i : goal.decreases-loop-i
-decreases-loop-i l = length l.states - l.i
+abbrev pub invariant-loop-state : goal.invariant-loop-state
+invariant-loop-state l = KnownTo l.states l.state-index l.known

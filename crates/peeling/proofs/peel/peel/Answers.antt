@@ -12,10 +12,10 @@ use Rattle.peeling.proofs.peel.peel.Goals as goal
 use Rattle.peeling.proofs.peel.peel.Goals.{Start}
 
 few : (s : Start) → length s.args.states.now ≤ 3072
-few s = omega (arith, few-positions s.args.s, s.requires.states_len.0)
+few s = omega (arith, few-positions s.args.rows.now.shape, s.requires.states_len.0)
 
 pub open_missing-requires : goal.open_missing-requires
-open_missing-requires c = (few (goal.at.open_missing-requires c).Start, c.requires.plan_value)
+open_missing-requires c = (few (goal.at.open_missing-requires c).Start, c.requires.unused)
 
 pub none_missing-requires : goal.none_missing-requires
 none_missing-requires c = few (goal.at.none_missing-requires c).Start
@@ -23,5 +23,5 @@ none_missing-requires c = few (goal.at.none_missing-requires c).Start
 pub returns-then-none_missing : goal.returns-then-none_missing
 returns-then-none_missing c =
     let o = c.open_missing.ensures in
-    subst⁻¹ (λ (g : Progress). Peeled (checks c.args.s) c.args.s.w c.args.symbols.now c.args.states.now c.open_missing.new.plan c.args.symbols.now g.early g.steps g.pivots) c.beginning.ensures
-    (nothing-missing (few-positions c.args.s) (few-rows c.requires.table) c.requires.states_len.1 c.requires.states_len.0 o (subst (AllKnownIs c.args.states.now) c.if-none_missing.true c.none_missing.ensures))
+    subst⁻¹ (λ (g : Progress). Peeled (checks c.args.rows.now.shape) c.args.rows.now.shape.w c.args.symbols.now c.args.states.now c.open_missing.new.plan c.args.symbols.now g.early g.steps g.pivots) c.beginning.ensures
+    (nothing-missing (few-positions c.args.rows.now.shape) (few-rows c.args.rows.now.laid) c.requires.states_len.1 c.requires.states_len.0 o (subst (AllKnownIs c.args.states.now) c.if-none_missing.true c.none_missing.ensures))

@@ -1,13 +1,11 @@
 -- `peeling::peel::peel_open` meets its contract: each turn goes on from where the last one came to.
 -- Assumes nothing.
-use Rattle.std.proofs.Common.{◌≡◌, length}
 use Rattle.encoder.specs.inner.Positions.{checks}
-use Rattle.peeling.specs.Hints.{Hinted}
 use Rattle.peeling.specs.Peel.{State, left}
 use Rattle.peeling.proofs.peel.peel_open.Given as goal
 
 abbrev pub invariant-loop-g : goal.invariant-loop-g
-invariant-loop-g l = (length l.xs ≡ 64) × (Hinted l.counts l.ready × State (checks l.s) l.s.w l.initial.symbols l.states l.plan l.symbols l.g)
+invariant-loop-g l = State (checks l.rows.shape) l.rows.shape.w l.initial.symbols l.states l.plan l.symbols l.g
 
 abbrev pub decreases-loop-g : goal.decreases-loop-g
-decreases-loop-g l = left (checks l.s).n l.g
+decreases-loop-g l = left (checks l.rows.shape).n l.g

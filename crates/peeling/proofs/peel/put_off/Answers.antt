@@ -1,54 +1,56 @@
 -- `peeling::peel::put_off` meets its contract: the cursor passes over closed positions, and the open one after them is put off.
 -- Assumes nothing.
-use Rattle.std.proofs.Common.{◌≡◌, ℕ, ◌+◌, ◌<◌, List, length, arith}
+use Rattle.std.proofs.Common.{ℕ, ◌+◌, ◌<◌, None, List, arith}
 use Rattle.algebra.proofs.Codeword.{slot}
 use Rattle.encoder.specs.inner.Positions.{checks}
-use Rattle.peeling.specs.Peel.{State}
+use Rattle.peeling.specs.Peel.{FirstOpen, State}
 use Rattle.peeling.proofs.CodeSizes.{symbols_of}
 use Rattle.peeling.proofs.PlanLaws.{deferred}
 use Rattle.peeling.proofs.PeelLaws.{state_pass, state_defer}
 use Rattle.peeling.proofs.peel.put_off.Goals as goal
-use Rattle.peeling.proofs.peel.put_off.Goals.{After-next_open-x}
+use Rattle.peeling.proofs.peel.put_off.Goals.{In-Some}
 
--- the cursor is at the next open position
-passed : (o : After-next_open-x) {block states : List ℕ}
-    → let a = o.args in
-    let g = a.g in
-    State (checks a.s) a.s.w block states a.plan.now a.symbols.now g
-    → State (checks a.s) a.s.w block states a.plan.now a.symbols.now
-    (record { steps = g.steps; pivots = g.pivots; early = g.early; cursor = o.next_open-x.result; fuel = g.fuel; last = 65535 })
-passed o S = state_pass S 65535 (symbols_of o.args.s o.requires.layout_of) o.next_open-x.ensures
+-- the next open position
+module _ (o : In-Some) where
+  first : FirstOpen o.args.plan.now o.args.g.cursor (o.args.rows.now.shape.layout.k + o.args.rows.now.shape.layout.m) o.in-Some.x
+  first = o.in-Some.ensures
 
-below : (o : After-next_open-x) → o.next_open-x.result < o.args.s.layout.k + o.args.s.layout.m → o.next_open-x.result < (checks o.args.s).n
-below o h = omega (arith, symbols_of o.args.s o.requires.layout_of, h)
+  below : o.in-Some.x < (checks o.args.rows.now.shape).n
+  below = omega (arith, symbols_of o.args.rows.now.shape o.args.rows.now.laid.shaped.given, first.below)
 
-few : (o : After-next_open-x) → o.next_open-x.result < o.args.s.layout.k + o.args.s.layout.m
-    → let s = o.args in (s.g.pivots < 3072) × ((o.next_open-x.result < 3072) × (length s.plan.now ≡ 9216))
-few o h =
-    let S = passed o o.requires.reached.state in
-    (omega (arith, below o h, S.pivots_below, S.made.positions), (omega (arith, below o h, S.made.positions), S.made.size))
+  -- the cursor is there
+  passed : {block states : List ℕ}
+      → let a = o.args in
+      let g = a.g in
+      State (checks a.rows.now.shape) a.rows.now.shape.w block states a.plan.now a.symbols.now g
+      → State (checks a.rows.now.shape) a.rows.now.shape.w block states a.plan.now a.symbols.now
+      (record { steps = g.steps; pivots = g.pivots; early = g.early; cursor = o.in-Some.x; fuel = g.fuel; last = None })
+  passed S = state_pass S None first.after (omega (arith, below)) first.passed
 
-pub next_open-x-requires : goal.next_open-x-requires
-next_open-x-requires c =
+  few : (o.args.g.pivots < 3072) × (o.in-Some.x < 3072)
+  few = let S = passed o.requires.reached.state in (omega (arith, below, S.pivots_below, S.made.positions), omega (arith, below, S.made.positions))
+
+pub next_open-requires : goal.next_open-requires
+next_open-requires c =
     let m = c.requires.reached.state.made in
-    (omega (arith, symbols_of c.args.s c.requires.layout_of, c.requires.cursor_bound), omega (arith, symbols_of c.args.s c.requires.layout_of, m.positions, m.size))
+    (omega (arith, symbols_of c.args.rows.now.shape c.args.rows.now.laid.shaped.given, c.requires.cursor_bound), omega (arith, symbols_of c.args.rows.now.shape c.args.rows.now.laid.shaped.given, m.positions))
 
-pub returns-then-x-n : goal.returns-then-x-n
-returns-then-x-n c =
-    record { state = λ block states S. passed (goal.at.returns-then-x-n c).After-next_open-x S; less = omega (arith, symbols_of c.args.s c.requires.layout_of, c.requires.cursor_bound, c.if-x-n.true) }
+pub returns-in_default : goal.returns-in_default
+returns-in_default c =
+    let e = symbols_of c.args.rows.now.shape c.args.rows.now.laid.shaped.given in
+    record { state = λ block states S. state_pass S None (omega (arith, e, c.requires.cursor_bound)) (omega (arith, e)) c.in_default.ensures; less = omega (arith, e, c.requires.cursor_bound); last = tt }
 
 pub defer-requires : goal.defer-requires
 defer-requires c =
-    record { s_lt_max_n = few (goal.at.defer-requires c).After-next_open-x c.if-x-n.false; w_in_bounds = omega (arith, slot _ _ c.args.s.w (below (goal.at.defer-requires c).After-next_open-x c.if-x-n.false), c.requires.reached.state.values.size) }
-
-pub overflow_cast-result : goal.overflow_cast-result
-overflow_cast-result c = omega (arith, (few (goal.at.overflow_cast-result c).After-next_open-x c.if-x-n.false).1.0)
+    let o = (goal.at.defer-requires c).In-Some in
+    record { s_lt_max_n = few o; w_in_bounds = omega (arith, slot _ _ c.args.rows.now.shape.w (below o), c.requires.reached.state.values.size) }
 
 pub returns : goal.returns
 returns c =
-    let f = few (goal.at.returns c).After-next_open-x c.if-x-n.false in
+    let o = (goal.at.returns c).In-Some in
+    let f = few o in
     record {
-      state = λ block states S. state_defer (passed (goal.at.returns c).After-next_open-x S) (below (goal.at.returns c).After-next_open-x c.if-x-n.false) (c.next_open-x.ensures.found (omega (arith, c.if-x-n.false)))
-          (deferred _ _ _ f.1.1 f.0 f.1.0 _ c.defer.ensures.plan_after) c.defer.ensures.replaced _;
-      less = omega (arith, below (goal.at.returns c).After-next_open-x c.if-x-n.false, c.next_open-x.ensures.after);
+      state = λ block states S. state_defer (passed o S) (below o) (first o).found (deferred f.0 f.1 c.defer.ensures.made) c.defer.ensures.replaced _;
+      less = omega (arith, below o, (first o).after);
+      last = below o;
     }

@@ -1,14 +1,10 @@
 -- `pivot_equations::remaining::sums` meets its contract: the sums of the unused of the first j rows are there.
 -- Assumes nothing.
 use mathlib.Core.Path.{◌≡◌}
-use Prim.Native.Nat.{◌≤◌, ◌-◌}
 use lib.ListN.{length}
 use Rattle.encoder.specs.inner.Positions.{checks}
 use Rattle.pivot_equations.specs.Unused.{SidesTo}
 use Rattle.pivot_equations.proofs.remaining.sums.Given as goal
 
 abbrev pub invariant-loop-j : goal.invariant-loop-j
-invariant-loop-j l = (l.j ≤ l.m) × (length l.xs ≡ 64) × SidesTo (checks l.s) l.s.w l.plan l.symbols l.bytes l.j l.i
-
-abbrev pub decreases-loop-j : goal.decreases-loop-j
-decreases-loop-j l = l.m - l.j
+invariant-loop-j l = (length l.xs ≡ 64) × SidesTo (checks l.block.shape) l.block.shape.w l.plan l.symbols l.bytes l.j l.i

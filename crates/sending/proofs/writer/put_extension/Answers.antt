@@ -11,20 +11,17 @@ use Rattle.ccsds.proofs.UnitLaws.{extension-length, value-most}
 use Rattle.sending.proofs.writer.put_extension.Goals as goal
 
 pub byte-a-requires : goal.byte-a-requires
-byte-a-requires c = omega (arith, extension-length c.args.w c.args.k c.args.n, c.requires.n_in_bounds)
-
-pub value_bytes-requires : goal.value_bytes-requires
-value_bytes-requires c = c.requires.compact
+byte-a-requires c = omega (arith, extension-length c.args.c.w c.args.c.k c.args.c.n, c.requires)
 
 pub sdnv-b-requires : goal.sdnv-b-requires
 sdnv-b-requires c =
     let e = ap (λ (v : ℕ). length (sdnv_bytes v)) c.value_bytes.ensures in
-    (omega (arith, extension-length c.args.w c.args.k c.args.n, c.requires.n_in_bounds, c.byte-a.ensures, e), omega (arith, value-most c.args.w c.args.k c.args.n, c.value_bytes.ensures))
+    (omega (arith, extension-length c.args.c.w c.args.c.k c.args.c.n, c.requires, c.byte-a.ensures, e), omega (arith, value-most c.args.c.w c.args.c.k c.args.c.n, c.value_bytes.ensures))
 
 pub put_value-requires : goal.put_value-requires
 put_value-requires c =
     let e = ap (λ (v : ℕ). length (sdnv_bytes v)) c.value_bytes.ensures in
-    record { compact = c.requires.compact; n_in_bounds = omega (arith, extension-length c.args.w c.args.k c.args.n, c.requires.n_in_bounds, c.byte-a.ensures, c.sdnv-b.ensures, e) }
+    omega (arith, extension-length c.args.c.w c.args.c.k c.args.c.n, c.requires, c.byte-a.ensures, c.sdnv-b.ensures, e)
 
 pub returns : goal.returns
 unfolding extension_of

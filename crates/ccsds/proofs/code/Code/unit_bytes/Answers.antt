@@ -5,7 +5,7 @@ use mathlib.Core.Bool.{false, not}
 use Rattle.ccsds.specs.Refusals.{wrong_code, wrong_width}
 use Rattle.ccsds.specs.Units.{unit_bytes}
 use Rattle.ccsds.proofs.Refusals.{code-known, width_right}
-use Rattle.ccsds.proofs.UnitLaws.{compact_of, length_of, unit_right}
+use Rattle.ccsds.proofs.UnitLaws.{compact_of, n_of_lem, size_of, unit_right}
 use Rattle.ccsds.proofs.code.Code.unit_bytes.Goals as goal
 use Rattle.ccsds.proofs.code.Code.unit_bytes.Goals.{Else-not-known, Else-wrong_width}
 
@@ -24,8 +24,8 @@ pub returns-then-wrong_width : goal.returns-then-wrong_width
 unfolding unit_bytes
 returns-then-wrong_width c = rw (code (goal.at.returns-then-wrong_width c).Else-not-known, sym c.wrong_width.ensures ∙ c.if-wrong_width.true)
 
-pub unit_length-requires : goal.unit_length-requires
-unit_length-requires c = compact_of _ _ c.layout_of-l.ensures (code-known _ (code (goal.at.unit_length-requires c).Else-not-known)) (width_right _ (width (goal.at.unit_length-requires c).Else-wrong_width)).1
+pub invariant_of-c : goal.invariant_of-c
+invariant_of-c c = record { compact = compact_of _ _ c.layout_of-l.ensures (code-known _ (code (goal.at.invariant_of-c c).Else-not-known)) (width_right _ (width (goal.at.invariant_of-c c).Else-wrong_width)).1 }
 
 pub returns : goal.returns
-returns c = c.unit_length.ensures ∙ length_of c.layout_of-l.ensures _ ∙ sym (unit_right _ _ (code (goal.at.returns c).Else-not-known) (width (goal.at.returns c).Else-wrong_width))
+returns c = c.unit_length.ensures ∙ size_of _ _ c.layout_of-l.ensures.k (n_of_lem c.layout_of-l.ensures) ∙ sym (unit_right _ _ (code (goal.at.returns c).Else-not-known) (width (goal.at.returns c).Else-wrong_width))
