@@ -33,7 +33,9 @@ impl<'a> System<'a> {
         None
     }
 
-    // Adds row r to each other active row that has unknown p, and retires it.
+    // Adds row r to each other active row that has unknown p, and retires it. It stays out of line: within eliminate, where more is live, the search
+    // is up to 28 % slower at some addresses.
+    #[inline(never)]
     fn clear_active(&mut self, active: &mut Active, r: usize, p: usize)
         requires { (p / 64 < self.old.shape.words) × (r < self.old.shape.rows) }
         ensures { Kept self.old self.new }
