@@ -4,9 +4,10 @@ ghost use Rattle.elimination.specs.declared.TheConstants.{MAX_ROWS};
 
 use crate::MAX_ROWS;
 use crate::system::System;
-use crate::weights::{RETIRED, row_weight};
+use crate::weights::{RETIRED, row_weight, sum_weight};
 
-// The weight of each row, and the list of the active ones, in any order. A row that loses its last unknown stays in it.
+// The weight of each row, and the list of the active ones, in any order. A row that loses its last unknown stays in it. The list is an array with a
+// count, since there is no heap.
 #[derive(Drop)]
 pub struct Active {
     pub weights: [u16; MAX_ROWS],
@@ -30,6 +31,13 @@ impl Active {
                 self.count += 1;
             }
         }
+    }
+
+    // Weighs row j, to which row r was added.
+    pub fn weigh_sum(&mut self, r: usize, j: usize)
+        requires { (r < MAX_ROWS) × (j < MAX_ROWS) }
+    {
+        self.weights[j] = sum_weight(self.weights[j], self.weights[r]);
     }
 
     // Takes row r, which stands at `place` of the list if it is known, out of it.

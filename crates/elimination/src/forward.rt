@@ -5,10 +5,10 @@ ghost use Rattle.elimination.specs.Kept.{Kept};
 
 use crate::active::Active;
 use crate::system::System;
-use crate::weights::{lightest_row, sum_weight};
+use crate::weights::lightest_row;
 use crate::{MAX_ROWS, bits};
 
-// A step's row and pivot. A row without unknowns has 0 in place of a pivot.
+// A step's row and pivot.
 #[derive(Clone, Copy)]
 pub struct Step {
     pub row: u16,
@@ -21,6 +21,7 @@ impl<'a> System<'a> {
         requires { p / 64 < self.now.shape.words }
         ensures { IfSome result (λ k. (i ≤ k) × ((k < active.now.count) × (slice_index active.now.rows k < self.now.shape.rows))) }
     {
+        // taken out first, so that the loop doesn't read them again for each row
         let rows: &[u64] = self.rows;
         let s = self.shape;
         for k in i..active.count {
@@ -45,7 +46,7 @@ impl<'a> System<'a> {
                 place = Some(i);
             } else {
                 self.add_row(r, j);
-                active.weights[j] = sum_weight(active.weights[j], active.weights[r]);
+                active.weigh_sum(r, j);
             }
             from = i + 1;
         }
@@ -53,29 +54,27 @@ impl<'a> System<'a> {
     }
 
     // One step: the pivot of row r is its lowest unknown, which goes from each other active row. A row without unknowns is retired alone.
-    fn forward_step(&mut self, active: &mut Active, r: usize) -> Step
+    fn forward_step(&mut self, active: &mut Active, r: usize) -> Option<Step>
         requires { r < self.old.shape.rows }
         ensures { Kept self.old self.new }
     {
         match self.lowest(r) {
             Some(p) => {
                 self.clear_active(active, r, p);
-                Step {
+                Some(Step {
                     row: r as u16,
                     pivot: p as u16,
-                }
+                })
             }
             None => {
                 active.retire(r, None);
-                Step {
-                    row: r as u16,
-                    pivot: 0,
-                }
+                None
             }
         }
     }
 
-    // At most one step for each row, each with a row of least weight among the active ones. Returns the number of steps, which are in `order`.
+    // At most one step for each row, each with a row of least weight among the active ones. Returns the number of steps with a pivot, which are in
+    // `order`.
     pub fn forward_pass(&mut self, order: &mut [Step; MAX_ROWS]) -> usize
         ensures upper_bound { result ≤ self.old.shape.rows }
         ensures kept { Kept self.old self.new }
@@ -89,14 +88,18 @@ impl<'a> System<'a> {
         active.list(self);
         let mut from = 0;
         let mut enough = 1;
-        for t in 0..m {
+        let mut count = 0;
+        for _t in 0..m {
             let Some(r) = lightest_row(&active.weights[..m], from, enough) else {
-                return t;
+                break;
             };
             from = r;
             enough = active.weights[r];
-            order[t] = self.forward_step(&mut active, r);
+            if let Some(step) = self.forward_step(&mut active, r) {
+                order[count] = step;
+                count += 1;
+            }
         }
-        m
+        count
     }
 }

@@ -1,6 +1,7 @@
 // Linear equations over packed rows, and Gauss-Jordan elimination on them, in place. Equation j is a row of words + 1 words and `width` bytes of a
 // right-hand side: the row's first words hold 64 unknowns each, and its last word, the pivot word, holds the number of the unknown that is the
-// row's pivot + 1, or 0. The words and the bytes are lent by the caller. What an unknown stands for is the caller's matter.
+// row's pivot + 1, or 0: a lent word has no room for an Option. The words and the bytes are lent by the caller. What an unknown stands for is the
+// caller's matter.
 #![tactic(auto)]
 
 ghost use Rattle.std.specs.Prelude.{length};
@@ -14,7 +15,7 @@ use system::System;
 pub mod parts; // parts of a buffer: exclusive or
 pub mod bits; // unknowns of a row
 pub mod solution; // whether the reduced form has a solution
-mod system; // a row added to others: a column cleared
+mod system; // the equations in their buffers: a row added to others, a column cleared
 mod weights; // forward pass: the rows' weights
 mod active; // forward pass: the list of active rows
 mod forward; // the forward pass
@@ -47,6 +48,7 @@ pub fn eliminate(rows: &mut [u64], rhs: &mut [u8], s: Shape)
         rhs,
         shape: s,
     };
+    // arrays, since there is no heap
     let mut order = [Step { row: 0, pivot: 0 }; MAX_ROWS];
     let count = system.forward_pass(&mut order);
     let steps = &order[..count];

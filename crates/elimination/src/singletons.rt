@@ -2,7 +2,7 @@
 ghost use Rattle.std.specs.Prelude.{◌<◌};
 ghost use Rattle.elimination.specs.System.{SameCoefficients};
 ghost use Rattle.elimination.specs.SharedUnknowns.{SharedMask, SharedMasks};
-ghost use Rattle.elimination.specs.Kept.{Kept, SameBuffers, ReducedAt};
+ghost use Rattle.elimination.specs.Kept.{Kept, ReducedAt};
 
 use crate::forward::Step;
 use crate::system::System;

@@ -14,7 +14,7 @@ pub struct System<'a> {
 }
 
 impl<'a> System<'a> {
-    ghost use Rattle.std.specs.Prelude.{◌≡◌, ◌≢◌, ◌+◌, ◌*◌, ◌/◌, ◌≤◌, ◌<◌};
+    ghost use Rattle.std.specs.Prelude.{◌≡◌, ◌≢◌, ◌+◌, ◌*◌, ◌/◌, ◌<◌};
     ghost use Rattle.buffers.specs.Parts.{added};
     ghost use Rattle.elimination.specs.Bits.{row_bit, LowestIs};
     ghost use Rattle.elimination.specs.Column.{add_row_where, has_pivot, FirstFrom};
@@ -56,6 +56,7 @@ impl<'a> System<'a> {
         requires { p / 64 < self.now.shape.words }
         ensures { FirstFrom (has_pivot self.now.rows.now (self.now.shape.words + 1) r p) self.now.shape.rows j result }
     {
+        // taken out first, so that the loop doesn't read them again for each row
         let rows: &[u64] = self.rows;
         let s = self.shape;
         for k in j..s.rows {
