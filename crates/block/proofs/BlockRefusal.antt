@@ -33,20 +33,20 @@ buffers_right b symbols marks e f = ap₂ ◌||◌ (length-same symbols _ e) (le
 
 -- ---- by what a check of the record's conditions answered
 
-pub record_width : (b : Block) (r : ℕ) → r ≡ first_of (record_conditions b.code b.w b.protocol b.lsc b.fill) → r ≡ 0 → b.w ≤ 1024
-record_width b r e z =
-    (width_right b.w (record_none b.code b.w b.protocol b.lsc b.fill (sym (in_order _ refl) ∙ sym e ∙ z)).1).1
+pub record_width : (b : Block) → 0 ≡ first_of (record_conditions b.code b.w b.protocol b.lsc b.fill) → b.w ≤ 1024
+record_width b e =
+    (width_right b.w (record_none b.code b.w b.protocol b.lsc b.fill (sym (in_order _ refl) ∙ sym e)).1).1
 
-module _ (b : Block) (symbols marks r : ℕ) (e : r ≡ first_of (record_conditions b.code b.w b.protocol b.lsc b.fill)) where
-  pub record_refused : (r ≡ 0 → ⊥) → r ≡ block_refusal b symbols marks
+module _ (b : Block) (symbols marks : ℕ) where
+  pub record_refused : {r : ℕ} → r ≡ first_of (record_conditions b.code b.w b.protocol b.lsc b.fill) → (r ≡ 0 → ⊥) → r ≡ block_refusal b symbols marks
   unfolding block_refusal
-  record_refused h = part_refuses (record_conditions b.code b.w b.protocol b.lsc b.fill) _ refl refl r e h
+  record_refused e h = part_refuses (record_conditions b.code b.w b.protocol b.lsc b.fill) _ refl refl _ e h
 
   -- the buffers, by the n that the code computes
-  module _ (z : r ≡ 0) {n : ℕ} (q : n ≡ (checks b).n) where
+  module _ (e : 0 ≡ first_of (record_conditions b.code b.w b.protocol b.lsc b.fill)) {n : ℕ} (q : n ≡ (checks b).n) where
     on : block_refusal b symbols marks ≡ chain ((refusal.length, wrong_buffers b symbols marks) ∷ [])
     unfolding block_refusal
-    on = part-passed (record_conditions b.code b.w b.protocol b.lsc b.fill) _ refl refl r e z
+    on = part-passed (record_conditions b.code b.w b.protocol b.lsc b.fill) _ refl refl 0 e refl
 
     size : n * b.w ≡ (checks b).n * b.w
     size = ap (λ (n : ℕ). n * b.w) q

@@ -1,3 +1,4 @@
 pub mod Symbols
 pub mod BlockRefusal
 pub mod Taking
+pub mod Exits

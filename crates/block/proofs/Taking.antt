@@ -1,22 +1,28 @@
 -- The refusals of a unit row by row, what is known of one that is admitted, and the ways of a take.
 -- Assumes nothing.
 use mathlib.Core.Path.{◌≡◌, refl, sym, ap, ◌∙◌, subst}
-use mathlib.Core.Bool.{Bool, true, false, cond}
+use mathlib.Core.Bool.{Bool, true, false, cond, not, ◌&&◌}
 use mathlib.Core.List.{List}
-use Prim.Native.Nat.{ℕ, zero, suc, ◌-◌, ◌≤◌, ◌<◌}
+use lib.Dec.{eqb}
+use Rattle.std.specs.Prelude.{Option, Some}
+use Prim.Native.Nat.{ℕ, zero, suc, ◌+◌, ◌-◌, ◌≤◌, ◌<◌}
 use native.Mathlib.Omega.{arith}
 use lib.ListN.{length, get_or, drop, length-drop}
 use Rattle.ccsds.specs.Tables.{code_of}
 use Rattle.ccsds.specs.Fill.{idle_lwc}
 use Rattle.ccsds.specs.RefusalTable as refusal
 use Rattle.ccsds.specs.Refusals.{wrong_length, wrong_position, Outcome, refused, answered, outcome, ◌⟫◌}
-use Rattle.unit_reader.specs.Reader.{Parts, read_unit}
+use Rattle.unit_reader.specs.Reader.{Parts, read_unit, extension_as}
+use Rattle.unit_reader.specs.declared.Parameters.{Parameters}
+use Rattle.ccsds.specs.inner.Layout.{LayoutOf}
+use Rattle.ccsds.specs.declared.tables.Layout.{Layout}
 use Rattle.ccsds.proofs.RefusalOrder.{in_order, first_is, first_on, first-end, first-none}
 use Rattle.ccsds.proofs.Refusals.{position_right, length_right, length-same, length-wrong, refused-by, answered-by}
 use Rattle.block.specs.Block.{checks, idle_at, block_refusal}
 use Rattle.block.specs.Status.{wrong_mark, Status, idle, status_by, status_of}
 use Rattle.block.specs.Take.{wrong_parameters, foreign, unit_refusal, AdmittedUnit, admission, TakeResult, Take, unchanged, take_at, take_symbol, take_admitted, take_by, take_of}
 use Rattle.block.specs.declared.Block.{Block}
+use Rattle.block.proofs.BlockRefusal.{checks_of_lem}
 
 -- ---- the refusals of a unit, row by row
 
@@ -52,6 +58,12 @@ module _ (b : Block) (p : Parts) (len : ℕ) where
           unit_admitted h =
               sym (in_order _ refl ∙ first_on _ _ _ parameters ∙ first_on _ _ _ own ∙ first_on _ _ _ inside ∙ first_on _ _ _ sent
               ∙ first_on _ _ _ (length-same (len - p.symbol) b.w h) ∙ first-end)
+
+-- 7 by the code's numbers as they are laid out
+pub parameters_by : (b : Block) {l : Layout} → LayoutOf (code_of b.code) l → {x : Option Parameters} {p : Parameters} → x ≡ Some p
+    → wrong_parameters b (extension_as x) ≡ not (eqb p.w b.w && eqb p.k l.k && eqb p.n (l.k + l.m) && eqb p.seed 0)
+unfolding wrong_parameters
+parameters_by b g e = rw (e, checks_of_lem b g, g.k)
 
 -- ---- an admitted unit
 

@@ -20,13 +20,13 @@ idle_at b i = is_idle (code_of b.code).k b.fill i
 
 -- 4, length, of the lent buffers: n × W symbol bytes and n marks
 unfoldable pub wrong_buffers : Block → ℕ → ℕ → Bool
-wrong_buffers b symbolsLength marksLength = wrong_length symbolsLength ((checks b).n * b.w) || wrong_length marksLength (checks b).n
+wrong_buffers b symbols_len marks_len = wrong_length symbols_len ((checks b).n * b.w) || wrong_length marks_len (checks b).n
 
 -- 1 to 3, 13 and 4: of a record and the lengths of its buffers
 abbrev pub block_conditions : Block → ℕ → ℕ → Conditions
-block_conditions b symbolsLength marksLength =
-    record_conditions b.code b.w b.protocol b.lsc b.fill ++ (refusal.length, wrong_buffers b symbolsLength marksLength) ∷ []
+block_conditions b symbols_len marks_len =
+    record_conditions b.code b.w b.protocol b.lsc b.fill ++ (refusal.length, wrong_buffers b symbols_len marks_len) ∷ []
 
 -- the number of the refusal, or 0
 unfoldable pub block_refusal : Block → ℕ → ℕ → ℕ
-block_refusal b symbolsLength marksLength = first_of (block_conditions b symbolsLength marksLength)
+block_refusal b symbols_len marks_len = first_of (block_conditions b symbols_len marks_len)

@@ -1,11 +1,10 @@
 -- Document 01, "Open, take, close": open.
 -- Assumes nothing.
-use Rattle.std.specs.Prelude.{List, ℕ, length, replicate}
-use Rattle.ccsds.specs.Refusals.{Outcome, refused, answered, outcome, afterwards}
+use Rattle.std.specs.Prelude.{Result, Ok, Err, List, ℕ, length, replicate}
+use Rattle.ccsds.specs.Refusals.{Outcome, refused, answered, outcome, afterwards, refusal_number}
 use Rattle.block.specs.Block.{block_refusal}
+use Rattle.ccsds.specs.declared.refusal.Refusal.{Refusal}
 use Rattle.block.specs.declared.Block.{Block}
-use Rattle.block.specs.declared.open.Opened.{Opened}
-use Rattle.block.specs.declared.open.Opened.TheVariants.{Record, Refused}
 
 -- what open answers, and the symbol bytes and marks after it
 pub record Open : Type 0 where
@@ -27,6 +26,6 @@ module _ (b : Block) (symbols marks : List ℕ) where
   }
 
 -- the cases of open's answer in the paper's words
-abbrev pub opened_as : Opened → Outcome Block
-opened_as (Record b) = answered b
-opened_as (Refused number) = refused number
+abbrev pub opened_as : Result Block Refusal → Outcome Block
+opened_as (Ok b) = answered b
+opened_as (Err r) = refused (refusal_number r)

@@ -1,18 +1,19 @@
 -- Document 01, "Open, take, close", with document 02, job 2: take. The record and the unit alone decide whether a unit is admitted.
 -- Assumes nothing.
-use Rattle.std.specs.Prelude.{Bool, true, false, not, ◌&&◌, ◌||◌, cond, List, [], ◌∷◌, ◌++◌, ℕ, zero, suc, ◌+◌, ◌-◌, ◌*◌, eqb, length, get_or, take, drop, set}
+use Rattle.std.specs.Prelude.{Result, Ok, Err, Bool, true, false, not, ◌&&◌, ◌||◌, cond, List, [], ◌∷◌, ◌++◌, ℕ, zero, suc, ◌+◌, ◌-◌, ◌*◌, eqb, length, get_or, take, drop, set}
 use Rattle.std.proofs.Math.Option.{Option, none, some}
 use Rattle.ccsds.specs.Tables.{code_of}
 use Rattle.ccsds.specs.Fill.{idle_lwc}
 use Rattle.ccsds.specs.RefusalTable as refusal
-use Rattle.ccsds.specs.Refusals.{first_of, wrong_length, wrong_position, Outcome, refused, answered, outcome, ◌⟫◌, refused_for}
+use Rattle.ccsds.specs.Refusals.{first_of, wrong_length, wrong_position, Outcome, refused, answered, outcome, ◌⟫◌, refused_for, refusal_number}
 use Rattle.unit_reader.specs.Reader.{Coding, Parts, read_unit}
 use Rattle.block.specs.Block.{checks, block_refusal}
 use Rattle.block.specs.Status.{heard_mark, wrong_mark, Status, idle, heard, missing, status_of}
 use Rattle.algebra.specs.Codeword.{symbol_at}
+use Rattle.ccsds.specs.declared.refusal.Refusal.{Refusal}
 use Rattle.block.specs.declared.Block.{Block}
 use Rattle.block.specs.declared.take.Taken.{Taken}
-use Rattle.block.specs.declared.take.Taken.TheVariants.{Kept, Repeated, Refused}
+use Rattle.block.specs.declared.take.Taken.TheVariants.{Kept, Repeated}
 
 -- ---- admission
 
@@ -99,7 +100,10 @@ module _ (b : Block) (symbols marks : List ℕ) where
   take_of unit = take_by unit (block_refusal b (length symbols) (length marks))
 
 -- the cases of take's answer in the paper's words
-abbrev pub taken_as : Taken → Outcome TakeResult
-taken_as Kept = answered kept
-taken_as Repeated = answered repeated
-taken_as (Refused number) = refused number
+abbrev pub result_as : Taken → TakeResult
+result_as Kept = kept
+result_as Repeated = repeated
+
+abbrev pub taken_as : Result Taken Refusal → Outcome TakeResult
+taken_as (Ok t) = answered (result_as t)
+taken_as (Err r) = refused (refusal_number r)

@@ -1,28 +1,41 @@
-// The refusals that every call on a block uses.
+// A block's record with its code's numbers, and the refusals that every call on a block uses.
 ghost use Rattle.std.specs.Prelude.{◌≡◌};
 ghost use Rattle.ccsds.specs.Tables.{code_of};
+ghost use Rattle.ccsds.specs.Refusals.{checked_as};
 ghost use Rattle.ccsds.specs.inner.Layout.{LayoutOf};
 ghost use Rattle.block.specs.Block.{block_refusal};
 
 use crate::Block;
-use ccsds::tables::Layout;
-use ccsds::{checks, refusal};
+use ccsds::checks;
+use ccsds::refusal::Refusal;
+use ccsds::tables::{CodeLayout, Layout};
 
-// 1 to 3, 13 or 4, or 0: of a record, its code's numbers and the lengths of its buffers.
-pub fn check_block(b: Block, l: Layout, symbolsLength: usize, marksLength: usize) -> u8
-    requires { LayoutOf (code_of b.code) l }
-    ensures { result ≡ block_refusal b symbolsLength marksLength }
-{
-    let earlier = checks::check_record(b.code, l, b.w, b.protocol, b.lsc, b.fill);
-    if earlier != 0 {
-        return earlier;
+// A block's record with its code's numbers.
+#[derive(Clone, Copy)]
+pub struct BlockLayout {
+    pub block: Block,
+    pub layout: Layout,
+    pub ghost layout_of: { LayoutOf (code_of block.code) layout },
+}
+
+impl BlockLayout {
+    // 1 to 3, 13 or 4: of the record and the lengths of its buffers.
+    pub fn check_block(self, symbols_len: usize, marks_len: usize) -> Result<(), Refusal>
+        ensures { checked_as result ≡ block_refusal self.block symbols_len marks_len }
+    {
+        let b = self.block;
+        let code = CodeLayout {
+            number: b.code,
+            layout: self.layout,
+        };
+        checks::check_record(code, b.w, b.protocol, b.lsc, b.fill)?;
+        let n = self.layout.k + self.layout.m;
+        if symbols_len != n * b.w {
+            return Err(Refusal::Length);
+        }
+        if marks_len != n {
+            return Err(Refusal::Length);
+        }
+        Ok(())
     }
-    let n = l.k + l.m;
-    if symbolsLength != n * b.w {
-        return refusal::LENGTH;
-    }
-    if marksLength != n {
-        return refusal::LENGTH;
-    }
-    0
 }

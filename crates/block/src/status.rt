@@ -16,6 +16,7 @@ pub enum Status {
 }
 
 // 11, mark: above every mark there is.
+#[tactic(auto, unfolding(crate::specs::Status::wrong_mark))]
 pub fn wrong(mark: u8) -> bool
     ensures { result ≡ wrong_mark mark }
 {
@@ -27,7 +28,8 @@ pub fn of(mark: u8) -> Status
     ensures { status_as result ≡ status_by mark }
 {
     if mark == HEARD {
-        return Status::Heard;
+        Status::Heard
+    } else {
+        Status::Missing
     }
-    Status::Missing
 }

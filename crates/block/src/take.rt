@@ -1,116 +1,102 @@
 // Take.
 ghost use Rattle.std.specs.Prelude.{◌≡◌, false, ◌<◌, ◌≤◌, ◌+◌, ◌*◌, length};
-ghost use Rattle.ccsds.specs.Tables.{code_of};
-ghost use Rattle.ccsds.specs.Refusals.{answered};
+ghost use Rattle.ccsds.specs.Refusals.{answered, checked_as};
 ghost use Rattle.unit_reader.specs.Reader.{extension_as, read_unit};
 ghost use Rattle.ccsds.specs.inner.Compact.{Compact};
-ghost use Rattle.ccsds.specs.inner.Layout.{LayoutOf};
 ghost use Rattle.block.specs.Block.{idle_at};
 ghost use Rattle.block.specs.Take.{wrong_parameters, foreign, unit_refusal, admission, take_symbol, take_of, taken_as};
 ghost use Rattle.block.specs.inner.Steps.{parts_as, admitted_as};
 
+use crate::checks::BlockLayout;
 use crate::status::Status;
-use crate::{Block, checks, status};
-use ccsds::tables::Layout;
-use ccsds::{refusal, tables};
-use unit_claims::expected::Expected;
-use unit_reader::{Extension, UnitParts, UnitRead};
+use crate::{Block, status};
+use ccsds::refusal::Refusal;
+use ccsds::tables;
+use unit_reader::{Parameters, UnitParts};
 
-// What take answers: that the symbol is kept, that it was heard before, or the number of the refusal.
-#[derive(Clone, Copy)]
+// What take did: the symbol is kept, or it was heard before.
+#[derive(Clone, Copy, Debug, PartialEq, Eq)]
 pub enum Taken {
     Kept,
     Repeated,
-    Refused(u8),
-}
-
-// 7, parameters.
-fn wrong_parameters(b: Block, l: Layout, x: Extension) -> bool
-    requires { LayoutOf (code_of b.code) l }
-    ensures { result ≡ wrong_parameters b (extension_as x) }
-{
-    let Extension::Coding(p) = x else {
-        return true;
-    };
-    if p.w != b.w {
-        return true;
-    }
-    if p.k != l.k {
-        return true;
-    }
-    if p.n != l.k + l.m {
-        return true;
-    }
-    p.seed != 0
-}
-
-// 8, foreign.
-fn is_foreign(b: Block, p: UnitParts) -> bool
-    ensures { result ≡ foreign b (parts_as p) }
-{
-    if p.lsc != b.lsc {
-        return true;
-    }
-    p.protocol != b.protocol
-}
-
-// 7 to 10 or 14, or 0: of a unit of `len` bytes.
-fn check_unit(b: Block, l: Layout, p: UnitParts, len: usize) -> u8
-    requires layout_of { LayoutOf (code_of b.code) l }
-    requires symbol_le_len { p.symbol ≤ len }
-    ensures { result ≡ unit_refusal b (parts_as p) len }
-{
-    let x = p.coding;
-    if wrong_parameters(b, l, x) {
-        return refusal::PARAMETERS;
-    }
-    if is_foreign(b, p) {
-        return refusal::FOREIGN;
-    }
-    if ccsds::checks::wrong_position(l.k + l.m, p.lwc) {
-        return refusal::POSITION;
-    }
-    if ccsds::checks::idle_lwc(l.k, b.fill, p.lwc) {
-        return refusal::IDLE;
-    }
-    if len - p.symbol != b.w {
-        return refusal::SYMBOL;
-    }
-    0
 }
 
 // An admitted unit's position, and where its symbol starts.
 #[derive(Clone, Copy)]
-enum Admitted {
-    At(usize, usize),
-    Refused(u8),
+struct Admitted {
+    position: usize,
+    start: usize,
 }
 
-// Whether the block admits a unit that says p.
-fn admit_parts(b: Block, l: Layout, p: UnitParts, unit: &[u8]) -> Admitted
-    requires layout_of { LayoutOf (code_of b.code) l }
-    requires unit_value { read_unit unit.now ≡ answered (parts_as p) }
-    ensures { admitted_as unit.now result ≡ admission b unit.now }
+// 8, foreign.
+#[tactic(auto, unfolding(crate::specs::Take::foreign))]
+fn is_foreign(b: Block, p: UnitParts) -> bool
+    ensures { result ≡ foreign b (parts_as p) }
 {
-    let refusal = check_unit(b, l, p, unit.len());
-    if refusal != 0 {
-        return Admitted::Refused(refusal);
-    }
-    Admitted::At(p.lwc - 1, unit.len() - b.w)
+    p.lsc != b.lsc || p.protocol != b.protocol
 }
 
-// Whether the block admits a unit. One that is as the block's sender writes it is read the quick way.
-fn admit(b: Block, l: Layout, unit: &[u8]) -> Admitted
-    requires layout_of { LayoutOf (code_of b.code) l }
-    requires compact { Compact b.w l.k (l.k + l.m) × (b.protocol ≤ 7) }
-    ensures { admitted_as unit.now result ≡ admission b unit.now }
-{
-    if let Expected::Parts(p) = unit_claims::expected::read(l, b.w, b.protocol, b.lsc, unit) {
-        return admit_parts(b, l, p, unit);
+impl BlockLayout {
+    // 7, parameters.
+    #[tactic(auto, unfolding(crate::specs::Take::wrong_parameters))]
+    fn wrong_parameters(self, x: Option<Parameters>) -> bool
+        ensures { result ≡ wrong_parameters self.block (extension_as x) }
+    {
+        let Some(p) = x else {
+            return true;
+        };
+        let n = self.layout.k + self.layout.m;
+        p.w != self.block.w || p.k != self.layout.k || p.n != n || p.seed != 0
     }
-    match unit_reader::read_unit(unit) {
-        UnitRead::Refused(number) => Admitted::Refused(number),
-        UnitRead::Read(p) => admit_parts(b, l, p, unit),
+
+    // 7 to 10 or 14: of a unit of `len` bytes.
+    fn check_unit(self, p: UnitParts, len: usize) -> Result<(), Refusal>
+        requires { p.symbol ≤ len }
+        ensures { checked_as result ≡ unit_refusal self.block (parts_as p) len }
+    {
+        let b = self.block;
+        let l = self.layout;
+        if self.wrong_parameters(p.coding) {
+            return Err(Refusal::Parameters);
+        }
+        if is_foreign(b, p) {
+            return Err(Refusal::Foreign);
+        }
+        if ccsds::checks::wrong_position(l.k + l.m, p.lwc) {
+            return Err(Refusal::Position);
+        }
+        if ccsds::checks::idle_lwc(l.k, b.fill, p.lwc) {
+            return Err(Refusal::Idle);
+        }
+        if len - p.symbol != b.w {
+            return Err(Refusal::Symbol);
+        }
+        Ok(())
+    }
+
+    // Whether the block admits a unit that says p.
+    fn admit_parts(self, p: UnitParts, unit: &[u8]) -> Result<Admitted, Refusal>
+        requires { read_unit unit.now ≡ answered (parts_as p) }
+        ensures { admitted_as unit.now result ≡ admission self.block unit.now }
+    {
+        self.check_unit(p, unit.len())?;
+        Ok(Admitted {
+            position: p.lwc - 1,
+            start: unit.len() - self.block.w,
+        })
+    }
+
+    // Whether the block admits a unit. One that is as the block's sender writes it is read the quick way.
+    fn admit(self, unit: &[u8]) -> Result<Admitted, Refusal>
+        requires { Compact self.block.w self.layout.k (self.layout.k + self.layout.m) × (self.block.protocol ≤ 7) }
+        ensures { admitted_as unit.now result ≡ admission self.block unit.now }
+    {
+        let b = self.block;
+        if let Some(p) = unit_claims::expected::read(self.layout, b.w, b.protocol, b.lsc, unit) {
+            return self.admit_parts(p, unit);
+        }
+        let p = unit_reader::read_unit(unit)?;
+        self.admit_parts(p, unit)
     }
 }
 
@@ -121,7 +107,7 @@ fn take_symbol(
     marks: &mut [u8],
     position: usize,
     symbol: &[u8],
-) -> Taken
+) -> Result<Taken, Refusal>
     requires position_in_bounds { (position < length marks.old) × (idle_at b position ≡ false) }
     requires w_in_bounds { position * b.w + b.w ≤ length symbols.old }
     requires symbol_len { length symbol.now ≡ b.w }
@@ -132,37 +118,35 @@ fn take_symbol(
     let w = b.w;
     let mark = marks[position];
     if status::wrong(mark) {
-        return Taken::Refused(refusal::MARK);
+        return Err(Refusal::Mark);
     }
     let at = position * w;
     match status::of(mark) {
         Status::Heard => {
             if &symbols[at..at + w] == symbol {
-                return Taken::Repeated;
+                return Ok(Taken::Repeated);
             }
-            Taken::Refused(refusal::CONFLICT)
+            Err(Refusal::Conflict)
         }
         Status::Missing => {
             marks[position] = status::HEARD;
             buffers::put_from(symbols, at, symbol, 0, w);
-            Taken::Kept
+            Ok(Taken::Kept)
         }
     }
 }
 
 // Takes one unit: kept, repeated, or a refusal. Only a kept one changes the block.
-pub fn take(b: Block, symbols: &mut [u8], marks: &mut [u8], unit: &[u8]) -> Taken
+pub fn take(b: Block, symbols: &mut [u8], marks: &mut [u8], unit: &[u8]) -> Result<Taken, Refusal>
     ensures answer { taken_as result ≡ (take_of b symbols.old marks.old unit.now).answer }
     ensures symbols { symbols.new ≡ (take_of b symbols.old marks.old unit.now).symbols }
     ensures marks { marks.new ≡ (take_of b symbols.old marks.old unit.now).marks }
 {
-    let l = tables::layout_of(b.code);
-    let refusal = checks::check_block(b, l, symbols.len(), marks.len());
-    if refusal != 0 {
-        return Taken::Refused(refusal);
-    }
-    match admit(b, l, unit) {
-        Admitted::Refused(number) => Taken::Refused(number),
-        Admitted::At(position, start) => take_symbol(b, symbols, marks, position, &unit[start..]),
-    }
+    let l = BlockLayout {
+        block: b,
+        layout: tables::layout_of(b.code),
+    };
+    l.check_block(symbols.len(), marks.len())?;
+    let x = l.admit(unit)?;
+    take_symbol(b, symbols, marks, x.position, &unit[x.start..])
 }

@@ -3,45 +3,17 @@
 #![tactic(auto)]
 
 use block::Block;
-use block_report::pass;
+use block_report::{Answer, pass};
 use ccsds::code::Code;
 use std::io;
 
-// A block of C1.
-fn c1(fill: usize) -> Block {
-    Block {
-        code: 1,
-        w: 4,
-        protocol: 1,
-        lsc: 7,
-        fill: fill,
-    }
-}
-
-// The block of a sample.
-fn block_of(sample: usize) -> Block {
-    match sample {
-        1 | 2 | 3 => c1(Code::C1_K),
-        6 | 8 => c1(1),
-        7 => c1(100),
-        _ => Block {
-            code: 2,
-            w: 1,
-            protocol: 7,
-            lsc: 65534,
-            fill: Code::C2_K,
-        },
-    }
-}
-
-// The position of which a sample's line tells whether it is filled.
-fn told_position(sample: usize) -> usize {
-    match sample {
-        1 | 2 | 7 => 0,
-        3 => 572,
-        6 | 8 => Code::C1_K,
-        _ => Code::C2_N - 1,
-    }
+// A sample: what it is, its block, the position of which its line tells whether it is filled, and which positions are heard.
+#[derive(Drop)]
+struct Sample<'a, F> {
+    name: &'a str,
+    block: Block,
+    told: usize,
+    hears: F,
 }
 
 // Bytes of a unit of C2.
@@ -49,194 +21,200 @@ const UNIT: usize = 15;
 
 const UNITS: usize = Code::C2_N * UNIT;
 
+// A block of C1.
+fn c1(fill: usize) -> Block {
+    Block {
+        code: Code::C1.number,
+        w: 4,
+        protocol: 1,
+        lsc: 7,
+        fill,
+    }
+}
+
+// A full block of C2.
+fn c2() -> Block {
+    Block {
+        code: Code::C2.number,
+        w: 1,
+        protocol: 7,
+        lsc: 65534,
+        fill: Code::C2_K,
+    }
+}
+
 // The positions that samples 2 and 3 miss: u_0 and 79 parity symbols.
 fn missing(p: usize) -> bool {
-    match p {
-        0 | 553..=571 | 584..=609 | 734..=767 => true,
-        _ => false,
+    matches!(p, 0 | 553..=571 | 584..=609 | 734..=767)
+}
+
+// Whether a position is filled, in words.
+fn filled(mark: u8) -> &'static str {
+    if mark == block::status::FILLED {
+        "filled"
+    } else {
+        "not filled"
     }
 }
 
-// Whether a sample hears position p.
-fn hears(sample: usize, p: usize) -> bool {
-    match sample {
-        1 => match p {
-            1..=511 | 767 => true,
-            _ => false,
-        },
-        2 => !missing(p),
-        3 => {
-            if p == 572 {
-                return false;
-            }
-            !missing(p)
-        }
-        5 => p == Code::C2_N - 1,
-        7 => match p {
-            1..=99 | 767 => true,
-            _ => false,
-        },
-        8 => p == Code::C1_K,
-        _ => false,
-    }
-}
-
-// Takes the unit of position p where the sample hears it.
-fn hear(sample: usize, units: &[u8], p: usize, symbols: &mut [u8], marks: &mut [u8]) {
-    if hears(sample, p) {
-        pass::receive(block_of(sample), units, p, symbols, marks);
-    }
-}
-
-fn hear_all(sample: usize, units: &[u8], symbols: &mut [u8], marks: &mut [u8]) {
-    let mut p = 0;
-    while p < marks.len() {
-        hear(sample, units, p, symbols, marks);
-        p += 1;
-    }
-}
-
-// Prints what a sample is.
-fn print_name(rt: &impl Print, sample: usize) -> io::Result<()> {
-    match sample {
-        1 => report::print(rt, b"C1, positions 1 to 511 and 767 heard: "),
-        2 => report::print(rt, b"C1, all zero, u_0 and 79 parity symbols missing: "),
-        3 => report::print(rt, b"C1, the same with p_60 missing too: "),
-        4 => report::print(rt, b"C2, nothing heard: "),
-        5 => report::print(rt, b"C2, only LWC 3072 heard, byte 01: "),
-        6 => report::print(rt, b"C1, fill 1, nothing heard: "),
-        7 => report::print(rt, b"C1, fill 100, positions 1 to 99 and 767 heard: "),
-        _ => report::print(rt, b"C1, fill 1, only LWC 513 heard, first byte 01: "),
-    }
-}
-
-// Prints whether position p is filled.
-fn print_position(rt: &impl Print, marks: &[u8], p: usize) -> io::Result<()> {
-    report::print_count(rt, b", position ", p)?;
-    if p >= marks.len() {
-        return Ok(());
-    }
-    if marks[p] != block::status::FILLED {
-        report::print(rt, b" not")?;
-    }
-    report::print(rt, b" filled")
-}
-
-// Opens the block, hears what the sample hears, closes, and prints.
-fn run(
+// Opens the block, takes the units that are heard, closes, and prints.
+fn run<F: Fn(usize) -> bool>(
     rt: &impl Print,
-    sample: usize,
+    sample: &Sample<'_, F>,
     units: &[u8],
     symbols: &mut [u8],
     marks: &mut [u8],
-) -> io::Result<()> {
-    let b = block_of(sample);
-    print_name(rt, sample)?;
+) -> io::Result<()>
+    requires { F.IsAlwaysCallable sample.now.hears }
+{
+    let b = sample.block;
+    print!(rt; "{}: ", sample.name)?;
     if !pass::open(b, symbols, marks) {
-        return report::print(rt, b"open refused");
+        return print!(rt; "open refused");
     }
-    hear_all(sample, units, symbols, marks);
-    block_report::print_closed(rt, pass::close(b, symbols, marks), true)?;
-    print_position(rt, marks, told_position(sample))
-}
-
-// Buffers that hold something before they are used.
-fn old_symbols() -> [u8; Code::C2_N] {
-    [165; Code::C2_N]
-}
-
-// Runs a sample with marks of its code's size.
-fn run_marked(rt: &impl Print, sample: usize, units: &[u8], symbols: &mut [u8]) -> io::Result<()> {
-    let code = Code {
-        number: block_of(sample).code,
-    };
-    let n = code.n();
-    let mut marks = old_symbols();
-    if n > Code::C2_N {
-        return Ok(());
+    for p in 0..marks.len() {
+        if (sample.hears)(p) {
+            pass::receive(b, units, p, symbols, marks);
+        }
     }
-    run(rt, sample, units, symbols, &mut marks[0..n])
+    let closed = pass::close(b, symbols, marks);
+    print!(rt;
+        "{}, position {}",
+        Answer { closed, all: true },
+        sample.told
+    )?;
+    match marks.get(sample.told) {
+        Some(mark) => print!(rt; " {}", filled(*mark)),
+        None => Ok(()),
+    }
 }
 
-fn all_units() -> [u8; UNITS] {
-    [0; UNITS]
-}
-
-// Sends and runs a sample, and prints its line; with `compare`, also whether the block is as sent.
-fn print_line<'a>(
+// Sends and runs a sample, and prints its line; with `compare`, also whether the block is as sent. The buffers hold something before they are
+// used, and there are as many marks as positions.
+fn print_line<F: Fn(usize) -> bool>(
     rt: &impl Print,
-    sample: usize,
-    info: &'a [u8],
-    parity: &'a [u8],
+    sample: &Sample<'_, F>,
+    info: &[u8],
+    parity: &[u8],
     compare: bool,
-) -> io::Result<()> {
-    let mut units = all_units();
-    let mut symbols = old_symbols();
-    pass::send_all(block_of(sample), info, parity, &mut units);
-    run_marked(rt, sample, &units, &mut symbols)?;
-    if compare {
-        block_report::print_compared(rt, &symbols, info, parity)?;
+) -> io::Result<()>
+    requires { F.IsAlwaysCallable sample.now.hears }
+{
+    let code = Code {
+        number: sample.block.code,
+    };
+    let mut units = [0; UNITS];
+    let mut symbols = [165; Code::C2_N];
+    let mut marks = [165; Code::C2_N];
+    pass::send_all(sample.block, info, parity, &mut units);
+    if let Some(marks) = marks.get_mut(..code.n()) {
+        run(rt, sample, &units, &mut symbols, marks)?;
     }
-    report::print(rt, b"\n")
-}
-
-fn information() -> [u8; Code::C2_K] {
-    [0; Code::C2_K]
-}
-
-fn parity_symbols() -> [u8; Code::C2_M] {
-    [0; Code::C2_M]
-}
-
-// Bytes of a sample's information.
-fn information_bytes(sample: usize) -> usize {
-    let b = block_of(sample);
-    let code = Code { number: b.code };
-    code.information_bytes(b.w, b.fill)
+    if compare {
+        print!(rt; ", {}", block_report::compared(&symbols, info, parity))?;
+    }
+    println!(rt; "")
 }
 
 // The information is a pattern.
-fn pattern_sample(rt: &impl Print, sample: usize) -> io::Result<()> {
-    let b = block_of(sample);
-    let n = information_bytes(sample);
-    let mut info = information();
-    let mut parity = parity_symbols();
-    report::fill(&mut info, 1);
-    if n > info.len() {
+fn pattern_sample<F: Fn(usize) -> bool>(rt: &impl Print, sample: &Sample<'_, F>) -> io::Result<()>
+    requires { F.IsAlwaysCallable sample.now.hears }
+{
+    let b = sample.block;
+    let code = Code { number: b.code };
+    let mut info = [0; Code::C2_K];
+    let mut parity = [0; Code::C2_M];
+    let Some(info) = info.get_mut(..code.information_bytes(b.w, b.fill)) else {
         return Ok(());
-    }
-    encoder::encode::encode(b.code, b.w, b.fill, &info[0..n], &mut parity);
-    print_line(rt, sample, &info[0..n], &parity, true)
+    };
+    report::fill(info, 1);
+    encoder::encode::encode(b.code, b.w, b.fill, info, &mut parity);
+    print_line(rt, sample, info, &parity, true)
 }
 
 // All is zero but the parity's byte `at`, which is `value`.
-fn zero_sample(rt: &impl Print, sample: usize, at: usize, value: u8) -> io::Result<()> {
-    let n = information_bytes(sample);
-    let info = information();
-    let mut parity = parity_symbols();
-    if n > info.len() {
+fn zero_sample<F: Fn(usize) -> bool>(
+    rt: &impl Print,
+    sample: &Sample<'_, F>,
+    at: usize,
+    value: u8,
+) -> io::Result<()>
+    requires { F.IsAlwaysCallable sample.now.hears }
+{
+    let b = sample.block;
+    let code = Code { number: b.code };
+    let info = [0; Code::C2_K];
+    let mut parity = [0; Code::C2_M];
+    let Some(info) = info.get(..code.information_bytes(b.w, b.fill)) else {
         return Ok(());
+    };
+    if let Some(b) = parity.get_mut(at) {
+        *b = value;
     }
-    if at >= Code::C2_M {
-        return Ok(());
-    }
-    parity[at] = value;
-    print_line(rt, sample, &info[0..n], &parity, false)
+    print_line(rt, sample, info, &parity, false)
 }
 
 // The samples of document 01.
 fn full_blocks(rt: &impl Print) -> io::Result<()> {
-    pattern_sample(rt, 1)?;
-    zero_sample(rt, 2, 0, 0)?;
-    zero_sample(rt, 3, 0, 0)?;
-    zero_sample(rt, 4, 0, 0)?;
-    zero_sample(rt, 5, Code::C2_M - 1, 1)
+    let heard = Sample {
+        name: "C1, positions 1 to 511 and 767 heard",
+        block: c1(Code::C1_K),
+        told: 0,
+        hears: |p| matches!(p, 1..=511 | 767),
+    };
+    pattern_sample(rt, &heard)?;
+    let missed = Sample {
+        name: "C1, all zero, u_0 and 79 parity symbols missing",
+        block: c1(Code::C1_K),
+        told: 0,
+        hears: |p| !missing(p),
+    };
+    zero_sample(rt, &missed, 0, 0)?;
+    let p_60 = Sample {
+        name: "C1, the same with p_60 missing too",
+        block: c1(Code::C1_K),
+        told: 572,
+        hears: |p| p != 572 && !missing(p),
+    };
+    zero_sample(rt, &p_60, 0, 0)?;
+    let nothing = Sample {
+        name: "C2, nothing heard",
+        block: c2(),
+        told: Code::C2_N - 1,
+        hears: |_| false,
+    };
+    zero_sample(rt, &nothing, 0, 0)?;
+    let last = Sample {
+        name: "C2, only LWC 3072 heard, byte 01",
+        block: c2(),
+        told: Code::C2_N - 1,
+        hears: |p| p == Code::C2_N - 1,
+    };
+    zero_sample(rt, &last, Code::C2_M - 1, 1)
 }
 
 fn short_blocks(rt: &impl Print) -> io::Result<()> {
-    zero_sample(rt, 6, 0, 0)?;
-    pattern_sample(rt, 7)?;
-    zero_sample(rt, 8, 0, 1)
+    let nothing = Sample {
+        name: "C1, fill 1, nothing heard",
+        block: c1(1),
+        told: Code::C1_K,
+        hears: |_| false,
+    };
+    zero_sample(rt, &nothing, 0, 0)?;
+    let heard = Sample {
+        name: "C1, fill 100, positions 1 to 99 and 767 heard",
+        block: c1(100),
+        told: 0,
+        hears: |p| matches!(p, 1..=99 | 767),
+    };
+    pattern_sample(rt, &heard)?;
+    let first = Sample {
+        name: "C1, fill 1, only LWC 513 heard, first byte 01",
+        block: c1(1),
+        told: Code::C1_K,
+        hears: |p| p == Code::C1_K,
+    };
+    zero_sample(rt, &first, 0, 1)
 }
 
 fn main(rt: HostRuntime) -> io::Result<()> {

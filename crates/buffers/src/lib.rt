@@ -73,8 +73,7 @@ fn add_chunks_64(buf: &mut [u8], at: usize, from: usize, len: usize) -> usize
     len / 64 * 64
 }
 
-// Where `done` of the len bytes are added already, adds as many more as whole chunks of 16 hold; answers how many are added then. It goes on
-// with the same index, so that the loops of add_within keep one.
+// Where `done` of the len bytes are added already, adds as many more as whole chunks of 16 hold; answers how many are added then.
 fn add_chunks_16(buf: &mut [u8], at: usize, from: usize, done: usize, len: usize) -> usize
     requires apart { Apart at from len }
     requires done_le_len { (done ≤ len) × (at + len ≤ length buf.old) × (from + len ≤ length buf.old) }

@@ -3,12 +3,11 @@ ghost use Rattle.std.specs.Prelude.{◌≡◌};
 ghost use Rattle.ccsds.specs.Tables.{code_of};
 ghost use Rattle.ccsds.specs.Fill.{wrong_fill, idle_lwc};
 ghost use Rattle.ccsds.specs.Refusals.{checked_as, first_of, code_conditions, record_conditions, encoder_conditions, wrong_label, wrong_position};
-ghost use Rattle.ccsds.specs.inner.Layout.{LayoutOf};
 
 use crate::code::Code;
 use crate::refusal::Refusal;
 use crate::tables;
-use crate::tables::Layout;
+use crate::tables::CodeLayout;
 
 pub fn wrong_label(protocol: usize, lsc: usize) -> bool
     ensures { result ≡ wrong_label protocol lsc }
@@ -59,17 +58,15 @@ pub fn check_code(number: usize, w: usize) -> Result<(), Refusal>
 
 // 1, 2, 3 or 13: of a block's record and its code's numbers.
 pub fn check_record(
-    number: usize,
-    l: Layout,
+    code: CodeLayout,
     w: usize,
     protocol: usize,
     lsc: usize,
     fill: usize,
 ) -> Result<(), Refusal>
-    requires { LayoutOf (code_of number) l }
-    ensures { checked_as result ≡ first_of (record_conditions number w protocol lsc fill) }
+    ensures { checked_as result ≡ first_of (record_conditions code.number w protocol lsc fill) }
 {
-    if !tables::is_code(number, l) {
+    if !code.is_code() {
         return Err(Refusal::Code);
     }
     if Code::wrong_width(w) {
@@ -78,7 +75,7 @@ pub fn check_record(
     if wrong_label(protocol, lsc) {
         return Err(Refusal::Label);
     }
-    if wrong_fill(l.k, fill) {
+    if wrong_fill(code.layout.k, fill) {
         return Err(Refusal::Fill);
     }
     Ok(())

@@ -191,12 +191,12 @@ pub fn layout_of(number: usize) -> Layout
     }
 }
 
-// Whether the number is a code's, by its layout: a code has symbols.
-pub fn is_code(number: usize, l: Layout) -> bool
-    requires { LayoutOf (code_of number) l }
-    ensures { result ≡ is_code number }
-{
-    l.k + l.m != 0
+// A code's number with its layout.
+#[derive(Clone, Copy)]
+pub struct CodeLayout {
+    pub number: usize,
+    pub layout: Layout,
+    pub ghost layout_of: { LayoutOf (code_of number) layout },
 }
 
 // A number of 16 bits.
@@ -235,7 +235,8 @@ pub fn put_addresses(number: usize, flat: &mut [u16; MAX_ADDRESSES])
 // Where a row's addresses start in the flat array.
 fn start(row: usize, long: usize, degree: usize, rest: usize) -> usize
     requires { (row ≤ max_rows) × (long ≤ max_rows) × (degree ≤ max_degree) × (rest ≤ max_degree) }
-    ensures { result ≡ start_in row long degree rest }
+    ensures value { result ≡ start_in row long degree rest }
+    ensures room { result ≤ max_addresses }
 {
     if row < long {
         row * degree
@@ -244,21 +245,31 @@ fn start(row: usize, long: usize, degree: usize, rest: usize) -> usize
     }
 }
 
-// How many addresses a table row has.
-pub fn row_degree(number: usize, l: Layout, row: usize) -> usize
-    requires layout_of { LayoutOf (code_of number) l }
-    requires row_in_bounds { row < length (code_of number).rows }
-    ensures { result ≡ length (get_or (code_of number).rows row []) }
-{
-    if row < l.long { l.degree } else { l.rest }
-}
+impl CodeLayout {
+    // Whether the number is a code's: a code has symbols.
+    pub fn is_code(self) -> bool
+        ensures { result ≡ is_code self.number }
+    {
+        self.layout.k + self.layout.m != 0
+    }
 
-// Address i of a table row.
-pub fn address(number: usize, l: Layout, flat: &[u16; MAX_ADDRESSES], row: usize, i: usize) -> usize
-    requires layout_of { LayoutOf (code_of number) l × FrontIs (joined (code_of number).rows) flat.now }
-    requires row_in_bounds { row < length (code_of number).rows }
-    requires i_in_bounds { i < length (get_or (code_of number).rows row []) }
-    ensures { result ≡ get_or (get_or (code_of number).rows row []) i 0 }
-{
-    wide(flat[start(row, l.long, l.degree, l.rest) + i])
+    // How many addresses a table row has.
+    fn degree(self, row: usize) -> usize
+        requires { row < length (code_of self.number).rows }
+        ensures { result ≡ length (get_or (code_of self.number).rows row []) }
+    {
+        let l = self.layout;
+        if row < l.long { l.degree } else { l.rest }
+    }
+
+    // The addresses of a table row.
+    pub fn row(self, flat: &[u16; MAX_ADDRESSES], row: usize) -> &[u16]
+        requires front { FrontIs (joined (code_of self.number).rows) flat.now }
+        requires row_in_bounds { row < length (code_of self.number).rows }
+        ensures { result.now ≡ get_or (code_of self.number).rows row [] }
+    {
+        let l = self.layout;
+        let at = start(row, l.long, l.degree, l.rest);
+        &flat[at..at + self.degree(row)]
+    }
 }

@@ -8,6 +8,9 @@ use native.Mathlib.Nat.{mul_comm, mul-sub, mul-le-mul_right}
 use native.Mathlib.Decide.{dec_lt}
 use native.Mathlib.Omega.{arith}
 use lib.ListN.{length, get_or, take, drop, replicate, length-append, length-drop, length-replicate, get_or-replicate, get_or-append}
+use borrow.Rule.Slice.PartMut.{put_mid}
+use Rattle.std.proofs.Common.{append_assoc}
+use lib.Seq.{drop-drop}
 use lib.Seq.{length-take-le, get_or-take, get_or-drop, get_or-append-add, ext_get_or}
 use Rattle.algebra.specs.Codeword.{byte_at}
 use Rattle.algebra.proofs.Codeword.{slot}
@@ -15,10 +18,12 @@ use Rattle.ccsds.specs.Tables.{code_of}
 use Rattle.ccsds.specs.Fill.{is_idle}
 use Rattle.ccsds.proofs.FillLaws.{idle_in, idle-not-below, idle-not_above}
 use Rattle.block.specs.Block.{idle_at}
-use Rattle.block.specs.Status.{Status, idle, status_by, status_of}
+use Rattle.block.specs.Status as status
+use Rattle.block.specs.Status.{Status, status_by, status_of}
 use Rattle.closing.specs.Close.{idle_cleared}
 use Rattle.closing.specs.inner.Idle.{IdleIn, PartSet}
 use Rattle.block.specs.declared.Block.{Block}
+use Rattle.closing.specs.declared.states.Filled.{Filled}
 
 -- ---- positions
 
@@ -39,20 +44,24 @@ idle-byte k f i w j h = go (dec_lt i f) (dec_lt i k)
             let u : k ≤ i = omega arith in
             idle-not_above (k * w) (f * w) (i * w + j) (omega (arith, mul-le-mul_right w u)) ∙ sym (idle-not_above k f i u)
 
+-- those of a record with its code's k, of n positions
+pub idle : (s : Filled) {n : ℕ} → s.k ≤ n → IdleIn s.block s.k n
+idle s h = record { information = s.information; fill = s.fill; within = h }
+
 -- a block's idle positions
 pub idle-at : {b : Block} {k n : ℕ} → IdleIn b k n → (i : ℕ) → is_idle k b.fill i ≡ idle_at b i
 unfolding idle_at
 idle-at {b} I i = ap (λ (m : ℕ). is_idle m b.fill i) I.information
 
 -- each position is done by its mark, and then the idle ones are done as idle: so each is done by its status
-pub by-status : {b : Block} {k n : ℕ} → IdleIn b k n → (g : ℕ → Status → ℕ) (v : ℕ) → ((i : ℕ) → v ≡ g i idle)
+pub by-status : {b : Block} {k n : ℕ} → IdleIn b k n → (g : ℕ → Status → ℕ) (v : ℕ) → ((i : ℕ) → v ≡ g i status.idle)
     → (marks : List ℕ) {l l' : List ℕ} → length l ≡ length marks → ((i : ℕ) → i < length marks → get_or l i 0 ≡ g i (status_by (get_or marks i 0)))
     → PartSet b.fill k v l l' → (i : ℕ) → i < length marks → get_or l' i 0 ≡ g i (status_of b marks i)
 by-status {b} I g v e marks {l} s h P i r =
     P.each i (omega arith) ∙ ap₂ (λ (t : Bool) (m : ℕ). cond t v m) (idle-at I i) (h i r)
     ∙ ap (λ (u : ℕ). cond (idle_at b i) u (g i (status_by (get_or marks i 0)))) (e i) ∙ go (idle_at b i) (status_by (get_or marks i 0))
   where
-    go : (t : Bool) (x : Status) → cond t (g i idle) (g i x) ≡ g i (cond t idle x)
+    go : (t : Bool) (x : Status) → cond t (g i status.idle) (g i x) ≡ g i (cond t status.idle x)
     go true x = refl
     go false x = refl
 
@@ -92,6 +101,16 @@ module _ (l : List ℕ) (f k v : ℕ) (h : f ≤ k) (room : k ≤ length l) wher
       go (no a) (no c) =
           past (take f l ++ replicate (k - f) v) (drop k l) k i both (omega arith) ∙ get_or-drop k l (i - k) 0
           ∙ ap (λ (n : ℕ). get_or l n 0) (omega arith) ∙ by false (idle-not_above k f i (omega arith))
+
+  pub part_is : PartSet f k v l (part_set l f k v)
+  part_is = record { size = part_length; each = λ i q. part_at i }
+
+  -- as the code sets it
+  pub put_is : {y : List ℕ} → y ≡ replicate (k - f) v → PartSet f k v l (put_mid f (k - f) l y)
+  put_is {y} e =
+      subst (PartSet f k v l)
+      (sym (ap (put_mid f (k - f) l) e ∙ ap (λ (t : List ℕ). take f l ++ (replicate (k - f) v ++ t)) (drop-drop (k - f) f l ∙ ap (λ (n : ℕ). drop n l) (omega arith)) ∙ sym (append_assoc (take f l) (replicate (k - f) v) (drop k l))))
+      part_is
 
   pub set_is : {l' : List ℕ} → PartSet f k v l l' → l' ≡ part_set l f k v
   set_is {l'} P =

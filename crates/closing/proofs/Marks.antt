@@ -1,4 +1,4 @@
--- Marks: how many are v, and the highest of them, against 2.
+-- Marks: how many are v, and whether one is wrong.
 -- Assumes nothing.
 use mathlib.Core.Path.{◌≡◌, refl, sym, ap, ap₂, ◌∙◌, subst}
 use mathlib.Core.Bool.{Bool, true, false, ◌||◌, cond}
@@ -8,8 +8,9 @@ use native.Mathlib.Numerals.{add-one}
 use native.Mathlib.Omega.{arith}
 use lib.ListN.{length, get_or, take, drop, replicate, length-drop}
 use lib.Seq.{take_all, drop-cons, drop-length, length-take-le, get_or-take, get_or-drop}
-use lib.Dec.{eqb, ltb}
-use borrow.Author.Tests.{ltb-true, ltb-false, lt-ltb, le-ltb, eq-eqb, ne_eqb}
+use lib.Dec.{eqb}
+use borrow.Author.Tests.{le-ltb, eq-eqb, ne_eqb}
+use Rattle.std.specs.List.{fold}
 use Rattle.algebra.specs.Lists.{count}
 use Rattle.algebra.proofs.Counts.{count_all}
 use Rattle.block.specs.Status.{wrong_mark}
@@ -68,10 +69,6 @@ module _ {b : Block} {k : ℕ} (marks : List ℕ) (I : IdleIn b k (length marks)
 
 -- ---- one after the other
 
-or_false : (a : Bool) → a || false ≡ a
-or_false true = refl
-or_false false = refl
-
 module _ (l : List ℕ) where
   -- past the end there is none
   pub count-end : (v i n : ℕ) → i ≡ length l → n + count v (drop i l) ≡ count v l → n ≡ count v l
@@ -79,12 +76,6 @@ module _ (l : List ℕ) where
   count-end v i n h e =
       let z : count v (drop i l) ≡ 0 = ap (λ (j : ℕ). count v (drop j l)) h ∙ ap (count v) (drop-length l) in
       omega arith
-
-  -- a highest mark so far, and those still to come
-  pub wrong-end : (i top : ℕ) → i ≡ length l → ltb 2 top || wrong_marks (drop i l) ≡ wrong_marks l → ltb 2 top ≡ wrong_marks l
-  unfolding wrong_marks
-  wrong-end i top h e =
-      sym (or_false (ltb 2 top)) ∙ ap (λ (b : Bool). ltb 2 top || b) (sym (ap wrong_marks (drop-length l)) ∙ ap (λ (j : ℕ). wrong_marks (drop j l)) (sym h)) ∙ e
 
   module _ (i : ℕ) (h : i < length l) where
     one_off : drop i l ≡ get_or l i 0 ∷ drop (i + 1) l
@@ -103,24 +94,13 @@ module _ (l : List ℕ) where
         let z : count v (drop i l) ≡ count v (drop (i + 1) l) = ap (count v) one_off ∙ rw (ne_eqb (get_or l i 0) v q) in
         omega arith
 
-    -- one that is higher, and one that is not
-    pub wrong_higher : (top top' : ℕ) → top < get_or l i 0 → top' ≡ get_or l i 0 → ltb 2 top || wrong_marks (drop i l) ≡ wrong_marks l
-        → ltb 2 top' || wrong_marks (drop (i + 1) l) ≡ wrong_marks l
-    unfolding wrong_marks wrong_mark
-    wrong_higher top top' q f e = ap (λ (t : ℕ). ltb 2 t || wrong_marks (drop (i + 1) l)) f ∙ go (ltb 2 top) refl ∙ ap (λ (b : Bool). ltb 2 top || b) (sym (ap wrong_marks one_off)) ∙ e
-      where
-        go : (b : Bool) → ltb 2 top ≡ b → ltb 2 (get_or l i 0) || wrong_marks (drop (i + 1) l) ≡ b || (ltb 2 (get_or l i 0) || wrong_marks (drop (i + 1) l))
-        go true t = let r : 2 < top = ltb-true 2 top t in rw (lt-ltb 2 (get_or l i 0) (omega arith))
-        go false t = refl
-
-    pub wrong_lower : (top top' : ℕ) → get_or l i 0 ≤ top → top' ≡ top → ltb 2 top || wrong_marks (drop i l) ≡ wrong_marks l
-        → ltb 2 top' || wrong_marks (drop (i + 1) l) ≡ wrong_marks l
-    unfolding wrong_marks wrong_mark
-    wrong_lower top top' q f e = ap (λ (t : ℕ). ltb 2 t || wrong_marks (drop (i + 1) l)) f ∙ go (ltb 2 top) refl ∙ ap (λ (b : Bool). ltb 2 top || b) (sym (ap wrong_marks one_off)) ∙ e
-      where
-        go : (b : Bool) → ltb 2 top ≡ b → b || wrong_marks (drop (i + 1) l) ≡ b || (ltb 2 (get_or l i 0) || wrong_marks (drop (i + 1) l))
-        go true t = refl
-        go false t = let r : top ≤ 2 = ltb-false 2 top t in rw (le-ltb 2 (get_or l i 0) (omega arith))
+-- a wrong one so far, or one still to come
+pub wrong_fold : (t : Bool) (l : List ℕ) → fold (λ (wrong : Bool) (mark : ℕ). wrong || wrong_mark mark) t l ≡ t || wrong_marks l
+unfolding wrong_marks
+wrong_fold true [] = refl
+wrong_fold false [] = refl
+wrong_fold true (mark ∷ l) = wrong_fold true l
+wrong_fold false (mark ∷ l) = wrong_fold (wrong_mark mark) l
 
 -- no mark is wrong
 pub marks_right : (l : List ℕ) → ((i : ℕ) → get_or l i 0 ≤ 2) → wrong_marks l ≡ false

@@ -1,25 +1,24 @@
 -- Document 01, "Open, take, close", with document 02, job 2: close, by the codewords that agree with the heard symbols and are zero at the idle
 -- positions (`agreeing` of algebra).
 -- Assumes nothing.
-use Rattle.std.specs.Prelude.{Bool, true, false, cond, ◌||◌, List, [], ◌∷◌, ◌++◌, ℕ, ◌+◌, ◌-◌, ◌*◌, ◌/◌, length, take, drop, replicate}
+use Rattle.std.specs.Prelude.{Result, Ok, Err, Bool, true, false, cond, ◌||◌, List, [], ◌∷◌, ◌++◌, ℕ, ◌+◌, ◌-◌, ◌*◌, ◌/◌, length, take, drop, replicate}
 use Rattle.algebra.specs.Lists.{tab, count}
 use Rattle.algebra.specs.Agreeing.{Verdict, whole, ambiguous, inconsistent, agreeing, verdict_of, determined, filled_symbols}
 use Rattle.ccsds.specs.Tables.{code_of}
 use Rattle.ccsds.specs.RefusalTable as refusal
-use Rattle.ccsds.specs.Refusals.{first_of, wrong_length, Outcome, refused, answered, outcome, afterwards}
+use Rattle.ccsds.specs.Refusals.{first_of, wrong_length, Outcome, refused, answered, outcome, afterwards, refusal_number}
 use Rattle.block.specs.Block.{checks, block_conditions}
 use Rattle.block.specs.Status.{missing_mark, heard_mark, filled_mark, wrong_mark, Status, idle, heard, missing, status_of}
+use Rattle.ccsds.specs.declared.refusal.Refusal.{Refusal}
 use Rattle.block.specs.declared.Block.{Block}
 use Rattle.closing.specs.declared.Verdict as coded-verdict
 use Rattle.closing.specs.declared.Verdict.TheVariants.{Whole, Ambiguous, Inconsistent}
 use Rattle.closing.specs.declared.Report as coded-report
-use Rattle.closing.specs.declared.Closed.{Closed}
-use Rattle.closing.specs.declared.Closed.TheVariants.{Reported, Refused}
 
 -- 4, length, of the work buffers: m × (n / 64 + 1) words and m × W bytes
 unfoldable pub wrong_work : Block → ℕ → ℕ → Bool
-wrong_work b wordsLength bytesLength =
-    wrong_length wordsLength ((checks b).m * ((checks b).n / 64 + 1)) || wrong_length bytesLength ((checks b).m * b.w)
+wrong_work b words_len bytes_len =
+    wrong_length words_len ((checks b).m * ((checks b).n / 64 + 1)) || wrong_length bytes_len ((checks b).m * b.w)
 
 -- 11, mark: one above 2 anywhere
 unfoldable pub wrong_marks : List ℕ → Bool
@@ -120,6 +119,6 @@ verdict_as Inconsistent = inconsistent
 abbrev pub report_as : coded-report.Report → Report
 report_as r = record { verdict = verdict_as r.verdict; heard = r.heard; filled = r.filled; left = r.left }
 
-abbrev pub closed_as : Closed → Outcome Report
-closed_as (Reported r) = answered (report_as r)
-closed_as (Refused number) = refused number
+abbrev pub closed_as : Result coded-report.Report Refusal → Outcome Report
+closed_as (Ok r) = answered (report_as r)
+closed_as (Err r) = refused (refusal_number r)

@@ -17,10 +17,10 @@ use Rattle.block.specs.declared.Block.{Block}
 
 -- 1 to 4: of a record and the lengths of its buffers
 abbrev pub block_conditions01 : Block → ℕ → ℕ → Conditions
-block_conditions01 b symbolsLength marksLength =
+block_conditions01 b symbols_len marks_len =
     code_conditions b.code b.w
     ++ (refusal.label, wrong_label b.protocol b.lsc)
-    ∷ (refusal.length, wrong_buffers b symbolsLength marksLength)
+    ∷ (refusal.length, wrong_buffers b symbols_len marks_len)
     ∷ []
 
 -- 7 to 10: of a unit of so many bytes that was read
@@ -46,8 +46,8 @@ heard_by marks i = eqb (get_or marks i 0) heard_mark
 
 -- what open, take and close are defined by is document 01's
 pub record As01 (b : Block) : Type 0 where
-  pub block_refusal_lem : (symbolsLength marksLength : ℕ)
-      → block_refusal b symbolsLength marksLength ≡ first_of (block_conditions01 b symbolsLength marksLength)
+  pub block_refusal_lem : (symbols_len marks_len : ℕ)
+      → block_refusal b symbols_len marks_len ≡ first_of (block_conditions01 b symbols_len marks_len)
   pub unit_refusal_lem : (p : Parts) (len : ℕ) → unit_refusal b p len ≡ first_of (unit_conditions01 b p len)
   pub close_refusal_lem : (symbols marks words bytes : List ℕ)
       → close_refusal b symbols marks words bytes ≡ first_of (close_conditions01 b symbols marks words bytes)

@@ -8,16 +8,19 @@ ghost use Rattle.algebra.specs.Lists.{count};
 ghost use Rattle.algebra.specs.Agreeing.{verdict_of};
 ghost use Rattle.decoder.specs.Outcome.{verdict_by};
 ghost use Rattle.block.specs.Status.{missing_mark, heard_mark, filled_mark};
+ghost use Rattle.ccsds.specs.Refusals.{checked_as};
 ghost use Rattle.closing.specs.Close.{wrong_marks, sent_marks, report_of, agreeing_words, symbols_after, marks_after, close_refusal, close_of, verdict_as, report_as, closed_as};
-ghost use Rattle.closing.specs.inner.Idle.{IdleIn};
 ghost use Rattle.closing.specs.inner.Ready.{Ready};
 ghost use Rattle.ccsds.specs.inner.Layout.{max_n};
 
-use block::{Block, checks, status};
+use block::checks::BlockLayout;
+use block::{Block, status};
 use ccsds::code::Code;
-use ccsds::{refusal, tables};
+use ccsds::refusal::Refusal;
+use ccsds::tables;
+use states::Filled;
 
-#[derive(Clone, Copy)]
+#[derive(Clone, Copy, Debug, PartialEq, Eq)]
 pub enum Verdict {
     Whole,
     Ambiguous,
@@ -25,7 +28,7 @@ pub enum Verdict {
 }
 
 // A verdict, and how many positions are heard, filled and left.
-#[derive(Clone, Copy)]
+#[derive(Clone, Copy, Debug, PartialEq, Eq)]
 pub struct Report {
     pub verdict: Verdict,
     pub heard: usize,
@@ -33,49 +36,35 @@ pub struct Report {
     pub left: usize,
 }
 
-// What close answers: the report, or the number of the refusal.
-#[derive(Clone, Copy)]
-pub enum Closed {
-    Reported(Report),
-    Refused(u8),
-}
-
-// 11, mark. The highest mark is sought without a way out of the loop, which so is compiled to vector instructions.
+// 11, mark. With no way out at the first wrong one, so that it is compiled to vector instructions.
 fn wrong_marks(marks: &[u8]) -> bool
     ensures { result ≡ wrong_marks marks.now }
 {
-    let mut top: u8 = 0;
-    let mut i = 0;
-    while i < marks.len() {
-        let mark = marks[i];
-        if mark > top {
-            top = mark;
-        }
-        i += 1;
-    }
-    status::wrong(top)
+    marks
+        .iter()
+        .fold(false, |wrong, mark| wrong | status::wrong(*mark))
 }
 
-// The number of close's refusal, or 0.
-fn check_close(b: Block, symbols: &[u8], marks: &[u8], work_words: &[u64], work_bytes: &[u8]) -> u8
-    ensures { result ≡ close_refusal b symbols.now marks.now work_words.now work_bytes.now }
+// 1 to 4, 13 or 11: of the record, the lengths of the buffers, and the marks.
+fn check_close(b: Block, symbols: &[u8], marks: &[u8], work_words: &[u64], work_bytes: &[u8]) -> Result<(), Refusal>
+    ensures { checked_as result ≡ close_refusal b symbols.now marks.now work_words.now work_bytes.now }
 {
     let code = Code { number: b.code };
-    let l = tables::layout_of(b.code);
-    let earlier = checks::check_block(b, l, symbols.len(), marks.len());
-    if earlier != 0 {
-        return earlier;
-    }
+    let l = BlockLayout {
+        block: b,
+        layout: tables::layout_of(b.code),
+    };
+    l.check_block(symbols.len(), marks.len())?;
     if work_words.len() != code.work_words() {
-        return refusal::LENGTH;
+        return Err(Refusal::Length);
     }
     if work_bytes.len() != code.parity_bytes(b.w) {
-        return refusal::LENGTH;
+        return Err(Refusal::Length);
     }
     if wrong_marks(marks) {
-        return refusal::MARK;
+        return Err(Refusal::Mark);
     }
-    0
+    Ok(())
 }
 
 // How many positions are heard, and how many are filled.
@@ -92,82 +81,80 @@ fn count_marks(marks: &[u8]) -> Counts
 {
     let mut heard: u16 = 0;
     let mut filled: u16 = 0;
-    let mut i = 0;
-    while i < marks.len() {
-        if marks[i] == status::HEARD {
+    for mark in marks {
+        if *mark == status::HEARD {
             heard += 1;
         }
-        if marks[i] == status::FILLED {
+        if *mark == status::FILLED {
             filled += 1;
         }
-        i += 1;
     }
-    let heard = heard as usize;
-    let filled = filled as usize;
-    Counts { heard, filled }
+    Counts {
+        heard: usize::from(heard),
+        filled: usize::from(filled),
+    }
 }
 
 // The verdict, by whether some codeword agrees and by how many positions are left.
 fn verdict_by(ok: bool, left: usize) -> Verdict
     ensures { verdict_as result ≡ verdict_by ok left }
 {
-    if !ok {
-        return Verdict::Inconsistent;
-    }
-    if left == 0 {
-        return Verdict::Whole;
-    }
-    Verdict::Ambiguous
-}
-
-// The report, from the marks afterwards: idle positions, below k, are not counted.
-fn make_report(b: Block, k: usize, ok: bool, marks: &[u8]) -> Report
-    requires { IdleIn b k (length marks.now) × (length marks.now ≤ max_n) × ((i : ℕ) → i < length marks.now → get_or marks.now i 0 ≤ 2) }
-    ensures { report_as result ≡ report_of b (verdict_by ok (count missing_mark (sent_marks b marks.now))) marks.now }
-{
-    let fill = b.fill;
-    let information = count_marks(&marks[..fill]);
-    let parity = count_marks(&marks[k..]);
-    let heard = information.heard + parity.heard;
-    let filled = information.filled + parity.filled;
-    let left = fill + (marks.len() - k) - heard - filled;
-    let verdict = verdict_by(ok, left);
-    Report {
-        verdict,
-        heard,
-        filled,
-        left,
+    match (ok, left) {
+        (false, _) => Verdict::Inconsistent,
+        (true, 0) => Verdict::Whole,
+        (true, _) => Verdict::Ambiguous,
     }
 }
 
-// The symbols and marks of a block after the verdict, of k information positions; false where no codeword agrees with the heard symbols.
-fn decode(
-    b: Block,
-    k: usize,
-    symbols: &mut [u8],
-    marks: &mut [u8],
-    states: &mut [u8],
-    work_words: &mut [u64],
-    work_bytes: &mut [u8],
-) -> bool
-    requires ready { Ready b (length symbols.old) (length marks.old) (length work_words.old) (length work_bytes.old) }
-    requires idle_in { IdleIn b k (length marks.old) × (length states.old ≡ length marks.old) }
-    ensures symbols_after { symbols.new ≡ symbols_after b symbols.old marks.old }
-    ensures marks_after { marks.new ≡ marks_after b symbols.old marks.old }
-    ensures verdict { verdict_by result (count missing_mark (sent_marks b marks.new)) ≡ verdict_of (agreeing_words b symbols.old marks.old) }
-{
-    states::set_part(symbols, b.fill * b.w, k * b.w, 0);
-    states::put_states(b, k, marks, states);
-    let ok = decoder::solve::solve(b.code, b.w, b.fill, symbols, states, work_words, work_bytes);
-    states::set_marks(b, k, states, marks);
-    ok
-}
+impl Filled {
+    // The report, from the marks afterwards: idle positions are not counted.
+    fn make_report(self, ok: bool, marks: &[u8]) -> Report
+        requires within { self.k ≤ length marks.now }
+        requires marks_right { (length marks.now ≤ max_n) × ((i : ℕ) → i < length marks.now → get_or marks.now i 0 ≤ 2) }
+        ensures { report_as result ≡ report_of self.block (verdict_by ok (count missing_mark (sent_marks self.block marks.now))) marks.now }
+    {
+        let fill = self.block.fill;
+        let information = count_marks(&marks[..fill]);
+        let parity = count_marks(&marks[self.k..]);
+        let heard = information.heard + parity.heard;
+        let filled = information.filled + parity.filled;
+        let left = fill + (marks.len() - self.k) - heard - filled;
+        let verdict = verdict_by(ok, left);
+        Report {
+            verdict,
+            heard,
+            filled,
+            left,
+        }
+    }
 
-// What the decoder is told of each position, before anything is told.
-fn blank() -> [u8; Code::MAX_N]
-    ensures { length result ≡ max_n }
-{
-    [0u8; Code::MAX_N]
+    // The symbols and marks of a block after the verdict; false where no codeword agrees with the heard symbols.
+    fn decode(
+        self,
+        symbols: &mut [u8],
+        marks: &mut [u8],
+        states: &mut [u8],
+        work_words: &mut [u64],
+        work_bytes: &mut [u8],
+    ) -> bool
+        requires ready { Ready self.block (length symbols.old) (length marks.old) (length work_words.old) (length work_bytes.old) }
+        requires within { self.k ≤ length marks.old }
+        requires states_len { length states.old ≡ length marks.old }
+        ensures symbols_after { symbols.new ≡ symbols_after self.block symbols.old marks.old }
+        ensures marks_after { marks.new ≡ marks_after self.block symbols.old marks.old }
+        ensures verdict { verdict_by result (count missing_mark (sent_marks self.block marks.new)) ≡ verdict_of (agreeing_words self.block symbols.old marks.old) }
+    {
+        let b = self.block;
+        let from = b.fill * b.w;
+        let to = self.k * b.w;
+        symbols[from..to].fill(0);
+        self.put_states(marks, states);
+        let ok = decoder::solve::solve(
+            b.code, b.w, b.fill, symbols, states, work_words, work_bytes,
+        );
+        self.set_marks(states, marks);
+        ok
+    }
 }
 
 // Closes the block: the verdict with its counts, or a refusal, which changes nothing. The work buffers may hold anything.
@@ -177,31 +164,23 @@ pub fn close(
     marks: &mut [u8],
     work_words: &mut [u64],
     work_bytes: &mut [u8],
-) -> Closed
+) -> Result<Report, Refusal>
     ensures answer { closed_as result ≡ (close_of b symbols.old marks.old work_words.old work_bytes.old).answer }
     ensures symbols { symbols.new ≡ (close_of b symbols.old marks.old work_words.old work_bytes.old).symbols }
     ensures marks { marks.new ≡ (close_of b symbols.old marks.old work_words.old work_bytes.old).marks }
     ensures work_words { work_words.new ≡ (close_of b symbols.old marks.old work_words.old work_bytes.old).work_words }
     ensures work_bytes { work_bytes.new ≡ (close_of b symbols.old marks.old work_words.old work_bytes.old).work_bytes }
 {
-    let refusal = check_close(b, symbols, marks, work_words, work_bytes);
-    if refusal != 0 {
-        return Closed::Refused(refusal);
-    }
+    check_close(b, symbols, marks, work_words, work_bytes)?;
     let code = Code { number: b.code };
-    let k = code.k();
+    let filled = Filled {
+        block: b,
+        k: code.k(),
+    };
     let n = marks.len();
-    let mut states = blank();
-    let ok = decode(
-        b,
-        k,
-        symbols,
-        marks,
-        &mut states[..n],
-        work_words,
-        work_bytes,
-    );
-    buffers::clear_words(work_words);
-    buffers::clear(work_bytes);
-    Closed::Reported(make_report(b, k, ok, marks))
+    let mut states = [0u8; Code::MAX_N];
+    let ok = filled.decode(symbols, marks, &mut states[..n], work_words, work_bytes);
+    work_words.fill(0);
+    work_bytes.fill(0);
+    Ok(filled.make_report(ok, marks))
 }

@@ -1,8 +1,8 @@
 // What the decoder is told of each position of a block, and the marks from what it tells.
 ghost use Rattle.std.specs.Prelude.{◌≡◌, cond, eqb, ◌≤◌, length};
+ghost use Rattle.ccsds.specs.Tables.{code_of};
 ghost use Rattle.block.specs.Status.{status_by};
 ghost use Rattle.closing.specs.Close.{is_known, mark_after};
-ghost use Rattle.closing.specs.inner.Idle.{PartSet, IdleIn};
 ghost use Rattle.closing.specs.inner.States.{StatesAre, MarksAre};
 
 use block::status::{FILLED, HEARD, MISSING, Status};
@@ -19,31 +19,6 @@ fn state(mark: u8) -> u8
     }
 }
 
-// Sets each byte of a buffer from index `from` to before `to`.
-pub fn set_part(buf: &mut [u8], from: usize, to: usize, value: u8)
-    requires { (from ≤ to) × (to ≤ length buf.old) }
-    ensures { PartSet from to value buf.old buf.new }
-{
-    let mut i = from;
-    while i < to {
-        buf[i] = value;
-        i += 1;
-    }
-}
-
-// What the decoder is told of each position: idle ones are known. Of k information positions.
-pub fn put_states(b: Block, k: usize, marks: &[u8], states: &mut [u8])
-    requires { IdleIn b k (length marks.now) × (length states.old ≡ length marks.now) }
-    ensures { StatesAre b marks.now states.new }
-{
-    let mut i = 0;
-    while i < marks.len() {
-        states[i] = state(marks[i]);
-        i += 1;
-    }
-    set_part(states, b.fill, k, KNOWN);
-}
-
 // The mark after a verdict, from the mark before it and from what the decoder told.
 fn after(mark: u8, state: u8) -> u8
     ensures { result ≡ mark_after (status_by mark) (eqb state 2) }
@@ -54,15 +29,37 @@ fn after(mark: u8, state: u8) -> u8
     }
 }
 
-// The marks after a verdict. Of k information positions.
-pub fn set_marks(b: Block, k: usize, states: &[u8], marks: &mut [u8])
-    requires { IdleIn b k (length marks.old) × (length states.now ≡ length marks.old) }
-    ensures { MarksAre b marks.old states.now marks.new }
-{
-    let mut i = 0;
-    while i < marks.len() {
-        marks[i] = after(marks[i], states[i]);
-        i += 1;
+// A block's record with its code's k: the positions from its fill to before k are idle.
+#[derive(Clone, Copy)]
+pub struct Filled {
+    pub block: Block,
+    pub k: usize,
+    pub ghost information: { k ≡ (code_of block.code).k },
+    pub ghost fill: { block.fill ≤ k },
+}
+
+impl Filled {
+    // What the decoder is told of each position: idle ones are known.
+    pub fn put_states(self, marks: &[u8], states: &mut [u8])
+        requires within { self.k ≤ length marks.now }
+        requires states_len { length states.old ≡ length marks.now }
+        ensures { StatesAre self.block marks.now states.new }
+    {
+        for (i, mark) in marks.iter().enumerate() {
+            states[i] = state(*mark);
+        }
+        states[self.block.fill..self.k].fill(KNOWN);
     }
-    set_part(marks, b.fill, k, MISSING);
+
+    // The marks after a verdict.
+    pub fn set_marks(self, states: &[u8], marks: &mut [u8])
+        requires within { self.k ≤ length marks.old }
+        requires states_len { length states.now ≡ length marks.old }
+        ensures { MarksAre self.block marks.old states.now marks.new }
+    {
+        for (i, mark) in marks.iter_mut().enumerate() {
+            *mark = after(*mark, states[i]);
+        }
+        marks[self.block.fill..self.k].fill(MISSING);
+    }
 }

@@ -4,7 +4,15 @@
 
 use ccsds::code::Code;
 use encoder::encode::Encoded;
+use report::Digest;
 use std::io;
+
+const CODES: [Code; 6] = [Code::C1, Code::C2, Code::C4, Code::C5, Code::C7, Code::C8];
+
+// The information and the parity of the largest block.
+const INFORMATION: usize = Code::C2_K * Code::MAX_WIDTH;
+
+const PARITY: usize = Code::C2_M * Code::MAX_WIDTH;
 
 // Encodes a pattern, and prints a line. The parity buffer holds another pattern before.
 fn encode(
@@ -17,169 +25,68 @@ fn encode(
 ) -> io::Result<()> {
     report::fill(info, 1);
     report::fill(parity, 2);
-    let answer = encoder::encode::encode(code, w, fill, info, parity);
-    report::print_count(rt, b"C", code)?;
-    report::print_count(rt, b" W ", w)?;
-    report::print_count(rt, b" fill ", fill)?;
-    match answer {
-        Encoded::Done => report::print(rt, b" parity")?,
-        Encoded::Refused(number) => {
-            report::print(rt, b" ")?;
-            report::print_refusal(rt, number)?;
-        }
+    print!(rt; "C{code} W {w} fill {fill} ")?;
+    match encoder::encode::encode(code, w, fill, info, parity) {
+        Encoded::Done => print!(rt; "parity")?,
+        Encoded::Refused(number) => print!(rt; "refused {number}")?,
     }
-    report::print_buffer(rt, parity, 8)
+    println!(rt; "{}", Digest::of(parity, 8))
 }
 
 // The same with the parts of the buffers that code, width and fill ask for.
 fn run(
     rt: &impl Print,
-    number: usize,
+    code: Code,
     w: usize,
     fill: usize,
     info: &mut [u8],
     parity: &mut [u8],
 ) -> io::Result<()> {
-    let code = Code { number };
-    let n = code.information_bytes(w, fill);
-    let m = code.parity_bytes(w);
-    if n > info.len() {
+    let Some(info) = info.get_mut(..code.information_bytes(w, fill)) else {
         return Ok(());
-    }
-    if m > parity.len() {
+    };
+    let Some(parity) = parity.get_mut(..code.parity_bytes(w)) else {
         return Ok(());
-    }
-    encode(rt, number, w, fill, &mut info[0..n], &mut parity[0..m])
+    };
+    encode(rt, code.number, w, fill, info, parity)
 }
 
-// A full block.
-fn full(
-    rt: &impl Print,
-    number: usize,
-    w: usize,
-    info: &mut [u8],
-    parity: &mut [u8],
-) -> io::Result<()> {
-    let code = Code { number };
-    run(rt, number, w, code.k(), info, parity)
-}
-
-// One width for the two codes of one rate.
-fn both(
-    rt: &impl Print,
-    small: usize,
-    large: usize,
-    w: usize,
-    info: &mut [u8],
-    parity: &mut [u8],
-) -> io::Result<()> {
-    full(rt, small, w, info, parity)?;
-    full(rt, large, w, info, parity)
-}
-
-// One width for all codes.
-fn all(rt: &impl Print, w: usize, info: &mut [u8], parity: &mut [u8]) -> io::Result<()> {
-    both(rt, 1, 2, w, info, parity)?;
-    both(rt, 4, 5, w, info, parity)?;
-    both(rt, 7, 8, w, info, parity)
-}
-
-// The fills of a code's short blocks: at their borders, in and about a table row, and past half of all. The first tests fail for every
-// code: they are for the bounds.
-fn fill_of(number: usize, i: usize) -> usize {
-    let code = Code { number };
+// The fills of a code's short blocks: at their borders, in and about a table row, and past half of all. Nothing here bounds the code's
+// numbers; for those of a code nothing saturates.
+fn short_fills(code: Code) -> [usize; 8] {
     let k = code.k();
     let q = code.q();
-    if q == 0 {
-        return 0;
-    }
-    if q > k {
-        return 0;
-    }
-    if k > Code::C2_K {
-        return 0;
-    }
-    match i {
-        0 => 0,
-        1 => 1,
-        2 => q - 1,
-        3 => q,
-        4 => q + 1,
-        5 => k / 2 + 3,
-        6 => k - 1,
-        _ => k + 1,
-    }
-}
-
-// Short blocks of a code.
-fn short(
-    rt: &impl Print,
-    number: usize,
-    w: usize,
-    info: &mut [u8],
-    parity: &mut [u8],
-) -> io::Result<()> {
-    let mut i = 0;
-    while i < 8 {
-        run(rt, number, w, fill_of(number, i), info, parity)?;
-        i += 1;
-    }
-    Ok(())
-}
-
-// Short blocks of the two codes of one rate.
-fn both_short(
-    rt: &impl Print,
-    small: usize,
-    large: usize,
-    w: usize,
-    info: &mut [u8],
-    parity: &mut [u8],
-) -> io::Result<()> {
-    short(rt, small, w, info, parity)?;
-    short(rt, large, w, info, parity)
-}
-
-// Short blocks of all codes.
-fn all_short(rt: &impl Print, w: usize, info: &mut [u8], parity: &mut [u8]) -> io::Result<()> {
-    both_short(rt, 1, 2, w, info, parity)?;
-    both_short(rt, 4, 5, w, info, parity)?;
-    both_short(rt, 7, 8, w, info, parity)
-}
-
-const INFORMATION: usize = Code::C2_K * Code::MAX_WIDTH;
-
-const PARITY: usize = Code::C2_M * Code::MAX_WIDTH;
-
-// The information and the parity of the largest block.
-fn information() -> [u8; INFORMATION] {
-    [0; INFORMATION]
-}
-
-fn parity_symbols() -> [u8; PARITY] {
-    [0; PARITY]
-}
-
-// Numbers that are no code's.
-fn no_codes(rt: &impl Print, info: &mut [u8], parity: &mut [u8]) -> io::Result<()> {
-    run(rt, 0, 1, Code::C1_K, info, parity)?;
-    run(rt, 3, 1, Code::C1_K, info, parity)?;
-    run(rt, 6, 1, Code::C1_K, info, parity)?;
-    run(rt, 9, 1, Code::C1_K, info, parity)
+    [
+        0,
+        1,
+        q.saturating_sub(1),
+        q,
+        q.saturating_add(1),
+        k / 2 + 3,
+        k.saturating_sub(1),
+        k.saturating_add(1),
+    ]
 }
 
 fn main(rt: HostRuntime) -> io::Result<()> {
-    let mut info = information();
-    let mut parity = parity_symbols();
-    all(&rt, 1, &mut info, &mut parity)?;
-    all(&rt, 2, &mut info, &mut parity)?;
-    all(&rt, 3, &mut info, &mut parity)?;
-    all(&rt, 16, &mut info, &mut parity)?;
-    all(&rt, 333, &mut info, &mut parity)?;
-    all(&rt, 1023, &mut info, &mut parity)?;
-    all(&rt, 1024, &mut info, &mut parity)?;
-    all(&rt, 1025, &mut info, &mut parity)?;
-    no_codes(&rt, &mut info, &mut parity)?;
-    all_short(&rt, 5, &mut info, &mut parity)?;
-    all_short(&rt, 100, &mut info, &mut parity)
+    let mut info = [0; INFORMATION];
+    let mut parity = [0; PARITY];
+    for w in [1, 2, 3, 16, 333, 1023, 1024, 1025] {
+        for code in CODES {
+            run(&rt, code, w, code.k(), &mut info, &mut parity)?;
+        }
+    }
+    // Numbers that are no code's.
+    for number in [0, 3, 6, 9] {
+        let none = Code { number };
+        run(&rt, none, 1, Code::C1_K, &mut info, &mut parity)?;
+    }
+    for w in [5, 100] {
+        for code in CODES {
+            for fill in short_fills(code) {
+                run(&rt, code, w, fill, &mut info, &mut parity)?;
+            }
+        }
+    }
+    Ok(())
 }

@@ -8,7 +8,7 @@ use Rattle.ccsds.specs.declared.refusal.Refusal.{Refusal}
 
 -- the number of the refusal, or 0: of a code's number, a width, a fill, and the lengths of the information and the parity buffer
 unfoldable pub encode_refusal : ℕ → ℕ → ℕ → ℕ → ℕ → ℕ
-encode_refusal number w fill infoLength parityLength = first_of (encoder_conditions number w fill infoLength parityLength)
+encode_refusal number w fill info_len parity_len = first_of (encoder_conditions number w fill info_len parity_len)
 
 -- the parity bytes of the information symbols u that are sent
 abbrev pub parity_of : Params → ℕ → ℕ → List ℕ → List ℕ

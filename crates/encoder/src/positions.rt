@@ -8,7 +8,7 @@ ghost use Rattle.encoder.specs.inner.Positions.{entered, row_entered, Classes, W
 ghost use Rattle.symbol_sums.specs.Gather.{max_positions};
 
 use ccsds::tables;
-use ccsds::tables::{Layout, MAX_ADDRESSES, MAX_DEGREE};
+use ccsds::tables::{CodeLayout, Layout, MAX_ADDRESSES, MAX_DEGREE};
 use symbol_sums::MAX_POSITIONS;
 
 // The most classes of a code.
@@ -20,7 +20,7 @@ const MAX_ENTRIES: usize = MAX_CLASSES * MAX_POSITIONS;
 // The table by class.
 #[derive(Drop)]
 pub struct ClassTable {
-    // Where the positions of each entry start, and where they end.
+    // Where the positions of each entry start, and where they end: two arrays, of which vector instructions take eight places at a time.
     pub starts: [u16; MAX_ENTRIES],
     pub ends: [u16; MAX_ENTRIES],
     // How many entries each class has.
@@ -43,6 +43,62 @@ impl ClassTable {
             whole: [0; MAX_CLASSES],
             addresses: [0; MAX_ADDRESSES],
         }
+    }
+
+    // Enters address y, which stands at place i of a table row, into its class.
+    fn enter(&mut self, q: usize, a: usize, row: usize, i: usize, y: usize)
+        requires a_nonzero { (0 < a) × (a ≤ max_classes) × (row * q + q ≤ max_n) × (y / a ≤ q) × (y < 65536) }
+        requires row_lt_max_rows { (row < max_rows) × (i < max_degree) }
+        ensures { self.new ≡ entered q a row i y self.old }
+    {
+        let (d, r) = divided(y, a);
+        self.addresses[row * MAX_DEGREE + i] = y as u16;
+        let n = usize::from(self.counts[r]);
+        if n >= MAX_POSITIONS {
+            return;
+        }
+        let end = row * q + q;
+        self.starts[r * MAX_POSITIONS + n] = (end - d) as u16;
+        self.ends[r * MAX_POSITIONS + n] = end as u16;
+        self.counts[r] = (n + 1) as u16;
+    }
+
+    // Those of one table row.
+    fn enter_row(&mut self, s: Shape, flat: &[u16; MAX_ADDRESSES], row: usize)
+        requires shaped { Shaped s × FrontIs (joined (code_of s.number).rows) flat.now }
+        requires row_in_bounds { row < length (code_of s.number).rows }
+        ensures { self.new ≡ row_entered (code_of s.number) row (length (slice_index_or (code_of s.number).rows row [])) self.old }
+    {
+        let l = s.layout;
+        let code = CodeLayout {
+            number: s.number,
+            layout: l,
+        };
+        for (i, y) in code.row(flat, row).iter().enumerate() {
+            self.enter(l.q, l.a, row, i, usize::from(*y));
+        }
+    }
+
+    // Enters the table rows that have a position that is sent.
+    fn enter_rows(&mut self, s: Shape)
+        requires shaped { Shaped s × (self.old ≡ no_entries) }
+        ensures { Classes (code_of s.number) s.rows self.new }
+    {
+        let mut flat = [0u16; MAX_ADDRESSES];
+        tables::put_addresses(s.number, &mut flat);
+        for row in 0..s.rows {
+            self.enter_row(s, &flat, row);
+        }
+    }
+
+    // Notes how many entries of class r come before the last table row: asked once, and not for each check row.
+    fn count_whole(&mut self, s: Shape, r: usize)
+        requires { Counted s r self.old × (r < (code_of s.number).a) }
+        ensures { Counted s (r + 1) self.new }
+    {
+        let n = usize::from(self.counts[r]);
+        let e = before_last_row(s.fill, &self.ends, r, n);
+        self.whole[r] = e as u16;
     }
 }
 
@@ -112,6 +168,7 @@ impl CheckRows<'_> {
 
     // All positions of check row j that are sent, at the front of xs; answers how many. The last two, or the last where j is 0, are those of the
     // parity symbols.
+    // A count and no slice: RowOf speaks of an array and a count, and peeling takes a position out of the array.
     pub fn of_row(&self, j: usize, xs: &mut [u16; MAX_POSITIONS]) -> usize
         requires j_bound { j < (code_of self.now.shape.number).m }
         ensures { RowOf (checks self.now.shape) j result xs.new }
@@ -150,49 +207,6 @@ fn divided(y: usize, a: usize) -> (usize, usize)
     }
 }
 
-// Enters address y, which stands at place i of a table row, into its class.
-fn enter(q: usize, a: usize, row: usize, i: usize, y: usize, table: &mut ClassTable)
-    requires a_nonzero { (0 < a) × (a ≤ max_classes) × (row * q + q ≤ max_n) × (y / a ≤ q) × (y < 65536) }
-    requires row_lt_max_rows { (row < max_rows) × (i < max_degree) }
-    ensures { table.new ≡ entered q a row i y table.old }
-{
-    let (d, r) = divided(y, a);
-    table.addresses[row * MAX_DEGREE + i] = y as u16;
-    let n = usize::from(table.counts[r]);
-    if n >= MAX_POSITIONS {
-        return;
-    }
-    let end = row * q + q;
-    table.starts[r * MAX_POSITIONS + n] = (end - d) as u16;
-    table.ends[r * MAX_POSITIONS + n] = end as u16;
-    table.counts[r] = (n + 1) as u16;
-}
-
-// Those of one table row.
-fn enter_row(s: Shape, flat: &[u16; MAX_ADDRESSES], row: usize, table: &mut ClassTable)
-    requires shaped { Shaped s × FrontIs (joined (code_of s.number).rows) flat.now }
-    requires row_in_bounds { row < length (code_of s.number).rows }
-    ensures { table.new ≡ row_entered (code_of s.number) row (length (slice_index_or (code_of s.number).rows row [])) table.old }
-{
-    let l = s.layout;
-    for i in 0..tables::row_degree(s.number, l, row) {
-        let y = tables::address(s.number, l, flat, row, i);
-        enter(l.q, l.a, row, i, y, table);
-    }
-}
-
-// Enters the table rows that have a position that is sent.
-fn enter_rows(s: Shape, table: &mut ClassTable)
-    requires shaped { Shaped s × (table.old ≡ no_entries) }
-    ensures { Classes (code_of s.number) s.rows table.new }
-{
-    let mut flat = [0u16; MAX_ADDRESSES];
-    tables::put_addresses(s.number, &mut flat);
-    for row in 0..s.rows {
-        enter_row(s, &flat, row, table);
-    }
-}
-
 // How many of the first n entries of class r come before the last table row, if that goes beyond fill.
 fn before_last_row(fill: usize, ends: &[u16; MAX_ENTRIES], r: usize, n: usize) -> usize
     requires { (r < max_classes) × (n ≤ max_positions) }
@@ -204,16 +218,6 @@ fn before_last_row(fill: usize, ends: &[u16; MAX_ENTRIES], r: usize, n: usize) -
         }
     }
     0
-}
-
-// The same of all entries of class r, into the table: asked once, and not for each check row.
-fn count_whole(s: Shape, r: usize, table: &mut ClassTable)
-    requires { Counted s r table.old × (r < (code_of s.number).a) }
-    ensures { Counted s (r + 1) table.new }
-{
-    let n = usize::from(table.counts[r]);
-    let e = before_last_row(s.fill, &table.ends, r, n);
-    table.whole[r] = e as u16;
 }
 
 // Lays out the table of a code, as far as positions are sent: the first `fill` information symbols, and all parity symbols. Answers the block's shape.
@@ -231,9 +235,9 @@ pub fn lay(number: usize, w: usize, fill: usize, table: &mut ClassTable) -> Shap
         fill,
         rows: rows_to(fill, layout.q),
     };
-    enter_rows(s, table);
+    table.enter_rows(s);
     for r in 0..layout.a {
-        count_whole(s, r, table);
+        table.count_whole(s, r);
     }
     s
 }

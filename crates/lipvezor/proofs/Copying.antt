@@ -21,13 +21,13 @@ use Rattle.sending.proofs.ShowLaws.{Showable, showable, in_information, in_parit
 use Rattle.lipvezor.specs.Sending.{copy_refusal}
 
 -- show is not refused, and the output has W bytes
-pub copyable : (number w fill infoLength parityLength lwc outLength : ℕ) → copy_refusal number w fill infoLength parityLength lwc outLength ≡ 0
-    → (show_refusal number w fill infoLength parityLength lwc ≡ 0) × (outLength ≡ w)
+pub copyable : (number w fill info_len parity_len lwc out_len : ℕ) → copy_refusal number w fill info_len parity_len lwc out_len ≡ 0
+    → (show_refusal number w fill info_len parity_len lwc ≡ 0) × (out_len ≡ w)
 unfolding copy_refusal show_refusal
-copyable number w fill infoLength parityLength lwc outLength e =
-    let cs = encoder_conditions number w fill infoLength parityLength in
+copyable number w fill info_len parity_len lwc out_len e =
+    let cs = encoder_conditions number w fill info_len parity_len in
     let at : Conditions = (refusal.position, wrong_position (n_of (code_of number)) lwc) ∷ (refusal.idle, idle_lwc (code_of number).k fill lwc) ∷ [] in
-    let a = parts_none cs ((refusal.length, wrong_length outLength w) ∷ at) (sym (in_order _ refl) ∙ e) in
+    let a = parts_none cs ((refusal.length, wrong_length out_len w) ∷ at) (sym (in_order _ refl) ∙ e) in
     let b = first-none refusal.length _ at a.1 in
     (part-passed cs at refl refl 0 (sym (in_order cs refl ∙ a.0)) refl ∙ b.1, length_right _ _ b.0)
 

@@ -35,10 +35,10 @@ encoding b info parity =
 -- The number of show's refusal, or 0: where 1, 2, 13, 4, 9 or 14 would apply show has the empty part; here that is refused, and an output that
 -- is not W bytes is 4.
 unfoldable pub copy_refusal : ℕ → ℕ → ℕ → ℕ → ℕ → ℕ → ℕ → ℕ
-copy_refusal number w fill infoLength parityLength lwc outLength =
+copy_refusal number w fill info_len parity_len lwc out_len =
     first_of (
-    encoder_conditions number w fill infoLength parityLength
-    ++ (refusal.length, wrong_length outLength w)
+    encoder_conditions number w fill info_len parity_len
+    ++ (refusal.length, wrong_length out_len w)
     ∷ (refusal.position, wrong_position (n_of (code_of number)) lwc)
     ∷ (refusal.idle, idle_lwc (code_of number).k fill lwc)
     ∷ []

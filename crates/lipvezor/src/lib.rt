@@ -7,27 +7,23 @@
 ghost use Rattle.std.specs.Prelude.{◌≡◌, ◌+◌, ◌*◌, ◌/◌};
 ghost use Rattle.ccsds.specs.Codes.{n_of};
 ghost use Rattle.ccsds.specs.Tables.{code_of};
-ghost use Rattle.ccsds.specs.Refusals.{bytes_of, information_bytes};
+ghost use Rattle.ccsds.specs.Refusals.{bytes_of, information_bytes, checked_as, outcome_of};
 ghost use Rattle.ccsds.specs.Units.{unit_bytes};
 ghost use Rattle.unit_reader.specs.Reader.{read_unit};
 ghost use Rattle.tiles.specs.Pack.{rows_told};
-ghost use Rattle.block.specs.Open.{open_of};
-ghost use Rattle.block.specs.Take.{take_of};
-ghost use Rattle.closing.specs.Close.{close_of, verdict_as};
+ghost use Rattle.block.specs.inner.Steps.{parts_as};
+ghost use Rattle.block.specs.Take.{result_as};
+ghost use Rattle.closing.specs.Close.{verdict_as, report_as};
 ghost use Rattle.lipvezor.specs.Numbers.{version, block_of, number_of, record_after, parts_values, result_values, verdict_number, report_values};
-ghost use Rattle.lipvezor.specs.Sending.{packing, encoding, copy_refusal, showing, writing};
+ghost use Rattle.lipvezor.specs.Sending.{packing, copy_refusal, showing, writing};
 ghost use Rattle.lipvezor.specs.Lent.{codeword_after, buffers_after, work_after, encoding_lent, opening, taking, closing};
 
 use block::Block;
-use block::open::Opened;
 use block::take::Taken;
 use ccsds::code::Code;
-use ccsds::refusal;
-use closing::{Closed, Verdict};
-use encoder::encode::Encoded;
-use sending::writer::Written;
-use tiles::pack::Packed;
-use unit_reader::{Extension, UnitRead};
+use ccsds::refusal::Refusal;
+use closing::{Report, Verdict};
+use unit_reader::UnitParts;
 
 // A block's buffers on board: the information symbols, and the parity symbols that encode makes of them. In C, lipvezor_codeword.
 #[repr(C)]
@@ -158,7 +154,8 @@ pub extern "C" fn lipvezor_rows_needed(w: usize, lengths: &[usize]) -> usize
     tiles::lengths::rows_needed(w, lengths)
 }
 
-// The block of a record.
+// The block of a record. No From: neither type is this crate's.
+#[tactic(auto, unfolding(crate::specs::Numbers::block_of))]
 fn block_of(numbers: &[usize; 5]) -> Block
     ensures { result ≡ block_of numbers.now }
 {
@@ -168,6 +165,16 @@ fn block_of(numbers: &[usize; 5]) -> Block
         protocol: numbers[2],
         lsc: numbers[3],
         fill: numbers[4],
+    }
+}
+
+// What a call answers: 0, or the number of its refusal.
+fn number_of<T>(answer: &Result<T, Refusal>) -> u8
+    ensures { result ≡ number_of (outcome_of answer.now) }
+{
+    match answer {
+        Ok(_) => 0,
+        Err(refusal) => refusal.number(),
     }
 }
 
@@ -183,22 +190,7 @@ pub extern "C" fn lipvezor_pack(
     ensures output { out.new ≡ (packing (block_of numbers.now) joined.now lengths.now out.old).output }
 {
     let b = block_of(numbers);
-    match tiles::pack::pack(b.code, b.w, b.fill, joined, lengths, out) {
-        Packed::Done => 0,
-        Packed::Refused(number) => number,
-    }
-}
-
-// Encode on plain slices.
-fn encode_in(numbers: &[usize; 5], info: &[u8], parity: &mut [u8]) -> u8
-    ensures answer { result ≡ number_of (encoding (block_of numbers.now) info.now parity.old).answer }
-    ensures parity { parity.new ≡ (encoding (block_of numbers.now) info.now parity.old).output }
-{
-    let b = block_of(numbers);
-    match encoder::encode::encode(b.code, b.w, b.fill, info, parity) {
-        Encoded::Done => 0,
-        Encoded::Refused(number) => number,
-    }
+    number_of(&tiles::pack::pack(b.code, b.w, b.fill, joined, lengths, out))
 }
 
 // Encode.
@@ -207,74 +199,64 @@ pub extern "C" fn lipvezor_encode(numbers: &[usize; 5], codeword: &mut Codeword)
     ensures answer { result ≡ number_of (encoding_lent numbers.now codeword.old).answer }
     ensures codeword { codeword.new ≡ codeword_after codeword.old (encoding_lent numbers.now codeword.old).output }
 {
-    encode_in(numbers, codeword.information, &mut *codeword.parity)
+    let b = block_of(numbers);
+    number_of(&encoder::encode::encode(
+        b.code,
+        b.w,
+        b.fill,
+        codeword.information,
+        &mut *codeword.parity,
+    ))
 }
 
-// The number of show's refusal with an output of so many bytes, or 0.
+// Show's refusals, and an output that is not W bytes.
 fn check_copy(
-    code: usize,
-    w: usize,
-    fill: usize,
-    info_length: usize,
-    parity_length: usize,
+    b: Block,
+    info_len: usize,
+    parity_len: usize,
     lwc: usize,
-    out_length: usize,
-) -> u8
-    ensures { result ≡ copy_refusal code w fill info_length parity_length lwc out_length }
+    out_len: usize,
+) -> Result<(), Refusal>
+    ensures { checked_as result ≡ copy_refusal b.code b.w b.fill info_len parity_len lwc out_len }
 {
-    let earlier = ccsds::checks::check_encoder(code, w, fill, info_length, parity_length);
-    if earlier != 0 {
-        return earlier;
+    ccsds::checks::check_encoder(b.code, b.w, b.fill, info_len, parity_len)?;
+    if out_len != b.w {
+        return Err(Refusal::Length);
     }
-    if out_length != w {
-        return refusal::LENGTH;
-    }
-    let c = Code { number: code };
+    let c = Code { number: b.code };
     if c.wrong_position(lwc) {
-        return refusal::POSITION;
+        return Err(Refusal::Position);
     }
-    if ccsds::checks::idle_lwc(c.k(), fill, lwc) {
-        return refusal::IDLE;
+    if ccsds::checks::idle_lwc(c.k(), b.fill, lwc) {
+        return Err(Refusal::Idle);
     }
-    0
+    Ok(())
 }
 
-// Show on plain slices.
-fn show_in<'a, 'b, 'c>(
-    numbers: &'c [usize; 5],
+// Show, copied to an output of W bytes.
+fn copy_shown<'a, 'b>(
+    b: Block,
     info: &'a [u8],
     parity: &'a [u8],
     lwc: usize,
     out: &'b mut [u8],
-) -> u8
-    ensures answer { result ≡ number_of (showing (block_of numbers.now) info.entry parity.entry lwc out.old).answer }
-    ensures output { out.new ≡ (showing (block_of numbers.now) info.entry parity.entry lwc out.old).output }
+) -> Result<(), Refusal>
+    ensures answer { outcome_of result ≡ (showing b info.entry parity.entry lwc out.old).answer }
+    ensures output { out.new ≡ (showing b info.entry parity.entry lwc out.old).output }
 {
-    let b = block_of(numbers);
-    let number = check_copy(
-        b.code,
-        b.w,
-        b.fill,
-        info.len(),
-        parity.len(),
-        lwc,
-        out.len(),
-    );
-    if number != 0 {
-        return number;
-    }
+    check_copy(b, info.len(), parity.len(), lwc, out.len())?;
     let shown = sending::show::show(b.code, b.w, b.fill, info, parity, lwc);
     buffers::put_from(out, 0, shown, 0, shown.len());
-    0
+    Ok(())
 }
 
-// Show, copied to an output of W bytes.
+// Show, copied to an output.
 #[unsafe(no_mangle)]
 pub extern "C" fn lipvezor_show(numbers: &[usize; 5], sent: &Sent, lwc: usize, out: &mut [u8]) -> u8
     ensures answer { result ≡ number_of (showing (block_of numbers.now) sent.now.information sent.now.parity lwc out.old).answer }
     ensures output { out.new ≡ (showing (block_of numbers.now) sent.now.information sent.now.parity lwc out.old).output }
 {
-    show_in(numbers, sent.information, sent.parity, lwc, out)
+    number_of(&copy_shown(block_of(numbers), sent.information, sent.parity, lwc, out))
 }
 
 // Write.
@@ -289,9 +271,20 @@ pub extern "C" fn lipvezor_write(
     ensures output { out.new ≡ (writing (block_of numbers.now) lwc symbol.now out.old).output }
 {
     let b = block_of(numbers);
-    match sending::writer::write(b.code, b.w, b.protocol, b.lsc, b.fill, lwc, symbol, out) {
-        Written::Done => 0,
-        Written::Refused(number) => number,
+    number_of(&sending::writer::write(
+        b.code, b.w, b.protocol, b.lsc, b.fill, lwc, symbol, out,
+    ))
+}
+
+// A unit's parts as the values of their record.
+fn parts_values(p: UnitParts) -> [usize; 10]
+    ensures { result ≡ parts_values (parts_as p) }
+{
+    match p.coding {
+        Some(q) => [
+            p.protocol, p.count, p.lwc, p.lsc, p.symbol, 1, q.w, q.k, q.n, q.seed,
+        ],
+        None => [p.protocol, p.count, p.lwc, p.lsc, p.symbol, 0, 0, 0, 0, 0],
     }
 }
 
@@ -302,35 +295,11 @@ pub extern "C" fn lipvezor_read(unit: &[u8], parts: &mut [usize; 10]) -> u8
     ensures parts { parts.new ≡ record_after parts_values parts.old (read_unit unit.now) }
 {
     match unit_reader::read_unit(unit) {
-        UnitRead::Refused(number) => number,
-        UnitRead::Read(p) => {
-            let x = p.coding;
-            match x {
-                Extension::Coding(q) => {
-                    *parts = [
-                        p.protocol, p.count, p.lwc, p.lsc, p.symbol, 1, q.w, q.k, q.n, q.seed,
-                    ];
-                    0
-                }
-                Extension::PassedOver => {
-                    *parts = [p.protocol, p.count, p.lwc, p.lsc, p.symbol, 0, 0, 0, 0, 0];
-                    0
-                }
-            }
+        Ok(p) => {
+            *parts = parts_values(p);
+            0
         }
-    }
-}
-
-// Open on plain slices. The record that open returns is the one it was given.
-fn open_in(numbers: &[usize; 5], symbols: &mut [u8], marks: &mut [u8]) -> u8
-    ensures answer { result ≡ number_of (open_of (block_of numbers.now) symbols.old marks.old).answer }
-    ensures symbols { symbols.new ≡ (open_of (block_of numbers.now) symbols.old marks.old).symbols }
-    ensures marks { marks.new ≡ (open_of (block_of numbers.now) symbols.old marks.old).marks }
-{
-    let b = block_of(numbers);
-    match block::open::open(b, symbols, marks) {
-        Opened::Record(_) => 0,
-        Opened::Refused(number) => number,
+        Err(refusal) => refusal.number(),
     }
 }
 
@@ -340,33 +309,17 @@ pub extern "C" fn lipvezor_open(numbers: &[usize; 5], buffers: &mut Buffers) -> 
     ensures answer { result ≡ number_of (opening numbers.now buffers.old).answer }
     ensures buffers { buffers.new ≡ buffers_after buffers.old (opening numbers.now buffers.old).symbols (opening numbers.now buffers.old).marks }
 {
-    open_in(numbers, &mut *buffers.symbols, &mut *buffers.marks)
+    let b = block_of(numbers);
+    number_of(&block::open::open(b, &mut *buffers.symbols, &mut *buffers.marks))
 }
 
-// Take on plain slices.
-fn take_in(
-    numbers: &[usize; 5],
-    symbols: &mut [u8],
-    marks: &mut [u8],
-    unit: &[u8],
-    taken: &mut [usize; 1],
-) -> u8
-    ensures answer { result ≡ number_of (take_of (block_of numbers.now) symbols.old marks.old unit.now).answer }
-    ensures symbols { symbols.new ≡ (take_of (block_of numbers.now) symbols.old marks.old unit.now).symbols }
-    ensures marks { marks.new ≡ (take_of (block_of numbers.now) symbols.old marks.old unit.now).marks }
-    ensures taken { taken.new ≡ record_after result_values taken.old (take_of (block_of numbers.now) symbols.old marks.old unit.now).answer }
+// What take did, as the value of its record.
+fn taken_values(t: Taken) -> [usize; 1]
+    ensures { result ≡ result_values (result_as t) }
 {
-    let b = block_of(numbers);
-    match block::take::take(b, symbols, marks, unit) {
-        Taken::Kept => {
-            *taken = [1];
-            0
-        }
-        Taken::Repeated => {
-            *taken = [2];
-            0
-        }
-        Taken::Refused(number) => number,
+    match t {
+        Taken::Kept => [1],
+        Taken::Repeated => [2],
     }
 }
 
@@ -382,16 +335,17 @@ pub extern "C" fn lipvezor_take(
     ensures buffers { buffers.new ≡ buffers_after buffers.old (taking numbers.now buffers.old unit.now).symbols (taking numbers.now buffers.old unit.now).marks }
     ensures taken { taken.new ≡ record_after result_values taken.old (taking numbers.now buffers.old unit.now).answer }
 {
-    take_in(
-        numbers,
-        &mut *buffers.symbols,
-        &mut *buffers.marks,
-        unit,
-        taken,
-    )
+    let b = block_of(numbers);
+    match block::take::take(b, &mut *buffers.symbols, &mut *buffers.marks, unit) {
+        Ok(t) => {
+            *taken = taken_values(t);
+            0
+        }
+        Err(refusal) => refusal.number(),
+    }
 }
 
-// A verdict's number.
+// A verdict's number. No From: neither type is this crate's.
 fn verdict_number(v: Verdict) -> usize
     ensures { result ≡ verdict_number (verdict_as v) }
 {
@@ -402,32 +356,11 @@ fn verdict_number(v: Verdict) -> usize
     }
 }
 
-// Close on plain slices.
-fn close_in(
-    numbers: &[usize; 5],
-    symbols: &mut [u8],
-    marks: &mut [u8],
-    work_words: &mut [u64],
-    work_bytes: &mut [u8],
-    report: &mut [usize; 4],
-) -> u8
-    ensures answer { result ≡ number_of (close_of (block_of numbers.now) symbols.old marks.old work_words.old work_bytes.old).answer }
-    ensures symbols { symbols.new ≡ (close_of (block_of numbers.now) symbols.old marks.old work_words.old work_bytes.old).symbols }
-    ensures marks { marks.new ≡ (close_of (block_of numbers.now) symbols.old marks.old work_words.old work_bytes.old).marks }
-    ensures work_words { work_words.new ≡ (close_of (block_of numbers.now) symbols.old marks.old work_words.old work_bytes.old).work_words }
-    ensures work_bytes { work_bytes.new ≡ (close_of (block_of numbers.now) symbols.old marks.old work_words.old work_bytes.old).work_bytes }
-    ensures report { report.new ≡ record_after report_values report.old (close_of (block_of numbers.now) symbols.old marks.old work_words.old work_bytes.old).answer }
+// A report as the values of its record.
+fn report_values(r: Report) -> [usize; 4]
+    ensures { result ≡ report_values (report_as r) }
 {
-    let b = block_of(numbers);
-    match closing::close(b, symbols, marks, work_words, work_bytes) {
-        Closed::Refused(number) => number,
-        Closed::Reported(told) => {
-            let v = told.verdict;
-            let verdict = verdict_number(v);
-            *report = [verdict, told.heard, told.filled, told.left];
-            0
-        }
-    }
+    [verdict_number(r.verdict), r.heard, r.filled, r.left]
 }
 
 // Close, with the verdict and the counts of heard, filled and left positions in the lent record (lipvezor_report).
@@ -443,12 +376,19 @@ pub extern "C" fn lipvezor_close(
     ensures work { work.new ≡ work_after work.old (closing numbers.now buffers.old work.old).work_words (closing numbers.now buffers.old work.old).work_bytes }
     ensures report { report.new ≡ record_after report_values report.old (closing numbers.now buffers.old work.old).answer }
 {
-    close_in(
-        numbers,
+    let b = block_of(numbers);
+    let told = closing::close(
+        b,
         &mut *buffers.symbols,
         &mut *buffers.marks,
         &mut *work.words,
         &mut *work.bytes,
-        report,
-    )
+    );
+    match told {
+        Ok(r) => {
+            *report = report_values(r);
+            0
+        }
+        Err(refusal) => refusal.number(),
+    }
 }

@@ -8,6 +8,7 @@ ghost use Rattle.wire.specs.inner.Appended.{Appended};
 ghost use Rattle.ccsds.specs.Codes.{n_of};
 
 use ccsds::refusal::Refusal;
+use ccsds::tables::CodeLayout;
 use ccsds::unit_size::Coding;
 use ccsds::{checks, tables};
 use wire::{copy, put};
@@ -83,7 +84,11 @@ pub fn write(
     ensures output { out.new ≡ afterwards (write_refusal code w protocol lsc fill lwc (length symbol.now) (length out.old)) (unit_of (code_of code) w protocol lsc lwc symbol.now) out.old }
 {
     let l = tables::layout_of(code);
-    checks::check_record(code, l, w, protocol, lsc, fill)?;
+    let number = CodeLayout {
+        number: code,
+        layout: l,
+    };
+    checks::check_record(number, w, protocol, lsc, fill)?;
     let c = Coding {
         w,
         k: l.k,

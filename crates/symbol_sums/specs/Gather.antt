@@ -10,7 +10,7 @@ use Rattle.algebra.specs.Codeword.{byte_at}
 abbrev pub gathered : (ℕ → ℕ) → List ℕ → ℕ → ℕ
 gathered u xs n = sum (λ i. true) (λ i. u (get_or xs i 0)) n
 
--- the length of an array of positions
+-- the most positions of a check row
 abbrev pub max_positions : ℕ
 max_positions = 64
 

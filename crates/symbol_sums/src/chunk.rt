@@ -8,7 +8,7 @@ ghost use Rattle.symbol_sums.specs.Chunks.{Chunk64Is, PlusBytes};
 
 use buffers::{all_zero, put_16, sum_16};
 
-pub trait Chunk {
+pub(crate) trait Chunk {
     // How many bytes it has.
     ghost SIZE: { ℕ };
 
@@ -99,7 +99,7 @@ impl Chunk for [u8; 16] {
 
 // 64 bytes, in four arrays.
 #[derive(Clone, Copy)]
-pub struct Chunk64 {
+pub(crate) struct Chunk64 {
     a: [u8; 16],
     b: [u8; 16],
     c: [u8; 16],

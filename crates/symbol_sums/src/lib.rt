@@ -10,7 +10,7 @@ mod chunk;
 
 use chunk::{Chunk, Chunk64};
 
-// The most positions that are added at once: the length of an array of positions.
+// The most positions of a check row: the length of the arrays in which callers keep them.
 pub const MAX_POSITIONS: usize = 64;
 
 // Where byte c of symbol x stands.

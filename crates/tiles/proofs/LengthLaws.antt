@@ -3,8 +3,8 @@
 use mathlib.Core.Path.{◌≡◌, refl, sym, ap, ◌∙◌}
 use mathlib.Core.Bool.{Bool, true, false, cond, not, ◌||◌}
 use mathlib.Core.List.{List, [], ◌∷◌, ◌++◌}
-use Prim.Native.Nat.{ℕ, suc, ◌+◌, ◌-◌, ◌*◌, ◌/◌, ◌<◌, ◌≤◌}
-use native.Mathlib.Nat.{add-div_right, div-eq_of_lt, div-add-mod', mod-lt}
+use Prim.Native.Nat.{ℕ, suc, ◌+◌, ◌-◌, ◌*◌, ◌/◌, ◌%◌, ◌<◌, ◌≤◌, min}
+use native.Mathlib.Nat.{add-mul, one-mul, add-div_right, div-eq_of_lt, div-eq_of_lt-le, div-add-mod', mod-lt}
 use native.Mathlib.Decide.{dec_lt}
 use native.Mathlib.Numerals.{add-one}
 use native.Mathlib.Omega.{arith}
@@ -12,6 +12,7 @@ use lib.Dec.{eqb, ltb}
 use lib.ListN.{length, get_or, take, drop}
 use lib.Seq.{take-suc, drop-cons, drop-length}
 use borrow.Author.Tests.{lt-ltb, le-ltb, eq-eqb, ne_eqb, eqb-true, eqb-false}
+use Rattle.std.proofs.lemmas.Grind.{div_ceil_times}
 use Rattle.ccsds.proofs.Refusals.{or_false}
 use Rattle.tiles.specs.Pack.{rows_of, rows_needed, total, some_zero, wrong_tiles, overfull, largest, capped}
 
@@ -44,6 +45,16 @@ module _ (room : ℕ) (h : 0 < room) where
       let m = mod-lt (len + (room - 1)) h in
       omega arith
 
+  -- a division that rounds up
+  pub rows_up : (len : ℕ) → len / room + min 1 (len % room) ≡ rows_of room len
+  unfolding rows_of
+  rows_up len =
+      let c = div_ceil_times len room h in
+      let q = len / room + min 1 (len % room) in
+      let low : q * room ≤ len + (room - 1) = omega (arith, c.1, h) in
+      let high : len + (room - 1) < (q + 1) * room = omega (arith, c.0, h, add-mul q 1 room, one-mul room) in
+      sym (div-eq_of_lt-le room low high)
+
 -- ---- tests
 
 -- two tests that say the same
@@ -54,7 +65,7 @@ same-eqb a b c d f g = go (eqb c d) refl
     go true e = eq-eqb a b (g (eqb-true c d e)) ∙ sym e
     go false e = ne_eqb a b (λ h. eqb-false c d e (f h)) ∙ sym e
 
-or_true : (b : Bool) → b || true ≡ true
+pub or_true : (b : Bool) → b || true ≡ true
 or_true true = refl
 or_true false = refl
 
@@ -89,6 +100,13 @@ capped_over n h = ap (λ (b : Bool). cond b largest n) (lt-ltb largest n h)
 capped-not : (n : ℕ) → n ≤ largest → capped n ≡ n
 unfolding capped
 capped-not n h = ap (λ (b : Bool). cond b largest n) (le-ltb largest n h)
+
+capped-from : (n : ℕ) → largest ≤ n → capped n ≡ largest
+capped-from n h = go (dec_lt largest n)
+  where
+    go : Dec (largest < n) → capped n ≡ largest
+    go (yes l) = capped_over n l
+    go (no l) = let e : n ≡ largest = omega arith in capped-not n (omega arith) ∙ e
 
 -- it is above a smaller number just when the sum itself is
 capped_above : (n fill : ℕ) → fill < largest → ltb fill (capped n) ≡ ltb fill n
@@ -174,14 +192,18 @@ module _ (l : List ℕ) where
     needed_step room = ap (rows_needed room) one_off
 
     module _ (room rows sum all : ℕ) (f : rows ≡ rows_of room (get_or l i 0)) (e : capped (sum + rows_needed room (drop i l)) ≡ all) where
-      pub sum_over : sum ≤ largest → largest - sum < rows → largest ≡ all
-      sum_over m g =
-          let n = needed_step room in
-          let k : largest < sum + rows_needed room (drop i l) = omega arith in
-          sym (capped_over (sum + rows_needed room (drop i l)) k) ∙ e
+      -- with a sum that stops at the largest number
+      pub sum_more : capped (min (sum + rows) largest + rows_needed room (drop (i + 1) l)) ≡ all
+      sum_more = go (dec_lt largest (sum + rows))
+        where
+          n : rows_needed room (drop i l) ≡ rows_of room (get_or l i 0) + rows_needed room (drop (i + 1) l)
+          n = needed_step room
 
-      pub sum_more : capped (sum + rows + rows_needed room (drop (i + 1) l)) ≡ all
-      sum_more =
-          let n = needed_step room in
-          let k : sum + rows + rows_needed room (drop (i + 1) l) ≡ sum + rows_needed room (drop i l) = omega arith in
-          ap capped k ∙ e
+          go : Dec (largest < sum + rows) → capped (min (sum + rows) largest + rows_needed room (drop (i + 1) l)) ≡ all
+          go (yes g) =
+              let m : min (sum + rows) largest ≡ largest = omega arith in
+              ap (λ (k : ℕ). capped (k + rows_needed room (drop (i + 1) l))) m ∙ capped-from (largest + rows_needed room (drop (i + 1) l)) (omega arith)
+              ∙ sym (capped_over (sum + rows_needed room (drop i l)) (omega (arith, n))) ∙ e
+          go (no g) =
+              let k : min (sum + rows) largest + rows_needed room (drop (i + 1) l) ≡ sum + rows_needed room (drop i l) = omega (arith, n) in
+              ap capped k ∙ e

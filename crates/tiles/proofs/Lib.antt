@@ -1,6 +1,5 @@
 pub mod LengthLaws
 pub mod AppendingLaws
-pub mod CopyLaws
 pub mod RowLaws
 pub mod RefusalList
 pub mod Packable

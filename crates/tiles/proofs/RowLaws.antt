@@ -1,17 +1,19 @@
 -- Rows: how many bytes they are, and a tile's rows one by one.
 -- Assumes nothing.
-use mathlib.Core.Path.{◌≡◌, refl, sym, ap, ap₂, ◌∙◌, subst}
+use mathlib.Core.Path.{◌≡◌, refl, sym, ap, ap₂, ◌∙◌}
+use mathlib.Core.Bool.{Bool, cond}
 use mathlib.Core.List.{List, [], ◌∷◌, ◌++◌, append_assoc}
-use Prim.Native.Nat.{ℕ, zero, suc, ◌+◌, ◌-◌, ◌*◌, ◌<◌, ◌≤◌}
+use Prim.Native.Nat.{ℕ, zero, suc, ◌+◌, ◌-◌, ◌*◌, ◌<◌, ◌≤◌, min}
 use native.Mathlib.Nat.{add-mul, one-mul, suc-mul, zero-mul}
 use native.Mathlib.Decide.{dec_lt}
 use native.Mathlib.Numerals.{add-one}
 use native.Mathlib.Omega.{arith}
+use borrow.Author.Tests.{eq-eqb, ne_eqb}
 use lib.ListN.{length, get_or, take, drop, replicate, length-append, length-replicate, replicate-append-replicate, length-take, length-drop}
-use lib.Seq.{take-add, take-take, drop_at, drop-drop, length-take-le}
+use lib.Seq.{take_all, drop-length, length-take-le}
 use Rattle.tiles.specs.Rows.{room_of, zero_padded, row_bytes, zero_row, joined}
 use Rattle.tiles.specs.Pack.{rows_of, rows_needed, chain_rows, tile_rows, tiles_rows}
-use Rattle.tiles.specs.inner.Steps.{Wide, NumbersOf}
+use Rattle.tiles.specs.inner.Steps.{Wide, next_after}
 use Rattle.tiles.proofs.LengthLaws.{rows_none, rows-some, rows_more, rows-one, rows_hold, one_off, ends_at}
 
 pub one_more_lem : (n w : ℕ) → (n + 1) * w ≡ n * w + w
@@ -41,68 +43,66 @@ unfolding joined tile_rows chain_rows
 chain_step w lwc zero tile h = absurd (omega arith)
 chain_step w lwc (suc n) tile h = refl
 
-drop-take : (m n : ℕ) (l : List ℕ) → m ≤ n → n ≤ length l → drop m (take n l) ≡ take (n - m) (drop m l)
-drop-take m n l h k =
-    let e : n ≡ m + (n - m) = omega arith in
-    ap (λ (i : ℕ). drop m (take i l)) e ∙ ap (drop m) (take-add m (n - m) l) ∙ drop_at (take m l) (take (n - m) (drop m l)) m (length-take-le m l (omega arith))
-
--- a row with these numbers, where so many bytes of its tile are left, those that l begins with: it is the next row, and the others are those of the
--- bytes after it
-pub record Next (w lwc left next count : ℕ) (l : List ℕ) : Type 0 where
-  pub some : 0 < count
-  pub most : count ≤ left
-  pub room : count ≤ room_of w
+-- the bytes of a tile that are left are those of the next row, which has this LWC, and the rest: the rows are that row and those of the rest
+pub record Next (w lwc next : ℕ) (left part rest : List ℕ) : Type 0 where
+  pub some : 0 < length part
+  pub most : length part ≤ room_of w
   pub few : next ≤ lwc + 1
-  pub rows : rows_of (room_of w) left ≡ rows_of (room_of w) (left - count) + 1
+  pub less : length rest < length left
+  pub rows : rows_of (room_of w) (length left) ≡ rows_of (room_of w) (length rest) + 1
   pub bytes :
-      joined (tile_rows w lwc (rows_of (room_of w) left) (take left l))
-      ≡ row_bytes w next (take count l) ++ joined (tile_rows w (lwc + 1) (rows_of (room_of w) (left - count)) (take (left - count) (drop count l)))
+      joined (tile_rows w lwc (rows_of (room_of w) (length left)) left)
+      ≡ row_bytes w next part ++ joined (tile_rows w (lwc + 1) (rows_of (room_of w) (length rest)) rest)
 
-next-full : (w lwc left : ℕ) (l : List ℕ) → Wide w → left ≤ length l → room_of w < left → Next w lwc left (lwc + 1) (room_of w) l
-next-full w lwc left l h k m =
+next-full : (w lwc : ℕ) (l : List ℕ) → Wide w → room_of w < length l → Next w lwc (lwc + 1) l (take (room_of w) l) (drop (room_of w) l)
+next-full w lwc l h m =
     let room = room-some h in
-    let n = rows_of (room_of w) (left - room_of w) in
-    let r = rows_more (room_of w) room left m in
+    let d = length-drop (room_of w) l in
+    let n = rows_of (room_of w) (length (drop (room_of w) l)) in
+    let r : rows_of (room_of w) (length l) ≡ n + 1 = rows_more (room_of w) room (length l) m ∙ ap (λ (k : ℕ). rows_of (room_of w) k + 1) (sym d) in
+    let t = length-take-le (room_of w) l (omega arith) in
     record {
-      some = room;
-      most = omega arith;
-      room = omega arith;
+      some = omega (arith, t, room);
+      most = omega (arith, t);
       few = omega arith;
+      less = omega (arith, d, room);
       rows = r;
       bytes =
-          ap (λ (i : ℕ). joined (tile_rows w lwc i (take left l))) (r ∙ add-one n)
-          ∙ chain_step w lwc n (take left l) (omega (arith, rows-some (room_of w) room (left - room_of w) (omega arith)))
-          ∙ ap₂ (λ (x y : List ℕ). row_bytes w (lwc + 1) x ++ joined (tile_rows w (lwc + 1) n y)) (take-take (room_of w) left l (omega arith)) (drop-take (room_of w) left l (omega arith) k);
+          ap (λ (i : ℕ). joined (tile_rows w lwc i l)) (r ∙ add-one n)
+          ∙ chain_step w lwc n l (omega (arith, d, rows-some (room_of w) room (length (drop (room_of w) l)) (omega (arith, d))));
     }
 
-next_last : (w lwc left : ℕ) (l : List ℕ) → Wide w → 0 < left → left ≤ room_of w → Next w lwc left 0 left l
+next_last : (w lwc : ℕ) (l : List ℕ) → Wide w → 0 < length l → length l ≤ room_of w → Next w lwc 0 l l []
 unfolding joined tile_rows chain_rows
-next_last w lwc left l h k m =
+next_last w lwc l h k m =
     let room = room-some h in
-    let e : left - left ≡ 0 = omega arith in
-    let one = rows-one (room_of w) room left k m in
-    let none = rows_none (room_of w) room (left - left) e in
+    let one = rows-one (room_of w) room (length l) k m in
+    let none = rows_none (room_of w) room 0 refl in
     record {
       some = k;
-      most = omega arith;
-      room = m;
+      most = m;
       few = omega arith;
+      less = k;
       rows = omega (arith, one, none);
-      bytes =
-          ap (λ (i : ℕ). joined (tile_rows w lwc i (take left l))) one
-          ∙ sym (ap (λ (i : ℕ). row_bytes w 0 (take left l) ++ joined (tile_rows w (lwc + 1) i (take (left - left) (drop left l)))) none);
+      bytes = ap (λ (i : ℕ). joined (tile_rows w lwc i l)) one ∙ sym (ap (λ (i : ℕ). row_bytes w 0 l ++ joined (tile_rows w (lwc + 1) i [])) none);
     }
 
-pub next_row : (w lwc left next count : ℕ) (l : List ℕ) → Wide w → 0 < left → left ≤ length l → NumbersOf lwc (room_of w) left next count
-    → Next w lwc left next count l
-next_row w lwc left next count l h k m r = go (dec_lt (room_of w) left)
+-- where the row takes as many of them as it has room for
+pub next_row : (w lwc next n : ℕ) (l part rest : List ℕ) → Wide w → 0 < length l → n ≡ min (room_of w) (length l) → part ≡ take n l → rest ≡ drop n l
+    → next ≡ next_after lwc (length rest) → Next w lwc next l part rest
+next_row w lwc next n l part rest h k e p r s = go (dec_lt (room_of w) (length l))
   where
-    go : Dec (room_of w < left) → Next w lwc left next count l
-    go (yes p) = let e = r.more p in subst (λ (x : ℕ). Next w lwc left x count l) (sym e.0) (subst (λ (x : ℕ). Next w lwc left (lwc + 1) x l) (sym e.1) (next-full w lwc left l h m p))
-    go (no p) =
-        let q : left ≤ room_of w = omega arith in
-        let e = r.last q in
-        subst (λ (x : ℕ). Next w lwc left x count l) (sym e.0) (subst (λ (x : ℕ). Next w lwc left 0 x l) (sym e.1) (next_last w lwc left l h k q))
+    go : Dec (room_of w < length l) → Next w lwc next l part rest
+    go (yes m) =
+        let f : n ≡ room_of w = omega (arith, e) in
+        let x : next ≡ lwc + 1 = s ∙ ap (λ (b : Bool). cond b 0 (lwc + 1)) (ne_eqb (length rest) 0 (λ z. omega (arith, ap length r, length-drop n l, f))) in
+        rw (x, p, r, f) (next-full w lwc l h m)
+    go (no m) =
+        let f : n ≡ length l = omega (arith, e) in
+        let t : take n l ≡ l = take_all n l (omega arith) in
+        let d : rest ≡ [] = r ∙ ap (λ (i : ℕ). drop i l) f ∙ drop-length l in
+        let x : next ≡ 0 = s ∙ ap (λ (b : Bool). cond b 0 (lwc + 1)) (eq-eqb (length rest) 0 (ap length d)) in
+        rw (x, p ∙ t, d) (next_last w lwc l h k (omega arith))
 
 pub tile-end : (w lwc n : ℕ) (tile : List ℕ) → n ≡ 0 → joined (tile_rows w lwc n tile) ≡ []
 unfolding joined tile_rows
@@ -115,19 +115,18 @@ unfolding joined
 joined_append [] b = refl
 joined_append (l ∷ ls) b = ap (λ (x : List ℕ). l ++ x) (joined_append ls b) ∙ sym (append_assoc l (joined ls) (joined b))
 
--- the rows of the tile at index i, whose bytes begin at index `from`, and those of the tiles after it
-pub tiles-step : (w : ℕ) (bytes lengths : List ℕ) (i : ℕ) → i < length lengths → (lwc lwc' from : ℕ) → lwc' ≡ lwc + rows_of (room_of w) (get_or lengths i 0)
-    → joined (tiles_rows w lwc (drop from bytes) (drop i lengths))
-    ≡ joined (tile_rows w lwc (rows_of (room_of w) (get_or lengths i 0)) (take (get_or lengths i 0) (drop from bytes)))
-    ++ joined (tiles_rows w lwc' (drop (from + get_or lengths i 0) bytes) (drop (i + 1) lengths))
+-- the rows of the tile at index i, whose bytes come first, and those of the tiles after it
+pub tiles-step : (w : ℕ) (bytes lengths : List ℕ) (i : ℕ) → i < length lengths → (lwc lwc' : ℕ) (tile rest : List ℕ)
+    → tile ≡ take (get_or lengths i 0) bytes → rest ≡ drop (get_or lengths i 0) bytes → length tile ≡ get_or lengths i 0 → lwc' ≡ lwc + rows_of (room_of w) (length tile)
+    → joined (tiles_rows w lwc bytes (drop i lengths))
+    ≡ joined (tile_rows w lwc (rows_of (room_of w) (length tile)) tile) ++ joined (tiles_rows w lwc' rest (drop (i + 1) lengths))
 unfolding tiles_rows
-tiles-step w bytes lengths i h lwc lwc' from e =
+tiles-step w bytes lengths i h lwc lwc' tile rest t r n e =
     let len = get_or lengths i 0 in
-    let a = joined (tile_rows w lwc (rows_of (room_of w) len) (take len (drop from bytes))) in
-    ap (λ (x : List ℕ). joined (tiles_rows w lwc (drop from bytes) x)) (one_off lengths i h)
-    ∙ joined_append (tile_rows w lwc (rows_of (room_of w) len) (take len (drop from bytes)))
-    (tiles_rows w (lwc + rows_of (room_of w) len) (drop len (drop from bytes)) (drop (i + 1) lengths))
-    ∙ ap₂ (λ (n : ℕ) (b : List ℕ). a ++ joined (tiles_rows w n b (drop (i + 1) lengths))) (sym e) (drop-drop len from bytes)
+    rw (e, n, t, r)
+    (ap (λ (x : List ℕ). joined (tiles_rows w lwc bytes x)) (one_off lengths i h)
+    ∙ joined_append (tile_rows w lwc (rows_of (room_of w) len) (take len bytes))
+    (tiles_rows w (lwc + rows_of (room_of w) len) (drop len bytes) (drop (i + 1) lengths)))
 
 pub tiles-last : (w lwc : ℕ) (bytes lengths : List ℕ) (i : ℕ) → i ≡ length lengths → joined (tiles_rows w lwc bytes (drop i lengths)) ≡ []
 unfolding tiles_rows joined

@@ -1,13 +1,12 @@
 -- Document 02, job 3: packing tiles, given by their joined bytes and their lengths, into the rows of a block's information symbols.
 -- Assumes nothing.
-use Rattle.std.specs.Prelude.{Bool, false, cond, not, ◌||◌, List, [], ◌∷◌, ◌++◌, ℕ, zero, suc, ◌+◌, ◌-◌, ◌*◌, ◌/◌, eqb, ltb, take, drop, replicate}
+use Rattle.std.specs.Prelude.{Result, Ok, Err, Bool, false, cond, not, ◌||◌, List, [], ◌∷◌, ◌++◌, ℕ, zero, suc, ◌+◌, ◌-◌, ◌*◌, ◌/◌, eqb, ltb, take, drop, replicate}
 use Rattle.ccsds.specs.RefusalTable.{number_of}
 use Rattle.ccsds.specs.RefusalTable as refusal
-use Rattle.ccsds.specs.Refusals.{wrong_width, wrong_length, Outcome, refused, answered}
+use Rattle.ccsds.specs.declared.refusal.Refusal as Answer
+use Rattle.ccsds.specs.Refusals.{wrong_width, wrong_length, Outcome, refused, answered, refusal_number}
 use Rattle.tiles.specs.PackRefusals.{first_listed}
 use Rattle.tiles.specs.Rows.{room_of, row_bytes, zero_row, joined, narrow, row_conditions}
-use Rattle.tiles.specs.declared.pack.Packed.{Packed}
-use Rattle.tiles.specs.declared.pack.Packed.TheVariants.{Done, Refused}
 
 -- ---- how many rows
 
@@ -77,9 +76,9 @@ pack_refusal number w fill bytes lengths outLength =
     )
 
 -- the cases of pack's answer in the paper's words
-abbrev pub packed_as : Packed → Outcome Unit
-packed_as Done = answered tt
-packed_as (Refused number) = refused number
+abbrev pub packed_as : Result Unit Answer.Refusal → Outcome Unit
+packed_as (Ok a) = answered tt
+packed_as (Err r) = refused (refusal_number r)
 
 -- ---- for planners
 

@@ -5,17 +5,12 @@ ghost use Rattle.tiles.specs.Pack.{rows_of, rows_needed, capped, rows_told, wron
 use crate::checks;
 use ccsds::code::Code;
 
-const LARGEST: usize = 18446744073709551615;
-
 // The rows of a tile of len bytes.
 fn rows_of(room: usize, len: usize) -> usize
     requires { 0 < room }
     ensures { result ≡ rows_of room len }
 {
-    if len == 0 {
-        return 0;
-    }
-    (len - 1) / room + 1
+    len.div_ceil(room)
 }
 
 // The rows of tiles of these lengths; the largest number, if they are more.
@@ -24,14 +19,8 @@ pub fn sum_rows(room: usize, lengths: &[usize]) -> usize
     ensures { result ≡ capped (rows_needed room lengths.now) }
 {
     let mut sum: usize = 0;
-    let mut i = 0;
-    while i < lengths.len() {
-        let rows = rows_of(room, lengths[i]);
-        if rows > LARGEST - sum {
-            return LARGEST;
-        }
-        sum += rows;
-        i += 1;
+    for len in lengths {
+        sum = sum.saturating_add(rows_of(room, *len));
     }
     sum
 }
@@ -41,17 +30,12 @@ pub fn wrong_tiles(lengths: &[usize], bytes: usize) -> bool
     ensures { result ≡ wrong_tiles lengths.now bytes }
 {
     let mut left = bytes;
-    let mut i = 0;
-    while i < lengths.len() {
-        let len = lengths[i];
-        if len == 0 {
-            return true;
-        }
-        if len > left {
+    for len in lengths {
+        let len = *len;
+        if len == 0 || len > left {
             return true;
         }
         left -= len;
-        i += 1;
     }
     left != 0
 }
@@ -60,10 +44,7 @@ pub fn wrong_tiles(lengths: &[usize], bytes: usize) -> bool
 pub fn rows_needed(w: usize, lengths: &[usize]) -> usize
     ensures { result ≡ rows_told w lengths.now }
 {
-    if Code::wrong_width(w) {
-        return 0;
-    }
-    if checks::is_narrow(w) {
+    if Code::wrong_width(w) || checks::is_narrow(w) {
         return 0;
     }
     sum_rows(w - 4, lengths)

@@ -2,7 +2,6 @@
 #![tactic(auto)]
 
 pub mod checks;
-mod copy;
 pub mod lengths;
 pub mod pack;
 mod rows;

@@ -2,8 +2,8 @@
 -- Assumes nothing.
 use mathlib.Core.Path.{◌≡◌}
 use mathlib.Core.List.{List}
-use Prim.Native.Nat.{ℕ, ◌+◌, ◌-◌, ◌≤◌}
-use lib.ListN.{length, drop}
+use Prim.Native.Nat.{ℕ, ◌+◌, ◌≤◌}
+use lib.ListN.{drop}
 use Rattle.algebra.specs.Lists.{count}
 use Rattle.block.specs.Status.{heard_mark, filled_mark}
 use Rattle.closing.proofs.count_marks.Given as goal
@@ -13,8 +13,5 @@ pub record Counted (v : ℕ) (marks : List ℕ) (i k : ℕ) : Type 0 where
   pub few : k ≤ i
   pub all : k + count v (drop i marks) ≡ count v marks
 
-abbrev pub invariant-loop-i : goal.invariant-loop-i
-invariant-loop-i l = (l.i ≤ length l.marks) × Counted heard_mark l.marks l.i l.heard × Counted filled_mark l.marks l.i l.filled
-
-abbrev pub decreases-loop-i : goal.decreases-loop-i
-decreases-loop-i l = length l.marks - l.i
+abbrev pub invariant-loop-mark : goal.invariant-loop-mark
+invariant-loop-mark l = Counted heard_mark l.marks l.mark-index l.heard × Counted filled_mark l.marks l.mark-index l.filled

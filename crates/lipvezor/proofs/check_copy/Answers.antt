@@ -8,45 +8,48 @@ use Rattle.ccsds.specs.Codes.{n_of}
 use Rattle.ccsds.specs.Tables.{code_of}
 use Rattle.ccsds.specs.Fill.{idle_lwc}
 use Rattle.ccsds.specs.RefusalTable as refusal
-use Rattle.ccsds.specs.Refusals.{encoder_conditions, wrong_length, wrong_position}
-use Rattle.ccsds.proofs.RefusalOrder.{chain, part_refuses, part-passed, first_is, first_on, first-end}
+use Rattle.ccsds.specs.Refusals.{first_of, checked_as, encoder_conditions, wrong_length, wrong_position}
+use Rattle.block.proofs.Exits.{passed_on}
+use Rattle.ccsds.proofs.RefusalOrder.{numbered, chain, part_refuses, part-passed, first_is, first_on, first-end}
 use Rattle.ccsds.proofs.Refusals.{length-same, length-wrong}
+use Rattle.block.specs.declared.Block.{Block}
 use Rattle.lipvezor.specs.Sending.{copy_refusal}
 use Rattle.lipvezor.proofs.check_copy.Goals as goal
-use Rattle.lipvezor.proofs.check_copy.Goals.{After-idle_lwc, After-wrong_position, Else-earlier-ne0}
+use Rattle.lipvezor.proofs.check_copy.Goals.{After-idle_lwc, After-wrong_position}
 
 -- the output's length, the position and whether it is idle decide
-passed : (c : Else-earlier-ne0) → let a = c.args in
-    copy_refusal a.code a.w a.fill a.info_length a.parity_length a.lwc a.out_length
-    ≡ chain ((refusal.length, wrong_length a.out_length a.w) ∷ (refusal.position, wrong_position (n_of (code_of a.code)) a.lwc) ∷ (refusal.idle, idle_lwc (code_of a.code).k a.fill a.lwc) ∷ [])
+passed : (b : Block) (info_len parity_len lwc out_len : ℕ) → 0 ≡ first_of (encoder_conditions b.code b.w b.fill info_len parity_len)
+    → copy_refusal b.code b.w b.fill info_len parity_len lwc out_len
+    ≡ chain ((refusal.length, wrong_length out_len b.w) ∷ (refusal.position, wrong_position (n_of (code_of b.code)) lwc) ∷ (refusal.idle, idle_lwc (code_of b.code).k b.fill lwc) ∷ [])
 unfolding copy_refusal
-passed c =
-    let a = c.args in
-    part-passed (encoder_conditions a.code a.w a.fill a.info_length a.parity_length) _ refl refl _ c.check_encoder-earlier.ensures c.if-earlier-ne0.false
+passed b info_len parity_len lwc out_len e = part-passed (encoder_conditions b.code b.w b.fill info_len parity_len) _ refl refl _ e refl
 
 -- the position and whether it is idle decide
 sized : (c : After-wrong_position) → let a = c.args in
-    copy_refusal a.code a.w a.fill a.info_length a.parity_length a.lwc a.out_length
-    ≡ chain ((refusal.position, c.wrong_position.result) ∷ (refusal.idle, idle_lwc (code_of a.code).k a.fill a.lwc) ∷ [])
+    copy_refusal a.b.code a.b.w a.b.fill a.info_len a.parity_len a.lwc a.out_len
+    ≡ chain ((refusal.position, c.wrong_position.result) ∷ (refusal.idle, idle_lwc (code_of a.b.code).k a.b.fill a.lwc) ∷ [])
 sized c =
-    passed c.before.before ∙ first_on _ _ _ (length-same _ _ c.if-out_length-w.false)
-    ∙ (let a = c.args in ap (λ (b : Bool). chain ((refusal.position, b) ∷ (refusal.idle, idle_lwc (code_of a.code).k a.fill a.lwc) ∷ [])) (sym c.wrong_position.ensures))
+    let a = c.args in
+    passed a.b _ _ _ _ c.in_ok-check_encoder.ensures ∙ first_on _ _ _ (length-same _ _ c.if-out_len-b.false)
+    ∙ ap (λ (b : Bool). chain ((refusal.position, b) ∷ (refusal.idle, idle_lwc (code_of a.b.code).k a.b.fill a.lwc) ∷ [])) (sym c.wrong_position.ensures)
 
 -- whether it is idle decides
 placed : (c : After-idle_lwc) → let a = c.args in
-    copy_refusal a.code a.w a.fill a.info_length a.parity_length a.lwc a.out_length ≡ chain ((refusal.idle, c.idle_lwc.result) ∷ [])
+    copy_refusal a.b.code a.b.w a.b.fill a.info_len a.parity_len a.lwc a.out_len ≡ chain ((refusal.idle, c.idle_lwc.result) ∷ [])
 placed c =
-    sized c.before.before.before ∙ first_on _ _ _ c.if-wrong_position.false
-    ∙ ap (λ (b : Bool). chain ((refusal.idle, b) ∷ [])) (sym (c.idle_lwc.ensures ∙ (let a = c.args in ap (λ (k : ℕ). idle_lwc k a.fill a.lwc) c.k.ensures)))
-
-pub returns-then-earlier-ne0 : goal.returns-then-earlier-ne0
-unfolding copy_refusal
-returns-then-earlier-ne0 c =
     let a = c.args in
-    part_refuses (encoder_conditions a.code a.w a.fill a.info_length a.parity_length) _ refl refl _ c.check_encoder-earlier.ensures c.if-earlier-ne0.true
+    passed a.b _ _ _ _ c.in_ok-check_encoder.ensures ∙ first_on _ _ _ (length-same _ _ c.if-out_len-b.false)
+    ∙ first_on _ _ _ (sym c.wrong_position.ensures ∙ c.if-wrong_position.false)
+    ∙ ap (λ (b : Bool). chain ((refusal.idle, b) ∷ [])) (sym (c.idle_lwc.ensures ∙ ap (λ (k : ℕ). idle_lwc k a.b.fill a.lwc) c.k.ensures))
 
-pub returns-then-out_length-w : goal.returns-then-out_length-w
-returns-then-out_length-w c = sym (passed (goal.at.returns-then-out_length-w c).Else-earlier-ne0 ∙ first_is _ _ _ (length-wrong _ _ c.if-out_length-w.true))
+pub returns-in_err-check_encoder : goal.returns-in_err-check_encoder
+unfolding copy_refusal
+returns-in_err-check_encoder c =
+    let a = c.args in
+    passed_on checked_as c.from_residual.ensures.1 (part_refuses (encoder_conditions a.b.code a.b.w a.b.fill a.info_len a.parity_len) _ refl refl _ c.in_err-check_encoder.ensures (numbered _))
+
+pub returns-then-out_len-b : goal.returns-then-out_len-b
+returns-then-out_len-b c = let a = c.args in sym (passed a.b _ _ _ _ c.in_ok-check_encoder.ensures ∙ first_is _ _ _ (length-wrong _ _ c.if-out_len-b.true))
 
 pub returns-then-wrong_position : goal.returns-then-wrong_position
 returns-then-wrong_position c = sym (sized (goal.at.returns-then-wrong_position c).After-wrong_position ∙ first_is _ _ _ c.if-wrong_position.true)

@@ -1,9 +1,6 @@
--- `report::checksum` ends, and its sum stays below the divisor.
-use Rattle.std.proofs.Common.{length, ◌-◌, ◌<◌, ◌≤◌}
+-- `report::checksum` keeps its sum below the divisor.
+use Rattle.std.proofs.Common.{◌<◌}
 use Rattle.report.proofs.checksum.Given as goal
 
-abbrev pub invariant-loop-i : goal.invariant-loop-i
-invariant-loop-i l = (l.i ≤ length l.s) × (l.d < 4294967291)
-
-abbrev pub decreases-loop-i : goal.decreases-loop-i
-decreases-loop-i l = length l.s - l.i
+abbrev pub invariant-loop-b : goal.invariant-loop-b
+invariant-loop-b l = l.d < 4294967291

@@ -1,6 +1,6 @@
 -- What the inner functions of packing need and promise. Internal: no public contract cites it.
 -- Assumes nothing.
-use Rattle.std.specs.Prelude.{◌≡◌, List, ◌++◌, take, drop, ℕ, ◌+◌, ◌*◌, ◌<◌, ◌≤◌}
+use Rattle.std.specs.Prelude.{◌≡◌, cond, List, ◌++◌, ℕ, ◌+◌, ◌*◌, ◌≤◌, eqb}
 use Rattle.wire.specs.inner.Appended.{Appended}
 use Rattle.tiles.specs.Rows.{room_of}
 use Rattle.tiles.specs.Pack.{rows_needed, total}
@@ -10,19 +10,9 @@ pub record Wide (w : ℕ) : Type 0 where
   pub least : 5 ≤ w
   pub most : w ≤ 1024
 
--- n elements from position `at` on stand in an output of so many, and n from index `from` on in a list of so many
-pub record Room (outs at elements from n : ℕ) : Type 0 where
-  pub output : at + n ≤ outs
-  pub input : from + n ≤ elements
-
--- i bytes of s from index `from` on are appended at position `at`
-abbrev pub Copies : List ℕ → List ℕ → ℕ → List ℕ → ℕ → ℕ → Type 0
-Copies old new at s from i = Appended old new at (at + i) (take i (drop from s))
-
--- next and count of a row with this LWC, where so many bytes of its tile are left
-pub record NumbersOf (lwc room left next count : ℕ) : Type 0 where
-  pub more : room < left → (next ≡ lwc + 1) × (count ≡ room)
-  pub last : left ≤ room → (next ≡ 0) × (count ≡ left)
+-- next of a row with this LWC, where so many bytes of its tile are left after it
+abbrev pub next_after : ℕ → ℕ → ℕ
+next_after lwc left = cond (eqb left 0) 0 (lwc + 1)
 
 -- tiles of these lengths are those of so many bytes, and their rows fit an output of so many bytes
 pub record Fitting (w bytes : ℕ) (lengths : List ℕ) (outs : ℕ) : Type 0 where

@@ -8,17 +8,18 @@ use native.Mathlib.Omega.{arith}
 use lib.ListN.{length, take, drop, length-drop}
 use lib.Seq.{take_all}
 use Rattle.algebra.proofs.Codeword.{slot}
-use Rattle.ccsds.specs.Refusals.{Outcome, refused, answered}
+use Rattle.ccsds.specs.Refusals.{Outcome, answered}
+use Rattle.ccsds.proofs.RefusalOrder.{numbered}
 use Rattle.ccsds.proofs.Refusals.{code-known, width_right, label_right}
 use Rattle.ccsds.proofs.UnitLaws.{compact_of}
 use Rattle.block.specs.Block.{checks, idle_at, block_refusal}
-use Rattle.block.specs.Take.{TakeResult, Take, admission, take_symbol, take_of}
-use Rattle.block.specs.inner.Steps.{admitted_as}
+use Rattle.block.specs.Take.{TakeResult, Take, admission, take_symbol, take_of, taken_as}
 use Rattle.block.specs.declared.Block.{Block}
+use Rattle.block.proofs.Exits.{passed_on}
 use Rattle.block.proofs.BlockRefusal.{block_right}
 use Rattle.block.proofs.Taking.{Inside, admitted_inside, take-refused, take_by_lem, apart}
 use Rattle.block.proofs.take.take.Goals as goal
-use Rattle.block.proofs.take.take.Goals.{Else-refusal-ne0, In-At}
+use Rattle.block.proofs.take.take.Goals.{In_ok-x}
 
 -- an admitted unit's symbol, as the code has it, and the room for it
 module _ (b : Block) (symbols marks unit : List ℕ) (position start : ℕ) (z : block_refusal b (length symbols) (length marks) ≡ 0)
@@ -48,50 +49,46 @@ module _ (b : Block) (symbols marks unit : List ℕ) (position start : ℕ) (z :
       (ap (λ (y : List ℕ). take_symbol b symbols marks (record { position = position; symbol = y })) rest
       ∙ sym (take_by_lem b symbols marks unit (answered (record { position = position; symbol = drop start unit })) z e)) q
 
-zero : (c : Else-refusal-ne0) → let a = c.args in block_refusal a.b (length a.symbols.now) (length a.marks.now) ≡ 0
-zero c = sym c.check_block-refusal.ensures ∙ c.if-refusal-ne0.false
+within_of : (c : In_ok-x) → c.in_ok-x.x.start ≤ length c.args.unit.now
+within_of c = let a = c.args in within a.b a.symbols.now a.marks.now a.unit.now _ _ (sym c.in_ok-check_block.ensures) (sym c.in_ok-x.ensures)
 
-let-in : (c : In-At) → let a = c.args in
-    admission a.b a.unit.now ≡ answered (record { position = c.in-At.position; symbol = drop c.in-At.start a.unit.now })
-let-in c = sym c.admit.ensures ∙ ap (admitted_as c.args.unit.now) c.in-At.is
+room_of : (c : In_ok-x) → let a = c.args in
+    ((c.in_ok-x.x.position < length a.marks.now) × (idle_at a.b c.in_ok-x.x.position ≡ false))
+    × ((c.in_ok-x.x.position * a.b.w + a.b.w ≤ length a.symbols.now) × (length (take (length a.unit.now - c.in_ok-x.x.start) (drop c.in_ok-x.x.start a.unit.now)) ≡ a.b.w))
+room_of c = let a = c.args in room a.b a.symbols.now a.marks.now a.unit.now _ _ (sym c.in_ok-check_block.ensures) (sym c.in_ok-x.ensures)
 
-pub returns-then-refusal-ne0 : goal.returns-then-refusal-ne0
-returns-then-refusal-ne0 c =
+pub returns-in_err-check_block : goal.returns-in_err-check_block
+returns-in_err-check_block c =
     let a = c.args in
-    let r = apart (take-refused a.b a.symbols.now a.marks.now a.unit.now _ c.check_block-refusal.ensures c.if-refusal-ne0.true) in
-    record { answer = r.0; symbols = r.1.0; marks = r.1.1 }
+    let r = apart (take-refused a.b a.symbols.now a.marks.now a.unit.now _ c.in_err-check_block.ensures (numbered _)) in
+    record { answer = passed_on taken_as c.from_residual.ensures.1 r.0; symbols = r.1.0; marks = r.1.1 }
 
 pub admit-requires : goal.admit-requires
 admit-requires c =
-    let g = c.layout_of-l.ensures in
-    let r = (block_right _ _ _ (zero c)).0 in
-    record { layout_of = g; compact = (compact_of _ _ g (code-known _ r.code) (width_right _ r.width).1, (label_right _ _ r.label).1) }
+    let g = c.layout_of.ensures in
+    let r = (block_right _ _ _ (sym c.in_ok-check_block.ensures)).0 in
+    (compact_of _ _ g (code-known _ r.code) (width_right _ r.width).1, (label_right _ _ r.label).1)
 
-pub slice_bounds-take_symbol-count : goal.slice_bounds-take_symbol-count
-slice_bounds-take_symbol-count c =
+pub returns-in_err-x : goal.returns-in_err-x
+returns-in_err-x c =
     let a = c.args in
-    within a.b a.symbols.now a.marks.now a.unit.now _ _ (zero (goal.at.slice_bounds-take_symbol-count c).Else-refusal-ne0) (let-in (goal.at.slice_bounds-take_symbol-count c).In-At)
+    let r = apart (take_by_lem a.b a.symbols.now a.marks.now a.unit.now _ (sym c.in_ok-check_block.ensures) (sym c.in_err-x.ensures)) in
+    record { answer = passed_on taken_as c.from_residual-in_err-x.ensures.1 r.0; symbols = r.1.0; marks = r.1.1 }
 
 pub slice_bounds-take_symbol-start : goal.slice_bounds-take_symbol-start
-slice_bounds-take_symbol-start c =
-    let a = c.args in
-    within a.b a.symbols.now a.marks.now a.unit.now _ _ (zero (goal.at.slice_bounds-take_symbol-start c).Else-refusal-ne0) (let-in (goal.at.slice_bounds-take_symbol-start c).In-At)
+slice_bounds-take_symbol-start c = within_of (goal.at.slice_bounds-take_symbol-start c).In_ok-x
+
+pub slice_bounds-take_symbol-count : goal.slice_bounds-take_symbol-count
+slice_bounds-take_symbol-count c = within_of (goal.at.slice_bounds-take_symbol-count c).In_ok-x
 
 pub take_symbol-requires : goal.take_symbol-requires
 take_symbol-requires c =
-    let a = c.args in
-    let r = room a.b a.symbols.now a.marks.now a.unit.now _ _ (zero (goal.at.take_symbol-requires c).Else-refusal-ne0) (let-in (goal.at.take_symbol-requires c).In-At) in
+    let r = room_of (goal.at.take_symbol-requires c).In_ok-x in
     record { position_in_bounds = r.0; w_in_bounds = r.1.0; symbol_len = r.1.1 }
 
-pub returns-in-Refused : goal.returns-in-Refused
-returns-in-Refused c =
-    let a = c.args in
-    let r = apart (take_by_lem a.b a.symbols.now a.marks.now a.unit.now (refused _) (zero (goal.at.returns-in-Refused c).Else-refusal-ne0) (sym c.admit.ensures ∙ ap (admitted_as a.unit.now) c.in-Refused.is)) in
-    record { answer = r.0; symbols = r.1.0; marks = r.1.1 }
-
-pub returns-in-At : goal.returns-in-At
-returns-in-At c =
+pub returns : goal.returns
+returns c =
     let a = c.args in
     let e = c.take_symbol.ensures in
-    let r = through a.b a.symbols.now a.marks.now a.unit.now _ _ (zero (goal.at.returns-in-At c).Else-refusal-ne0) (let-in (goal.at.returns-in-At c).In-At) (e.answer, (e.symbols, e.marks)) in
+    let r = through a.b a.symbols.now a.marks.now a.unit.now _ _ (sym (goal.at.returns c).In_ok-x.in_ok-check_block.ensures) (sym (goal.at.returns c).In_ok-x.in_ok-x.ensures) (e.answer, (e.symbols, e.marks)) in
     record { answer = r.0; symbols = r.1.0; marks = r.1.1 }

@@ -12,23 +12,23 @@ use Rattle.ccsds.proofs.RefusalOrder.{chain, in_order, first_is, first_on, first
 use Rattle.ccsds.proofs.checks.check_record.Goals as goal
 use Rattle.ccsds.proofs.checks.check_record.Goals.{After-wrong_fill, Else-not-is_code, Else-wrong_label, Else-wrong_width}
 
-code : (c : Else-not-is_code) → wrong_code c.args.number ≡ false
+code : (c : Else-not-is_code) → wrong_code c.args.code.number ≡ false
 unfolding wrong_code
 code c = ap not (sym c.is_code.ensures ∙ c.if-not-is_code.false)
 
 -- the code and the width are right; the label, too
 after-width : (c : Else-wrong_width) → let a = c.args in
-    first_of (record_conditions a.number a.w a.protocol a.lsc a.fill)
-    ≡ chain ((refusal.label, wrong_label a.protocol a.lsc) ∷ (refusal.fill, wrong_fill (code_of a.number).k a.fill) ∷ [])
+    first_of (record_conditions a.code.number a.w a.protocol a.lsc a.fill)
+    ≡ chain ((refusal.label, wrong_label a.protocol a.lsc) ∷ (refusal.fill, wrong_fill (code_of a.code.number).k a.fill) ∷ [])
 after-width c = in_order _ refl ∙ first_on _ _ _ (code c.before.before) ∙ first_on _ _ _ (sym c.wrong_width.ensures ∙ c.if-wrong_width.false)
 
 after-label : (c : Else-wrong_label) → let a = c.args in
-    first_of (record_conditions a.number a.w a.protocol a.lsc a.fill) ≡ chain ((refusal.fill, wrong_fill (code_of a.number).k a.fill) ∷ [])
+    first_of (record_conditions a.code.number a.w a.protocol a.lsc a.fill) ≡ chain ((refusal.fill, wrong_fill (code_of a.code.number).k a.fill) ∷ [])
 after-label c = after-width c.before.before ∙ first_on _ _ _ (sym c.wrong_label.ensures ∙ c.if-wrong_label.false)
 
-fills : (c : After-wrong_fill) → wrong_fill (code_of c.args.number).k c.args.fill ≡ c.wrong_fill.result
+fills : (c : After-wrong_fill) → wrong_fill (code_of c.args.code.number).k c.args.fill ≡ c.wrong_fill.result
 fills c =
-    sym (c.wrong_fill.ensures ∙ ap (λ (k : ℕ). wrong_fill k c.args.fill) c.requires.k)
+    sym (c.wrong_fill.ensures ∙ ap (λ (k : ℕ). wrong_fill k c.args.fill) c.args.code.layout_of.k)
 
 pub returns-then-not-is_code : goal.returns-then-not-is_code
 unfolding wrong_code

@@ -26,8 +26,19 @@ overflow_add-result c =
     let p = product h c.requires.3 in
     let p2 = product c.requires.1 c.requires.2 in omega (arith, p, p2)
 
-pub returns-then-row-long : goal.returns-then-row-long
-returns-then-row-long c = simp (lt-ltb _ _ c.if-row-long.true)
+pub returns-then-row-long-clause-value : goal.returns-then-row-long-clause-value
+returns-then-row-long-clause-value c = simp (lt-ltb _ _ c.if-row-long.true)
 
-pub returns-else-row-long : goal.returns-else-row-long
-returns-else-row-long c = simp (le-ltb _ _ c.if-row-long.false)
+pub returns-else-row-long-clause-value : goal.returns-else-row-long-clause-value
+returns-else-row-long-clause-value c = simp (le-ltb _ _ c.if-row-long.false)
+
+pub returns-then-row-long-clause-room : goal.returns-then-row-long-clause-room
+returns-then-row-long-clause-room c = product c.requires.0 c.requires.2
+
+-- both products are of parts of the row's number
+pub returns-else-row-long-clause-room : goal.returns-else-row-long-clause-room
+returns-else-row-long-clause-room c =
+    let a = c.args in
+    let p : a.long * a.degree ≤ a.long * 8 = mul-le-mul (omega arith) c.requires.2 in
+    let p2 : (a.row - a.long) * a.rest ≤ (a.row - a.long) * 8 = mul-le-mul (omega arith) c.requires.3 in
+    omega (arith, p, p2)

@@ -1,42 +1,24 @@
--- `tiles::lengths::sum_rows` meets its contract: before turn i, the rows of the first i lengths are summed.
+-- `tiles::lengths::sum_rows` meets its contract: the sum goes up to the largest number, and with the rows of the lengths to come it says what all do.
 -- Assumes nothing.
-use mathlib.Core.Path.{◌≡◌, ap}
-use Prim.Native.Nat.{◌+◌, ◌<◌}
+use mathlib.Core.Path.{◌≡◌, ap, ◌∙◌}
+use Prim.Native.Nat.{ℕ, ◌+◌}
 use native.Mathlib.Omega.{arith}
-use lib.ListN.{length}
+use lib.ListN.{length, drop}
 use Rattle.tiles.specs.Pack.{rows_needed, capped}
-use Rattle.tiles.proofs.LengthLaws.{sum-end, sum_over, sum_more}
+use Rattle.tiles.proofs.LengthLaws.{sum-end, sum_more}
 use Rattle.tiles.proofs.lengths.sum_rows.Goals as goal
 
-pub loop-i-init : goal.loop-i-init
-loop-i-init c =
+pub loop-len-preserved : goal.loop-len-preserved
+loop-len-preserved c =
     let a = c.args in
-    let z : 0 + rows_needed a.room a.lengths.now ≡ rows_needed a.room a.lengths.now = omega arith in
-    (omega arith, omega arith, ap capped z)
-
-pub overflow_sub-sum : goal.overflow_sub-sum
-overflow_sub-sum c = omega (arith, c.loop-i.invariant.1)
-
-pub returns-then-rows-sum : goal.returns-then-rows-sum
-returns-then-rows-sum c =
-    let a = c.args in
-    let l = c.loop-i in
-    let h : l.i < length a.lengths.now = omega arith in
-    sum_over a.lengths.now l.i h a.room c.rows_of-rows.result l.sum _ c.rows_of-rows.ensures l.invariant.2 l.invariant.1 c.if-rows-sum.true
-
-pub overflow_add-sum : goal.overflow_add-sum
-overflow_add-sum c = omega (arith, c.loop-i.invariant.1)
-
-pub loop-i-preserved : goal.loop-i-preserved
-loop-i-preserved c =
-    let a = c.args in
-    let l = c.loop-i in
-    let h : l.i < length a.lengths.now = omega arith in
-    (omega arith, omega (arith, l.invariant.1), sum_more a.lengths.now l.i h a.room c.rows_of-rows.result l.sum _ c.rows_of-rows.ensures l.invariant.2)
+    let l = c.loop-len in
+    let i = l.len-index in
+    let s = c.saturating_add-sum.ensures in
+    (omega (arith, s), ap (λ (k : ℕ). capped (k + rows_needed a.room (drop (i + 1) a.lengths.now))) s ∙ sum_more a.lengths.now i c.loop-len-test.true a.room c.rows_of.result l.sum _ c.rows_of.ensures l.invariant.1)
 
 pub returns : goal.returns
 returns c =
     let a = c.args in
-    let l = c.loop-i in
-    let h : l.i ≡ length a.lengths.now = omega arith in
-    sum-end a.lengths.now a.room l.i l.sum _ h l.invariant.1 l.invariant.2
+    let l = c.loop-len in
+    let h : l.len-index ≡ length a.lengths.now = omega arith in
+    sum-end a.lengths.now a.room l.len-index l.sum _ h l.invariant.0 l.invariant.1

@@ -1,9 +1,0 @@
--- `report::print_bytes` ends: the index stays within the buffer and grows.
-use Rattle.std.proofs.Common.{length, ◌-◌, ◌≤◌}
-use Rattle.report.proofs.print_bytes.Given as goal
-
-abbrev pub invariant-loop-i : goal.invariant-loop-i
-invariant-loop-i g l = l.i ≤ length l.s
-
-abbrev pub decreases-loop-i : goal.decreases-loop-i
-decreases-loop-i g l = length l.s - l.i
