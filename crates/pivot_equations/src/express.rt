@@ -81,8 +81,10 @@ impl System<'_> {
         let at = e.row * stride;
         words[at..at + stride].fill(0);
         let n = self.block.of_row(e.check, xs);
+        // a copy: what is behind a reference would be read again for each position
+        let system = *self;
         for x in &xs[..n] {
-            self.add_other(e.row, e.but, usize::from(*x), words);
+            system.add_other(e.row, e.but, usize::from(*x), words);
         }
     }
 
