@@ -1,4 +1,5 @@
-// Copies bytes into an output, without a local array. Internal: the unit writer's, and packing's.
+// Copies bytes into an output, without a local array. Internal: the unit writer's, and packing's. What both call is compiled into each: a call for
+// each unit or row would make either slower.
 // A function for each size: a const parameter would need a local array, and rust/tests/write_without_array.rs follows no call of a trait's method
 // and none of core's copy_from_slice.
 //
@@ -41,7 +42,7 @@ fn put_four(out: &mut [u8], at: usize, x: Four) -> usize
 }
 
 // Puts one byte of s, that of index `from`.
-pub fn copy_1(out: &mut [u8], at: usize, s: &[u8], from: usize) -> usize
+fn copy_1(out: &mut [u8], at: usize, s: &[u8], from: usize) -> usize
     requires { (at + 1 ≤ length out.old) × (from + 1 ≤ length s.now) }
     ensures { Appended out.old out.new at result (take 1 (drop from s.now)) }
 {
@@ -50,7 +51,7 @@ pub fn copy_1(out: &mut [u8], at: usize, s: &[u8], from: usize) -> usize
 }
 
 // The same with 4 bytes from index `from` on.
-pub fn copy_4(out: &mut [u8], at: usize, s: &[u8], from: usize) -> usize
+fn copy_4(out: &mut [u8], at: usize, s: &[u8], from: usize) -> usize
     requires { (at + 4 ≤ length out.old) × (from + 4 ≤ length s.now) }
     ensures { Appended out.old out.new at result (take 4 (drop from s.now)) }
 {
@@ -59,7 +60,7 @@ pub fn copy_4(out: &mut [u8], at: usize, s: &[u8], from: usize) -> usize
 }
 
 // With 8.
-pub fn copy_8(out: &mut [u8], at: usize, s: &[u8], from: usize) -> usize
+fn copy_8(out: &mut [u8], at: usize, s: &[u8], from: usize) -> usize
     requires { (at + 8 ≤ length out.old) × (from + 8 ≤ length s.now) }
     ensures { Appended out.old out.new at result (take 8 (drop from s.now)) }
 {
@@ -70,7 +71,7 @@ pub fn copy_8(out: &mut [u8], at: usize, s: &[u8], from: usize) -> usize
 }
 
 // With 16.
-pub fn copy_16(out: &mut [u8], at: usize, s: &[u8], from: usize) -> usize
+fn copy_16(out: &mut [u8], at: usize, s: &[u8], from: usize) -> usize
     requires { (at + 16 ≤ length out.old) × (from + 16 ≤ length s.now) }
     ensures { Appended out.old out.new at result (take 16 (drop from s.now)) }
 {
@@ -85,7 +86,8 @@ pub fn copy_16(out: &mut [u8], at: usize, s: &[u8], from: usize) -> usize
 }
 
 // All of s, from 1 byte to 32: the first part and the last, which may overlap.
-fn copy_few(out: &mut [u8], at: usize, s: &[u8]) -> usize
+#[inline(always)]
+pub fn copy_few(out: &mut [u8], at: usize, s: &[u8]) -> usize
     requires { (0 < length s.now) × (length s.now ≤ 32) × (at + length s.now ≤ length out.old) }
     ensures { Appended out.old out.new at result s.now }
 {
@@ -109,7 +111,7 @@ fn copy_few(out: &mut [u8], at: usize, s: &[u8]) -> usize
 
 // Where a copy of n bytes to position `at` goes on after its first 16. From 64 bytes on that is where the output's index is a multiple of 16: in an
 // output that begins on a 16-byte border no store but the first and the last then crosses a cache line.
-pub fn second_part(at: usize, n: usize) -> usize
+fn second_part(at: usize, n: usize) -> usize
     ensures { result ≤ 16 }
 {
     if n < 64 {
@@ -119,7 +121,8 @@ pub fn second_part(at: usize, n: usize) -> usize
 }
 
 // All of s, 16 bytes or more.
-fn copy_many(out: &mut [u8], at: usize, s: &[u8]) -> usize
+#[inline(always)]
+pub fn copy_many(out: &mut [u8], at: usize, s: &[u8]) -> usize
     requires { (16 ≤ length s.now) × (at + length s.now ≤ length out.old) }
     ensures { Appended out.old out.new at result s.now }
 {
