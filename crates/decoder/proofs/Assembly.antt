@@ -25,6 +25,7 @@ use Rattle.peeling.proofs.CodeSizes.{layout-rows}
 use Rattle.peeling.specs.Plan.{Arrays, kind_of, unused_below, pivot_of, Unsolved}
 use Rattle.peeling.specs.Values.{Peeled, HoldIs, StepsHold}
 use Rattle.encoder.specs.declared.positions.Shape.{Shape}
+use Rattle.encoder.specs.declared.positions.ClassTable.{ClassTable}
 use Rattle.decoder.specs.Pivots.{Put, AllSolvedIs, DeterminedIs, Readable}
 use Rattle.pivot_equations.specs.Express.{Planned, Reads, Room, Places, StepsExpressed, SameFrom}
 use Rattle.pivot_equations.specs.declared.rows.Rows.{Rows}
@@ -167,7 +168,7 @@ pub record Ready (s : Shape) (block states : List ℕ) (plan : Arrays) (y : List
   pub all : r.steps + r.rest ≡ (checks s).m
   pub room : Room (checks s) r ((checks s).m * ((checks s).n / 64 + 1))
 
-pub ready : {s : Shape} {t block states : List ℕ} {plan : Arrays} {y : List ℕ} {early steps pivots : ℕ} → Table s t → Peeled (checks s) s.w block states plan y early steps pivots
+pub ready : {s : Shape} {t : ClassTable} {block states : List ℕ} {plan : Arrays} {y : List ℕ} {early steps pivots : ℕ} → Table s t → Peeled (checks s) s.w block states plan y early steps pivots
     → (r : Rows) → (r.early ≡ early) × (r.steps ≡ steps) × (r.pivots ≡ pivots) → r.steps + r.rest ≡ s.layout.m → r.packed ≡ (pivots + 63) / 64
     → Ready s block states plan y r
 unfolding staircase

@@ -16,7 +16,7 @@ ghost use Rattle.decoder.specs.Outcome.{Outcome, Decoded};
 use crate::{missing, pivots};
 use ccsds::code::Code;
 use encoder::positions;
-use encoder::positions::{CheckRows, TABLE_SIZE};
+use encoder::positions::{CheckRows, ClassTable};
 use peeling::peel;
 use peeling::peel::Progress;
 use peeling::plan::Plan;
@@ -201,7 +201,7 @@ pub fn solve(
     requires words_len { (length words.old ≡ (code_of number).m * (n_of (code_of number) / 64 + 1)) × (length bytes.old ≡ (code_of number).m * w) }
     ensures { Decoded (sent_checks (code_of number) fill) w symbols.old states.old symbols.new states.new result }
 {
-    let mut table = [0u16; TABLE_SIZE];
+    let mut table = ClassTable::new();
     let shape = positions::lay(number, w, fill, &mut table);
     let block = CheckRows {
         shape,

@@ -103,7 +103,8 @@ fn settle(w: usize, t: usize, r: usize, p: usize, xs: &[u16], plan: &mut Plan, s
     plan.kinds[p] = (t + 1) as u16;
 }
 
-// Check row r settles a position, if it has just one open one and no step used it.
+// Check row r settles a position, if it has just one open one and no step used it. Plan and symbols are lent to each step: of a struct that held
+// both, each method would owe a clause that it still holds the same two.
 fn try_row(rows: &CheckRows, r: usize, g: Progress, plan: &mut Plan, symbols: &mut [u8]) -> Progress
     requires r_bound { (r < (code_of rows.now.shape.number).m) × (0 < g.fuel) }
     requires reached { Reached (checks rows.now.shape) rows.now.shape.w plan.old symbols.old g }

@@ -1,6 +1,6 @@
 -- `decoder::solve::solve` meets its contract.
 -- Assumes nothing.
-use mathlib.Core.Path.{◌≡◌, refl, sym, ap}
+use mathlib.Core.Path.{◌≡◌, sym, ap}
 use mathlib.Core.Bool.{Bool, false, cond}
 use mathlib.Core.List.{List}
 use Prim.Native.Nat.{ℕ, ◌+◌, ◌*◌, ◌/◌, ◌<◌}
@@ -50,7 +50,7 @@ none-used : (j : ℕ) → get_or (replicate 1024 false) j false ≡ false
 none-used j = ⊎_elim (λ h. get_or-replicate 1024 j false false h) (λ h. get_or-eq_default (replicate 1024 false) false {n = j} (omega (arith, length-replicate 1024 false))) (lt_or_le j 1024)
 
 pub lay-shape-requires : goal.lay-shape-requires
-lay-shape-requires c = record { known = (c.requires.known.0, c.requires.known.2); blank = refl }
+lay-shape-requires c = record { known = (c.requires.known.0, c.requires.known.2); blank = c.new-table.ensures }
 
 pub peel-g-requires : goal.peel-g-requires
 peel-g-requires c = let z = sized (goal.at.peel-g-requires c).After-lay-shape in record { unused = λ j. ap (λ (b : Bool). cond b 1 0) (none-used j); states_len = (z.0, z.1) }
