@@ -23,13 +23,13 @@ pub put-none : (c : Checks) (w words steps pivots : ℕ) (l d : List ℕ) (plan 
 put-none c w words steps pivots l d plan symbols = record {
   symbols-size = refl;
   pivot = λ u h. inr (record { none = λ row k. absurd (omega arith); kind = refl; bytes = λ b k. refl });
-  same = record { pivots = refl; rows = refl; positions = refl; used = refl };
+  same = record { pivots = refl; steps = refl; used = refl };
   others = λ k o. refl;
   other_bytes = λ p b o h k. refl;
 }
 
 kinds_more : {plan plan' plan'' : Arrays} → KindsOnly plan plan' → KindsOnly plan' plan'' → KindsOnly plan plan''
-kinds_more a b = record { pivots = b.pivots ∙ a.pivots; rows = b.rows ∙ a.rows; positions = b.positions ∙ a.positions; used = b.used ∙ a.used }
+kinds_more a b = record { pivots = b.pivots ∙ a.pivots; steps = b.steps ∙ a.steps; used = b.used ∙ a.used }
 
 pub put_all : {c : Checks} {w words steps pivots : ℕ} {l d : List ℕ} {plan : Arrays} {symbols : List ℕ} {plan' : Arrays} {symbols' : List ℕ} (i rest : ℕ) → Put c w words steps i pivots l d plan symbols plan' symbols'
     → i ≡ rest → Put c w words steps rest pivots l d plan symbols plan' symbols'

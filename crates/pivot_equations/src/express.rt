@@ -81,8 +81,10 @@ impl System<'_> {
         let at = e.row * stride;
         words[at..at + stride].fill(0);
         let n = self.block.of_row(e.check, xs);
+        // a copy: what is behind a reference would be read again for each position
+        let system = *self;
         for x in &xs[..n] {
-            self.add_other(e.row, e.but, usize::from(*x), words);
+            system.add_other(e.row, e.but, usize::from(*x), words);
         }
     }
 
@@ -96,10 +98,11 @@ impl System<'_> {
     {
         let mut xs = [0u16; MAX_POSITIONS];
         for t in self.rows.early..self.rows.steps {
+            let step = self.plan.steps[t];
             let e = Target {
                 row: t,
-                check: self.plan.step_rows[t] as usize,
-                but: Some(self.plan.step_positions[t] as usize),
+                check: step.row as usize,
+                but: Some(step.position as usize),
             };
             self.row(e, &mut xs, words);
         }

@@ -2,10 +2,9 @@
 -- Assumes nothing.
 use mathlib.Core.Path.{◌≡◌, refl, sym, ap, ◌∙◌, subst}
 use mathlib.Core.List.{List, [], ◌++◌, append_assoc, append-nil}
-use Prim.Native.Nat.{ℕ, ◌-◌, ◌≤◌}
+use Prim.Native.Nat.{ℕ}
 use native.Mathlib.Omega.{arith}
-use lib.ListN.{length, take, drop, replicate, length-append, length-replicate, length-drop}
-use lib.Seq.{take_at, length-take-le}
+use lib.ListN.{take}
 use Rattle.wire.specs.inner.Appended.{Appended}
 use Rattle.wire.proofs.AppendedLaws.{then_appended}
 use Rattle.tiles.specs.inner.Steps.{Appending}

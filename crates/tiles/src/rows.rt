@@ -66,7 +66,7 @@ impl Width {
         end
     }
 
-    // The rows of a tile. Returns the place of the row after them.
+    // The rows of a tile. Returns the place of the row after them. Not a loop over chunks: a chunk doesn't tell whether others follow.
     pub fn put_tile(self, tile: &[u8], out: &mut [u8], p: Place) -> Place
         requires lwcs { p.lwc + rows_of (room_of self.w) (length tile.now) ≤ 65535 }
         requires room { p.at + rows_of (room_of self.w) (length tile.now) * self.w ≤ length out.old }

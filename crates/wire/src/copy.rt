@@ -42,7 +42,7 @@ fn put_four(out: &mut [u8], at: usize, x: Four) -> usize
 }
 
 // Puts one byte of s, that of index `from`.
-fn copy_1(out: &mut [u8], at: usize, s: &[u8], from: usize) -> usize
+pub fn copy_1(out: &mut [u8], at: usize, s: &[u8], from: usize) -> usize
     requires { (at + 1 ≤ length out.old) × (from + 1 ≤ length s.now) }
     ensures { Appended out.old out.new at result (take 1 (drop from s.now)) }
 {
@@ -51,7 +51,7 @@ fn copy_1(out: &mut [u8], at: usize, s: &[u8], from: usize) -> usize
 }
 
 // The same with 4 bytes from index `from` on.
-fn copy_4(out: &mut [u8], at: usize, s: &[u8], from: usize) -> usize
+pub fn copy_4(out: &mut [u8], at: usize, s: &[u8], from: usize) -> usize
     requires { (at + 4 ≤ length out.old) × (from + 4 ≤ length s.now) }
     ensures { Appended out.old out.new at result (take 4 (drop from s.now)) }
 {
@@ -60,7 +60,7 @@ fn copy_4(out: &mut [u8], at: usize, s: &[u8], from: usize) -> usize
 }
 
 // With 8.
-fn copy_8(out: &mut [u8], at: usize, s: &[u8], from: usize) -> usize
+pub fn copy_8(out: &mut [u8], at: usize, s: &[u8], from: usize) -> usize
     requires { (at + 8 ≤ length out.old) × (from + 8 ≤ length s.now) }
     ensures { Appended out.old out.new at result (take 8 (drop from s.now)) }
 {
@@ -71,7 +71,7 @@ fn copy_8(out: &mut [u8], at: usize, s: &[u8], from: usize) -> usize
 }
 
 // With 16.
-fn copy_16(out: &mut [u8], at: usize, s: &[u8], from: usize) -> usize
+pub fn copy_16(out: &mut [u8], at: usize, s: &[u8], from: usize) -> usize
     requires { (at + 16 ≤ length out.old) × (from + 16 ≤ length s.now) }
     ensures { Appended out.old out.new at result (take 16 (drop from s.now)) }
 {
@@ -111,7 +111,7 @@ pub fn copy_few(out: &mut [u8], at: usize, s: &[u8]) -> usize
 
 // Where a copy of n bytes to position `at` goes on after its first 16. From 64 bytes on that is where the output's index is a multiple of 16: in an
 // output that begins on a 16-byte border no store but the first and the last then crosses a cache line.
-fn second_part(at: usize, n: usize) -> usize
+pub fn second_part(at: usize, n: usize) -> usize
     ensures { result ≤ 16 }
 {
     if n < 64 {

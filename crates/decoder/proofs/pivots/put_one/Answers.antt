@@ -45,7 +45,7 @@ returns c =
       none = λ z. absurd (omega arith);
       one = λ u e.
           let same : pivot_word a.words.now a.r.packed (a.r.steps + a.i) - 1 ≡ u = omega arith in (
-            record { pivots = refl; rows = refl; positions = refl; used = refl },
+            record { pivots = refl; steps = refl; used = refl },
             ap (λ (k : ℕ). set a.plan.now.kinds (pivot_of a.plan.now k) (4097 + (a.r.steps + a.i))) same,
             c.put_from.ensures ∙ ap (λ (k : ℕ). put a.symbols.now (pivot_of a.plan.now k * a.w) a.bytes.now (a.i * a.w) a.w) same,
           );

@@ -11,10 +11,7 @@ pub loop-t-init : goal.loop-t-init
 loop-t-init c = record { size = refl; from = omega arith; to = c.requires.planned.made.early_steps; restored = restored-none _ _ c.requires.planned.made c.requires.symbols_len.1 }
 
 pub bounds-self-t : goal.bounds-self-t
-bounds-self-t c = omega (arith, few-steps c.requires.planned.made, c.args.self.now.plan.now.rows_len)
-
-pub bounds-self-t-in-loop-t : goal.bounds-self-t-in-loop-t
-bounds-self-t-in-loop-t c = omega (arith, few-steps c.requires.planned.made, c.args.self.now.plan.now.positions_len)
+bounds-self-t c = omega (arith, few-steps c.requires.planned.made, c.args.self.now.plan.now.steps_len)
 
 pub restore_by-requires : goal.restore_by-requires
 restore_by-requires c =

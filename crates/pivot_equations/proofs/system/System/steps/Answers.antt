@@ -24,10 +24,7 @@ loop-t-init c =
     record { size = refl; from = omega arith; to = p.made.early_steps; expressed = steps-none p.made p.closed c.args.words.now c.args.self.now.rows.packed; behind = from-none }
 
 pub bounds-self-t : goal.bounds-self-t
-bounds-self-t c = omega (arith, few-steps c.requires.planned.made, c.args.self.now.plan.now.rows_len)
-
-pub bounds-self-t-in-loop-t : goal.bounds-self-t-in-loop-t
-bounds-self-t-in-loop-t c = omega (arith, few-steps c.requires.planned.made, c.args.self.now.plan.now.positions_len)
+bounds-self-t c = omega (arith, few-steps c.requires.planned.made, c.args.self.now.plan.now.steps_len)
 
 pub row-requires : goal.row-requires
 row-requires c =
