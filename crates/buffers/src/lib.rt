@@ -1,7 +1,7 @@
 // Sums and copies on parts of lent byte buffers. The loops go by index, so that they are compiled to vector instructions.
 #![tactic(auto)]
 
-ghost use Rattle.std.specs.Prelude.{◌≡◌, List, ℕ, ◌≤◌, ◌+◌, length};
+ghost use Rattle.std.specs.Prelude.{◌≡◌, List, ℕ, ◌<◌, ◌≤◌, ◌+◌, ◌%◌, length};
 ghost use Rattle.buffers.specs.Parts.{added, put, Sum, Part, Apart};
 ghost use Rattle.buffers.specs.AllZero.{AllZeroIs};
 
@@ -37,16 +37,16 @@ fn add_within_16(buf: &mut [u8], at: usize, from: usize)
     put_16(buf, at, &t);
 }
 
-// The same with 64 bytes, apart from those that they are added to.
-fn add_within_64(buf: &mut [u8], at: usize, from: usize)
-    requires apart { Apart at from 64 }
-    requires at_in_bounds { (at + 64 ≤ length buf.old) × (from + 64 ≤ length buf.old) }
-    ensures { buf.new ≡ added buf.old at buf.old from 64 }
+// The same with N bytes, a multiple of 16, apart from those that they are added to.
+#[inline(always)]
+fn add_chunk<const N: usize>(buf: &mut [u8], at: usize, from: usize)
+    requires apart { Apart at from N }
+    requires whole { (N % 16 ≡ 0) × (at + N ≤ length buf.old) × (from + N ≤ length buf.old) }
+    ensures { buf.new ≡ added buf.old at buf.old from N }
 {
-    add_within_16(buf, at, from);
-    add_within_16(buf, at + 16, from + 16);
-    add_within_16(buf, at + 32, from + 32);
-    add_within_16(buf, at + 48, from + 48);
+    for k in 0..N / 16 {
+        add_within_16(buf, at + 16 * k, from + 16 * k);
+    }
 }
 
 // The 16 bytes of src from index `from` on.
@@ -61,29 +61,25 @@ pub fn part_16(src: &[u8], from: usize) -> [u8; 16]
     t
 }
 
-// Adds as many of the len bytes from index `from` on as whole chunks of 64 hold to those from index `at` on; answers how many these are.
-fn add_chunks_64(buf: &mut [u8], at: usize, from: usize, len: usize) -> usize
+// Where `done` of the len bytes are added already, adds as many more as whole chunks of N hold; answers how many are added then.
+#[inline(always)]
+fn add_chunks<const N: usize>(
+    buf: &mut [u8],
+    at: usize,
+    from: usize,
+    done: usize,
+    len: usize,
+) -> usize
     requires apart { Apart at from len }
-    requires len_in_bounds { (at + len ≤ length buf.old) × (from + len ≤ length buf.old) }
-    ensures { (result ≤ len) × (buf.new ≡ added buf.old at buf.old from result) }
-{
-    for k in 0..len / 64 {
-        add_within_64(buf, at + 64 * k, from + 64 * k);
-    }
-    len / 64 * 64
-}
-
-// Where `done` of the len bytes are added already, adds as many more as whole chunks of 16 hold; answers how many are added then.
-fn add_chunks_16(buf: &mut [u8], at: usize, from: usize, done: usize, len: usize) -> usize
-    requires apart { Apart at from len }
+    requires whole { (0 < N) × (N % 16 ≡ 0) }
     requires done_le_len { (done ≤ len) × (at + len ≤ length buf.old) × (from + len ≤ length buf.old) }
     ensures { (result ≤ len) × ((d : List ℕ) → buf.old ≡ added d at d from done → buf.new ≡ added d at d from result) }
 {
-    for k in 0..(len - done) / 16 {
-        let i = done + 16 * k;
-        add_within_16(buf, at + i, from + i);
+    for k in 0..(len - done) / N {
+        let i = done + N * k;
+        add_chunk::<N>(buf, at + i, from + i);
     }
-    done + (len - done) / 16 * 16
+    done + (len - done) / N * N
 }
 
 // Adds the rest, one by one.
@@ -103,8 +99,8 @@ pub fn add_within(buf: &mut [u8], at: usize, from: usize, len: usize)
     requires len_in_bounds { (at + len ≤ length buf.old) × (from + len ≤ length buf.old) }
     ensures { buf.new ≡ added buf.old at buf.old from len }
 {
-    let wide = add_chunks_64(buf, at, from, len);
-    let done = add_chunks_16(buf, at, from, wide, len);
+    let wide = add_chunks::<64>(buf, at, from, 0, len);
+    let done = add_chunks::<16>(buf, at, from, wide, len);
     add_bytes(buf, at, from, done, len);
 }
 
