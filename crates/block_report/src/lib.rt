@@ -3,21 +3,22 @@
 
 pub mod pass;
 
-use closing::{Closed, Verdict};
+use ccsds::refusal::Refusal;
+use closing::{Report, Verdict};
 use std::fmt;
 
 // Close's answer as it is printed: the verdict and how many positions are heard, or the refusal; with `all`, how many are filled and left too.
 #[derive(Clone, Copy)]
 pub struct Answer {
-    pub closed: Closed,
+    pub closed: Result<Report, Refusal>,
     pub all: bool,
 }
 
 impl fmt::Display for Answer {
     fn fmt<W: fmt::Write>(&self, f: &mut fmt::Formatter<W>) -> fmt::Result {
         let told = match self.closed {
-            Closed::Reported(told) => told,
-            Closed::Refused(number) => return write!(f, "refused {number}"),
+            Ok(told) => told,
+            Err(refusal) => return write!(f, "refused {}", refusal.number()),
         };
         write!(f, "{} heard {}", word(told.verdict), told.heard)?;
         if self.all {

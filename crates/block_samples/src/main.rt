@@ -69,7 +69,7 @@ fn run<F: Fn(usize) -> bool>(
 {
     let b = sample.block;
     print!(rt; "{}: ", sample.name)?;
-    if !pass::open(b, symbols, marks) {
+    if block::open::open(b, symbols, marks).is_err() {
         return print!(rt; "open refused");
     }
     for p in 0..marks.len() {
@@ -128,7 +128,7 @@ fn pattern_sample<F: Fn(usize) -> bool>(rt: &impl Print, sample: &Sample<'_, F>)
         return Ok(());
     };
     report::fill(info, 1);
-    encoder::encode::encode(b.code, b.w, b.fill, info, &mut parity);
+    let _ = encoder::encode::encode(b.code, b.w, b.fill, info, &mut parity);
     print_line(rt, sample, info, &parity, true)
 }
 

@@ -1,7 +1,7 @@
-// Sums and copies on parts of lent byte buffers, and clearing. The loops go by index, so that they are compiled to vector instructions.
+// Sums and copies on parts of lent byte buffers. The loops go by index, so that they are compiled to vector instructions.
 #![tactic(auto)]
 
-ghost use Rattle.std.specs.Prelude.{◌≡◌, List, ℕ, ◌≤◌, ◌+◌, length, replicate};
+ghost use Rattle.std.specs.Prelude.{◌≡◌, List, ℕ, ◌≤◌, ◌+◌, length};
 ghost use Rattle.buffers.specs.Parts.{added, put, Sum, Part, Apart};
 ghost use Rattle.buffers.specs.AllZero.{AllZeroIs};
 
@@ -138,20 +138,6 @@ pub fn put_from(dst: &mut [u8], at: usize, src: &[u8], from: usize, len: usize)
 {
     let done = put_chunks(dst, at, src, from, len);
     put_bytes(dst, at, src, from, done, len);
-}
-
-// Sets every byte to 0.
-pub fn clear(buf: &mut [u8])
-    ensures { buf.new ≡ replicate (length buf.old) 0 }
-{
-    buf.fill(0);
-}
-
-// Sets every word to 0.
-pub fn clear_words(buf: &mut [u64])
-    ensures { buf.new ≡ replicate (length buf.old) 0 }
-{
-    buf.fill(0);
 }
 
 // The len bytes from index `from` are all 0. All of them are read: a loop that may end early is not compiled to vector instructions.

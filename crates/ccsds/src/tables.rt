@@ -199,13 +199,6 @@ pub struct CodeLayout {
     pub ghost layout_of: { LayoutOf (code_of number) layout },
 }
 
-// A number of 16 bits.
-pub fn wide(x: u16) -> usize
-    ensures { (result ≡ x) × (result < 65536) }
-{
-    x as usize
-}
-
 // Puts xs at the front of an array.
 fn put_front(xs: &[u16], flat: &mut [u16; MAX_ADDRESSES])
     requires { (length xs.now ≤ max_addresses) × (length flat.old ≡ max_addresses) }

@@ -46,7 +46,13 @@ fn wrong_marks(marks: &[u8]) -> bool
 }
 
 // 1 to 4, 13 or 11: of the record, the lengths of the buffers, and the marks.
-fn check_close(b: Block, symbols: &[u8], marks: &[u8], work_words: &[u64], work_bytes: &[u8]) -> Result<(), Refusal>
+fn check_close(
+    b: Block,
+    symbols: &[u8],
+    marks: &[u8],
+    work_words: &[u64],
+    work_bytes: &[u8],
+) -> Result<(), Refusal>
     ensures { checked_as result ≡ close_refusal b symbols.now marks.now work_words.now work_bytes.now }
 {
     let code = Code { number: b.code };

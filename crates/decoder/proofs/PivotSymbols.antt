@@ -20,7 +20,7 @@ use Rattle.pivot_equations.specs.declared.rows.Rows.{Rows}
 use Rattle.decoder.specs.Pivots.{Solved, Free, KindsOnly, Put, PutOne}
 
 kinds_more : {plan plan' plan'' : Arrays} → KindsOnly plan plan' → KindsOnly plan' plan'' → KindsOnly plan plan''
-kinds_more a b = record { pivots = b.pivots ∙ a.pivots; rows = b.rows ∙ a.rows; positions = b.positions ∙ a.positions; used = b.used ∙ a.used }
+kinds_more a b = record { pivots = b.pivots ∙ a.pivots; steps = b.steps ∙ a.steps; used = b.used ∙ a.used }
 
 module _ (c : Checks) (w : ℕ) (r : Rows) (states l d : List ℕ) (plan : Arrays) (symbols : List ℕ) (P : Plan c states plan r.early r.steps r.pivots) (U : Unsolved plan r.pivots)
     (size : length symbols ≡ c.n * w) (i : ℕ) (plan' : Arrays) (symbols' : List ℕ) (X : Put c w r.packed r.steps i r.pivots l d plan symbols plan' symbols') where

@@ -21,7 +21,8 @@ use Rattle.elimination.specs.Reduced.{pivot_word, RowReduced, Reduced}
 use Rattle.elimination.specs.Consistency.{Consistent, Fails}
 use Rattle.elimination.proofs.ConsistencyLaws.{word-pivot}
 use Rattle.elimination.proofs.Order.{lt_or_le, eq_or_ne}
-use Rattle.peeling.specs.Plan.{Arrays, kind_of, row_of, position_of, pivot_of, used_by, Before, Step, Sort, Plan, Closed, Unsolved}
+use Rattle.peeling.specs.declared.plan.Step as Entry
+use Rattle.peeling.specs.Plan.{no_step, Arrays, kind_of, row_of, position_of, pivot_of, used_by, Before, Step, Sort, Plan, Closed, Unsolved}
 use Rattle.peeling.specs.Values.{StepsHold, Values, StepsRestored}
 use Rattle.pivot_equations.specs.Express.{Places, StepsExpressed}
 use Rattle.decoder.specs.Pivots.{Solved, Free, Put, AllSolvedIs}
@@ -176,10 +177,10 @@ module _ {c : Checks} {w : ℕ} {block states : List ℕ} {plan : Arrays} {y l l
           go (inr (u, (hu, q))) (inr h) = inr (h.0, subst (λ (x : ℕ). (1024 < kind_of plan' x) × (kind_of plan' x < 65535)) q (pivot-kind u hu))
 
       pub row_same : (t : ℕ) → row_of plan' t ≡ row_of plan t
-      row_same t = ap (λ (l : List ℕ). get_or l t 0) Q.same.rows
+      row_same t = ap (λ (l : List Entry.Step). (get_or l t no_step).row) Q.same.steps
 
       position-same : (t : ℕ) → position_of plan' t ≡ position_of plan t
-      position-same t = ap (λ (l : List ℕ). get_or l t 0) Q.same.positions
+      position-same t = ap (λ (l : List Entry.Step). (get_or l t no_step).position) Q.same.steps
 
       pivot-same : (u : ℕ) → pivot_of plan' u ≡ pivot_of plan u
       pivot-same u = ap (λ (l : List ℕ). get_or l u 0) Q.same.pivots

@@ -28,8 +28,7 @@ pub record Free (w words steps rest : ℕ) (l : List ℕ) (plan : Arrays) (symbo
 -- two plans that differ in kinds alone
 pub record KindsOnly (plan plan' : Arrays) : Type 0 where
   pub pivots : plan'.pivots ≡ plan.pivots
-  pub rows : plan'.step_rows ≡ plan.step_rows
-  pub positions : plan'.step_positions ≡ plan.step_positions
+  pub steps : plan'.steps ≡ plan.steps
   pub used : plan'.used ≡ plan.used
 
 -- the first `rest` reduced rows were asked; only kinds and symbols of pivots changed

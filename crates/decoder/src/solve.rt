@@ -19,7 +19,7 @@ use encoder::positions;
 use encoder::positions::{CheckRows, ClassTable};
 use peeling::peel;
 use peeling::peel::Progress;
-use peeling::plan::Plan;
+use peeling::plan::{Plan, Step};
 use pivot_equations::remaining;
 use pivot_equations::rows::Rows;
 use pivot_equations::system::System;
@@ -210,8 +210,10 @@ pub fn solve(
     let mut plan = Plan {
         kinds: [0; Code::MAX_N],
         pivots: [0; Code::MAX_N],
-        step_rows: [0; Code::MAX_M],
-        step_positions: [0; Code::MAX_M],
+        steps: [Step {
+            row: 0,
+            position: 0,
+        }; Code::MAX_M],
         used: [false; Code::MAX_M],
     };
     let g = peel::peel(&block, states, &mut plan, symbols);

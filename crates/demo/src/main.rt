@@ -6,7 +6,6 @@
 use block::Block;
 use block_report::{Answer, pass};
 use ccsds::code::Code;
-use encoder::encode::Encoded;
 use report::Digest;
 use std::io;
 use std::io::Read;
@@ -57,7 +56,7 @@ fn receive_all(b: Block, units: &[u8], symbols: &mut [u8], marks: &mut [u8]) -> 
 // Opens the block, takes what arrives, closes, and prints.
 fn gather(rt: &impl Print, b: Block, units: &[u8], symbols: &mut [u8]) -> io::Result<()> {
     let mut marks = [0; Code::C1_N];
-    if !pass::open(b, symbols, &mut marks) {
+    if block::open::open(b, symbols, &mut marks).is_err() {
         return println!(rt; "open refused");
     }
     let kept = receive_all(b, units, symbols, &mut marks);
@@ -82,8 +81,8 @@ fn run(rt: &impl Print, b: Block, info: &[u8]) -> io::Result<()> {
     let mut parity = [0; PARITY];
     println!(rt; "information{}", Digest::of(info, 8))?;
     match encoder::encode::encode(b.code, b.w, b.fill, info, &mut parity) {
-        Encoded::Done => print!(rt; "parity")?,
-        Encoded::Refused(number) => print!(rt; "refused {number}")?,
+        Ok(()) => print!(rt; "parity")?,
+        Err(refusal) => print!(rt; "refused {}", refusal.number())?,
     }
     println!(rt; "{}", Digest::of(&parity, 8))?;
     transmit(rt, b, info, &parity)

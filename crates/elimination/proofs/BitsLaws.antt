@@ -1,6 +1,6 @@
 -- Laws of specs/Bits.antt.
 -- Assumes nothing.
-use mathlib.Core.Path.{◌≡◌, refl, sym, ap, ap₂, ◌∙◌}
+use mathlib.Core.Path.{◌≡◌, sym, ap, ap₂, ◌∙◌}
 use mathlib.Core.Bool.{Bool, true, false}
 use mathlib.Core.List.{List}
 use mathlib.Core.Logic.{◌≢◌, ⊎_elim}
@@ -12,13 +12,12 @@ use lib.Count.{count_trailing_zeros}
 use lib.ListN.{length, get_or, take, drop, length-take, length-drop}
 use borrow.Author.Tests.{eq-eqb, ne_eqb}
 use Rattle.std.proofs.Common.{Some, None, ◌==◌, not}
-use Rattle.std.proofs.lemmas.Bool.{not-false, eqb-true}
+use Rattle.std.proofs.lemmas.Bool.{cases_lt, not-false, eqb-true, true_from_ne_false}
 use Rattle.std.proofs.lemmas.List.{get_or-take, get_or-drop}
 use Rattle.std.proofs.lemmas.List.Quantifiers.{position-Some}
 use Rattle.std.specs.List.{position, position_or_len}
 use Rattle.std.proofs.lemmas.List.Sums.{fails_before_first}
 use Rattle.std.proofs.lemmas.Bool.Decides.{nat_tests}
-use Rattle.elimination.proofs.Order.{lt_or_le}
 use Rattle.elimination.proofs.Digits.{test_bit-none, test_bit_pow, test_bit-differ, LowestSet, trailing_lowest}
 use Rattle.elimination.specs.Bits.{test_bit, row_bit, LowestIs, OnlyIs}
 
@@ -78,7 +77,7 @@ module _ (l : List ℕ) (base words n : ℕ) (size : n ≡ words) (fit : base + 
         omega arith,
         (
           here (i * 64 + t) (omega arith) (omega arith) ∙ ap (test_bit w) e ∙ low.here,
-          λ q l. ⊎_elim (λ lo. before q lo) (λ ge. here q ge (omega arith) ∙ low.below (q - 64 * i) (omega arith)) (lt_or_le q (64 * i)),
+          λ q l. ⊎_elim (λ lo. before q lo) (λ ge. here q ge (omega arith) ∙ low.below (q - 64 * i) (omega arith)) (cases_lt q (64 * i)),
         ),
       )
 
@@ -99,7 +98,7 @@ module _ (l : List ℕ) (base p i : ℕ) where
 
   pub only-more : ((q : ℕ) → q < 64 * i → q ≢ p → row_bit l base q ≡ false) → WordOnly → (q : ℕ) → q < 64 * (i + 1) → q ≢ p → row_bit l base q ≡ false
   only-more before w q h ne =
-      ⊎_elim (λ lo. before q lo ne) (λ hi. in_word l base i q hi (omega arith) ∙ w (q - 64 * i) (omega arith) (λ e. ne (omega arith))) (lt_or_le q (64 * i))
+      ⊎_elim (λ lo. before q lo ne) (λ hi. in_word l base i q hi (omega arith) ∙ w (q - 64 * i) (omega arith) (λ e. ne (omega arith))) (cases_lt q (64 * i))
 
   -- word i has another digit set
   other : (words j : ℕ) → i < words → j < 64 → (64 * i + j ≡ p → ⊥) → test_bit word j ≡ true → OnlyIs (row_bit l base) (64 * words) p false
@@ -112,10 +111,6 @@ module _ (l : List ℕ) (base p i : ℕ) where
       let low : LowestSet word 64 (count_trailing_zeros 64 word) = trailing_lowest 64 word pos fit in
       let w : count_trailing_zeros 64 word < 64 = low.within in other words (count_trailing_zeros 64 word) hi w (λ e. ne (omega arith)) low.here
 
-  on-or-off : (b : Bool) → b ≢ false → b ≡ true
-  on-or-off true h = refl
-  on-or-off false h = absurd (h refl)
-
   pub other_digit : (words : ℕ) → i < words → i ≡ p / 64 → row_bit l base p ≡ true → word < 2 ^ 64 → (word ≡ 2 ^ (p % 64) → ⊥) → OnlyIs (row_bit l base) (64 * words) p false
   other_digit words hi e on fit ne =
       let r = test_bit-differ 64 word (2 ^ (p % 64)) fit (pow-lt (mod-lt p (zero-lt-suc 63))) ne in
@@ -124,4 +119,4 @@ module _ (l : List ℕ) (base p i : ℕ) where
       (let k : p - 64 * i ≡ p % 64 = omega arith in ap (test_bit word) (sym k) ∙ sym (in_word l base i p (omega arith) (omega arith)) ∙ on) in
       let apart : j ≡ p % 64 → ⊥ =
       λ k. r.1.1 (ap (test_bit word) k ∙ here ∙ sym (test_bit_pow (p % 64) j ∙ eq-eqb j (p % 64) k)) in
-      other words j hi r.1.0 (λ k. apart (omega (arith, r.1.0))) (on-or-off (test_bit word j) (λ k. r.1.1 (k ∙ sym (test_bit_pow (p % 64) j ∙ ne_eqb j (p % 64) apart))))
+      other words j hi r.1.0 (λ k. apart (omega (arith, r.1.0))) (true_from_ne_false (test_bit word j) (λ k. r.1.1 (k ∙ sym (test_bit_pow (p % 64) j ∙ ne_eqb j (p % 64) apart))))

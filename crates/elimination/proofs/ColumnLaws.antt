@@ -12,7 +12,7 @@ use borrow.Author.Tests.{eq-eqb, ne_eqb}
 use lib.Dec.{eqb}
 use lib.ListN.{length, get_or}
 use Rattle.algebra.specs.Sums.{◌⊕◌}
-use Rattle.elimination.proofs.Order.{lt_or_le}
+use Rattle.std.proofs.lemmas.Bool.{cases_lt}
 use Rattle.algebra.proofs.Codeword.{slot}
 use Rattle.buffers.specs.Parts.{added, Apart}
 use Rattle.buffers.proofs.Added.{added-length, added_out, added_above, added_in}
@@ -42,7 +42,7 @@ length-add_row_where h l r w len (suc j) =
 pub rows_beside : (a b w len : ℕ) → a ≢ b → len ≤ w → Apart (b * w) (a * w) len
 rows_beside a b w len ne small = record {
   either = ⊎_elim (λ lt. inl (omega (arith, slot a b w lt)))
-      (λ ge. ⊎_elim (λ q. absurd (ne (sym q))) (λ gt. inr (omega (arith, slot b a w gt))) (eq-or-lt_of_le ge)) (lt_or_le a b);
+      (λ ge. ⊎_elim (λ q. absurd (ne (sym q))) (λ gt. inr (omega (arith, slot b a w gt))) (eq-or-lt_of_le ge)) (cases_lt a b);
 }
 
 -- so they have no index in common
@@ -130,27 +130,26 @@ has_pivot_ahead l x w len r p j k small e h =
     has_pivot-same l x w r p k (ap (λ (y : List ℕ). get_or y (k * w + p / 64) 0) e
     ∙ add_row_where_ahead (has_pivot l w r p) l r w len small (has_pivot_own l w r p r refl) j (k * w + p / 64) (omega (arith, mul-le-mul_right w h)))
 
--- ---- what the loop needs: one row more. y is the list, the rows themselves or the right-hand side, after j rows
+-- ---- what the loop needs: row r added to row j. y is the list, the rows themselves or the right-hand side, after j rows
 
--- row r is added to row j
 pub add_row_where-one : (h : ℕ → Bool) (d y z : List ℕ) (r w n j : ℕ) → h j ≡ true → y ≡ add_row_where h d r w n j → z ≡ added y (j * w) y (r * w) n → z ≡ add_row_where h d r w n (j + 1)
 unfolding add_row_where
 add_row_where-one h d y z r w n j t ey ez = ez ∙ rw (add-one, t, ey)
 
--- row j stays
-pub add_row_where-stays : (h : ℕ → Bool) (d y : List ℕ) (r w n j : ℕ) → h j ≡ false → y ≡ add_row_where h d r w n j → y ≡ add_row_where h d r w n (j + 1)
-unfolding add_row_where
-add_row_where-stays h d y r w n j t ey = ey ∙ rw (add-one, t)
-
 -- ---- rows that all stay
 
-add_row_where_skip : (h : ℕ → Bool) (l : List ℕ) (r w len n j : ℕ) → j ≤ n → ((k : ℕ) → j ≤ k → k < n → h k ≡ false) → add_row_where h l r w len j ≡ add_row_where h l r w len n
+pub add_row_where_skip : (h : ℕ → Bool) (l : List ℕ) (r w len n j : ℕ) → j ≤ n → ((k : ℕ) → j ≤ k → k < n → h k ≡ false) → add_row_where h l r w len j ≡ add_row_where h l r w len n
 unfolding add_row_where
 add_row_where_skip h l r w len zero j g off = let e : j ≡ 0 = omega arith in ap (add_row_where h l r w len) e
 add_row_where_skip h l r w len (suc n) j g off =
     ⊎_elim (λ e. ap (add_row_where h l r w len) e)
     (λ lt. add_row_where_skip h l r w len n j (omega arith) (λ k a b. off k a (omega arith)) ∙ sym (ap (λ (b : Bool). add_row b (add_row_where h l r w len n) r w len n) (off n (omega arith) (omega arith))))
     (eq-or-lt_of_le g)
+
+-- ---- what the search for the next row needs: one row more
+
+pub between_more : (h : ℕ → Bool) (j k : ℕ) → ((i : ℕ) → j ≤ i → i < k → h i ≡ false) → h k ≡ false → (i : ℕ) → j ≤ i → i < k + 1 → h i ≡ false
+between_more h j k off here i a b = ⊎_elim (λ e. ap h e ∙ here) (λ lt. off i a lt) (eq-or-lt_of_le (let g : i ≤ k = omega arith in g))
 
 -- ---- one row alone
 

@@ -12,7 +12,7 @@ use lib.Pow.{shr-shr}
 use lib.Bits.{bit_xor, bit_or, bit_and, xor_shr, xor_mod, or_shr, or_mod, and_shr, and_mod}
 use Rattle.algebra.specs.Sums.{◌⊕◌}
 use lib.Count.{count_trailing_zeros, under}
-use Rattle.elimination.proofs.Order.{digit, eq_or_ne}
+use Rattle.std.proofs.lemmas.Bool.{cases_eq}
 use Rattle.elimination.specs.Bits.{test_bit}
 
 pub test_bit-none : (i : ℕ) → test_bit 0 i ≡ false
@@ -38,6 +38,12 @@ unfolding test_bit
 digitwise op f here quotient rest a b i =
     ap (λ (n : ℕ). eqb (n % 2) 1) (quotient a b i) ∙ ap (λ (n : ℕ). eqb n 1) (rest (a / 2 ^ i) (b / 2 ^ i) 1)
     ∙ here (a / 2 ^ i % 2) (b / 2 ^ i % 2) (mod-lt (a / 2 ^ i) (zero-lt-suc 1)) (mod-lt (b / 2 ^ i) (zero-lt-suc 1))
+
+-- what holds of 0 and of 1 holds of a digit
+digit : (P : ℕ → Type 0) → P 0 → P 1 → (x : ℕ) → x < 2 → P x
+digit P z o zero h = z
+digit P z o (suc zero) h = o
+digit P z o (suc (suc x)) h = absurd (omega arith)
 
 -- what holds of each pair of digits
 digits : (P : ℕ → ℕ → Type 0) → P 0 0 → P 0 1 → P 1 0 → P 1 1 → (x y : ℕ) → x < 2 → y < 2 → P x y
@@ -101,7 +107,7 @@ trailing_lowest (suc k) a p h = go (λ q. trailing_lowest k (a / 2) q (half k a 
 -- two numbers of k digits that are not equal differ in a digit
 pub test_bit-differ : (k a b : ℕ) → a < 2 ^ k → b < 2 ^ k → a ≢ b → (i : ℕ) × ((i < k) × (test_bit a i ≡ test_bit b i → ⊥))
 test_bit-differ zero a b ha hb ne = absurd (ne (lt-one ha ∙ sym (lt-one hb)))
-test_bit-differ (suc k) a b ha hb ne = go (λ h. test_bit-differ k (a / 2) (b / 2) (half k a ha) (half k b hb) h) (eq_or_ne (a % 2) (b % 2))
+test_bit-differ (suc k) a b ha hb ne = go (λ h. test_bit-differ k (a / 2) (b / 2) (half k a ha) (half k b hb) h) (cases_eq (a % 2) (b % 2))
   where
     low : (a % 2 ≡ b % 2 → ⊥) → test_bit a 0 ≡ test_bit b 0 → ⊥
     low h e = h (digit_eqb (a % 2) (b % 2) (mod-lt a (zero-lt-suc 1)) (mod-lt b (zero-lt-suc 1)) (sym (test_bit_low a) ∙ e ∙ test_bit_low b))

@@ -1,9 +1,9 @@
 pub mod Order
 pub mod Digits
-pub mod FitsLaws
 pub mod BitsLaws
 pub mod ColumnLaws
 pub mod SystemLaws
+pub mod KeptLaws
 pub mod ReducedLaws
 pub mod PivotStepLaws
 pub mod SharedUnknownsLaws

@@ -1,4 +1,4 @@
--- Cases on two numbers, and on a digit.
+-- Cases on two numbers.
 -- Assumes nothing.
 use mathlib.Core.Path.{◌≡◌, sym}
 use mathlib.Core.Logic.{◌≢◌, ◌⊎◌, inl, inr, ⊎_elim}
@@ -13,9 +13,3 @@ lt_or_le (suc a) (suc b) = ⊎_elim (λ p. inl (suc-le-suc p)) (λ q. inr (suc-l
 
 pub eq_or_ne : (a b : ℕ) → (a ≡ b) ⊎ (a ≢ b)
 eq_or_ne a b = ⊎_elim (λ lt. inr (λ e. omega arith)) (λ ge. ⊎_elim (λ e. inl (sym e)) (λ gt. inr (λ e. omega arith)) (eq-or-lt_of_le ge)) (lt_or_le a b)
-
--- what holds of 0 and of 1 holds of a digit
-pub digit : (P : ℕ → Type 0) → P 0 → P 1 → (x : ℕ) → x < 2 → P x
-digit P z o zero h = z
-digit P z o (suc zero) h = o
-digit P z o (suc (suc x)) h = absurd (omega arith)

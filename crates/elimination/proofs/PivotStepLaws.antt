@@ -1,17 +1,17 @@
 -- Laws of specs/PivotStep.antt.
 -- Assumes nothing.
 use mathlib.Core.Path.{◌≡◌, refl, sym, ap, ◌∙◌}
-use mathlib.Core.Logic.{◌≢◌, ◌⊎◌, inl, inr, ⊎_elim}
-use mathlib.Core.Bool.{Bool, true, false, true≢false}
+use mathlib.Core.Logic.{◌⊎◌, inl, inr, ⊎_elim}
+use mathlib.Core.Bool.{Bool, true, false}
 use mathlib.Core.List.{List}
 use Prim.Native.Nat.{ℕ, ◌+◌, ◌*◌, ◌≤◌, ◌<◌}
 use native.Mathlib.Omega.{arith}
 use lib.ListN.{length, get_or, set, length-set}
 use lib.Seq.{get_or-set_same, get_or-set_other}
 use Rattle.std.proofs.Common.{Option, Some, None}
-use Rattle.elimination.proofs.Order.{eq_or_ne}
+use Rattle.std.proofs.lemmas.Bool.{cases_eq}
 use Rattle.algebra.proofs.Codeword.{slot}
-use Rattle.elimination.specs.Bits.{row_bit, LowestIs}
+use Rattle.elimination.specs.Bits.{row_bit}
 use Rattle.elimination.specs.Column.{add_row_where, has_pivot}
 use Rattle.elimination.proofs.ColumnLaws.{has_pivot_own}
 use Rattle.elimination.specs.System.{SameSolutions}
@@ -48,7 +48,7 @@ module _ (l d l' d' : List ℕ) (m words width r : ℕ) (step : PivotStep l d l'
       let own : (e : s ≡ r) → RowReduced (add_row_where (has_pivot l₂ (words + 1) r p) l₂ r (words + 1) words m) m words s =
       λ e. rw e (cleared_own l₂ m words r p inside rows₂ low.0 there (get_or-set_same l (pivot_at words r) (p + 1) 0 (omega arith))) in
       ⊎_elim own
-      (λ d. ⊎_elim own (λ ne. cleared_reduced l₂ m words r p inside rows₂ low.0 there s h ne (pivot_set_reduced l words r (p + 1) m s h ne d)) (eq_or_ne s r)) w
+      (λ d. ⊎_elim own (λ ne. cleared_reduced l₂ m words r p inside rows₂ low.0 there s h ne (pivot_set_reduced l words r (p + 1) m s h ne d)) (cases_eq s r)) w
   step-reduced None low s h w =
       let end : r * (words + 1) + (words + 1) ≤ m * (words + 1) = slot r m (words + 1) inside in
       let own : (e : s ≡ r) → RowReduced (set l (pivot_at words r) 0) m words s =
@@ -56,28 +56,16 @@ module _ (l d l' d' : List ℕ) (m words width r : ℕ) (step : PivotStep l d l'
         word = get_or-set_same l (pivot_at words r) 0 0 (omega arith);
         clear = λ q hq. pivot_set_bit l words r 0 r q hq ∙ low q hq;
       })) in
-      ⊎_elim own (λ d. ⊎_elim own (λ ne. pivot_set_reduced l words r 0 m s h ne d) (eq_or_ne s r)) w
+      ⊎_elim own (λ d. ⊎_elim own (λ ne. pivot_set_reduced l words r 0 m s h ne d) (cases_eq s r)) w
 
   pub step_where : (f : List Bool) → ReducedWhere f l m words → ReducedWhere (set f r true) l' m words
   step_where f red = record {
     long = simp length-set red.long;
     rows = λ s h. ⊎_elim (λ e. inr (rw step.rows (step-reduced step.found step.chosen s h (inl e))))
         (λ ne. ⊎_elim (λ z. inl (get_or-set_other f r s true false ne ∙ z)) (λ d. inr (rw step.rows (step-reduced step.found step.chosen s h (inr d)))) (red.rows s h))
-        (eq_or_ne s r);
+        (cases_eq s r);
   }
 
--- the account of the rows that are reduced
-pub row_marked : (f : List Bool) (r : ℕ) → r < length f → RowMarked f (set f r true) r
-row_marked f r h = record { here = one; kept = λ s z. ⊎_elim (λ e. absurd (one (ap (λ (x : ℕ). get_or (set f r true) x false) (sym e) ∙ z))) (λ ne. sym (get_or-set_other f r s true false ne) ∙ z) (eq_or_ne s r) }
-  where
-    one : get_or (set f r true) r false ≢ false
-    one z = true≢false (sym (get_or-set_same f r true false h) ∙ z)
-
--- the lowest unknown is one
-pub pivot_lowest : (b : ℕ → Bool) (n : ℕ) (f : Option ℕ) → LowestIs b n f → PivotIs b n f
-pivot_lowest b n (Some p) h = (h.0, h.1.0)
-pivot_lowest b n None h = h
-
--- one row more in order
+-- the account of the rows that are reduced: one row more in order
 pub marked_more : (f g : List Bool) (s : ℕ) → RowMarked f g s → ((i : ℕ) → i < s → get_or f i false ≡ false → ⊥) → (i : ℕ) → i < s + 1 → get_or g i false ≡ false → ⊥
-marked_more f g s w before i h z = ⊎_elim (λ e. w.here (ap (λ (x : ℕ). get_or g x false) (sym e) ∙ z)) (λ ne. before i (omega arith) (w.kept i z)) (eq_or_ne i s)
+marked_more f g s w before i h z = ⊎_elim (λ e. w.here (ap (λ (x : ℕ). get_or g x false) (sym e) ∙ z)) (λ ne. before i (omega arith) (w.kept i z)) (cases_eq i s)

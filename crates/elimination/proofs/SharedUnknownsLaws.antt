@@ -1,17 +1,16 @@
 -- Laws of specs/SharedUnknowns.antt.
 -- Assumes nothing.
-use mathlib.Core.Path.{◌≡◌, refl, sym, ap, ◌∙◌}
-use mathlib.Core.Logic.{◌≢◌, ⊎_elim}
-use mathlib.Core.Bool.{Bool, true, false, true≢false, ◌||◌, ◌&&◌}
+use mathlib.Core.Path.{◌≡◌, sym, ap, ◌∙◌}
+use mathlib.Core.Logic.{⊎_elim}
+use mathlib.Core.Bool.{true, false, true≢false}
 use mathlib.Core.List.{List}
 use Prim.Native.Nat.{ℕ, ◌+◌, ◌*◌, ◌/◌, ◌%◌, ◌≤◌, ◌<◌}
 use native.Mathlib.Nat.{eq-or-lt_of_le}
 use native.Mathlib.Omega.{arith}
-use lib.ListN.{length, get_or, set}
-use lib.Seq.{get_or-set_same, get_or-set_other}
+use lib.ListN.{get_or, set}
 use lib.Bits.{bit_or, bit_and}
 use Rattle.std.proofs.Common.{Some}
-use Rattle.elimination.proofs.Order.{eq_or_ne}
+use Rattle.std.proofs.lemmas.Bool.{cases_eq, or_left, or_right, or_parts, and_cases, both_ways, false_from_ne_true}
 use Rattle.elimination.specs.Bits.{test_bit, row_bit}
 use Rattle.elimination.proofs.Digits.{test_bit_or, test_bit_and}
 use Rattle.elimination.specs.Column.{has_pivot}
@@ -21,30 +20,6 @@ use Rattle.elimination.proofs.SystemLaws.{coefficients_pivot_set, coefficients_b
 use Rattle.elimination.specs.Reduced.{pivot_at}
 use Rattle.elimination.specs.PivotStep.{PivotStep}
 use Rattle.elimination.specs.SharedUnknowns.{SharedMask, SharedMasks}
-
-or_left : (a b : Bool) → a ≡ true → (a || b) ≡ true
-or_left true b e = refl
-or_left false b e = absurd (true≢false (sym e))
-
-or_right : (a b : Bool) → b ≡ true → (a || b) ≡ true
-or_right true b e = refl
-or_right false b e = e
-
-off_left : (a b : Bool) → (a || b) ≡ false → a ≡ false
-off_left true b e = absurd (true≢false e)
-off_left false b e = refl
-
-off_right : (a b : Bool) → (a || b) ≡ false → b ≡ false
-off_right true b e = absurd (true≢false e)
-off_right false b e = e
-
-and_off : (a b : Bool) → (a && b) ≡ false → a ≡ true → b ≡ false
-and_off true b e h = e
-and_off false b e h = absurd (true≢false (sym h))
-
-not_on : (b : Bool) → b ≢ true → b ≡ false
-not_on true h = absurd (h refl)
-not_on false h = refl
 
 -- ---- one row more: the digits seen so far, and those seen twice
 
@@ -64,27 +39,19 @@ module _ (l : List ℕ) (words k n seen shared : ℕ) where
   pub shared_more : SeenMask seen l n words k → SharedMask shared l n words k → SharedMask (bit_or shared (bit_and seen (word n))) l (n + 1) words k
   shared_more s old b i j hi hj ne off on =
       let both = sym (test_bit_or shared (bit_and seen (word n)) b) ∙ off in
-      let was : test_bit shared b ≡ false = off_left (test_bit shared b) (test_bit (bit_and seen (word n)) b) both in
+      let was : test_bit shared b ≡ false = (or_parts (test_bit shared b) (test_bit (bit_and seen (word n)) b) both).0 in
       let apart : test_bit seen b ≡ true → test_bit (word n) b ≡ false =
-      and_off (test_bit seen b) (test_bit (word n) b) (sym (test_bit_and seen (word n) b) ∙ off_right (test_bit shared b) (test_bit (bit_and seen (word n)) b) both) in
+      λ e. ⊎_elim (λ f. absurd (both_ways _ f e)) (λ f. f) (and_cases (test_bit seen b) (test_bit (word n) b) (sym (test_bit_and seen (word n) b) ∙ (or_parts (test_bit shared b) (test_bit (bit_and seen (word n)) b) both).1)) in
       ⊎_elim
       (λ ei. ⊎_elim
       (λ ej. absurd (ne (ei ∙ sym ej)))
-      (λ lj. not_on (test_bit (word j) b) (λ t. true≢false (sym on ∙ ap (λ (x : ℕ). test_bit (word x) b) ei ∙ apart (s b j lj t))))
+      (λ lj. false_from_ne_true (test_bit (word j) b) (λ t. true≢false (sym on ∙ ap (λ (x : ℕ). test_bit (word x) b) ei ∙ apart (s b j lj t))))
       (eq-or-lt_of_le (let g : j ≤ n = omega arith in g)))
       (λ li. ⊎_elim
       (λ ej. ap (λ (x : ℕ). test_bit (word x) b) ej ∙ apart (s b i li on))
       (λ lj. old b i j li lj ne was on)
       (eq-or-lt_of_le (let g : j ≤ n = omega arith in g)))
       (eq-or-lt_of_le (let g : i ≤ n = omega arith in g))
-
--- one word more
-pub masks_more : (f l : List ℕ) (m words k v : ℕ) → k < length f → SharedMasks f l m words k → SharedMask v l m words k → SharedMasks (set f k v) l m words (k + 1)
-masks_more f l m words k v fit s here i h b p q hp hq ne off on = ⊎_elim
-    (λ e. let w : test_bit v b ≡ false = ap (λ (x : ℕ). test_bit x b) (sym (ap (λ (x : ℕ). get_or (set f k v) x 0) e ∙ get_or-set_same f k v 0 fit)) ∙ off in
-    ap (λ (x : ℕ). test_bit (get_or l (q * (words + 1) + x) 0) b) e ∙ here b p q hp hq ne w (ap (λ (x : ℕ). test_bit (get_or l (p * (words + 1) + x) 0) b) (sym e) ∙ on))
-    (λ lt. s i lt b p q hp hq ne (ap (λ (x : ℕ). test_bit x b) (sym (get_or-set_other f k i v 0 (λ e. omega arith))) ∙ off) on)
-    (eq-or-lt_of_le (let g : i ≤ k = omega arith in g))
 
 -- ---- pivot words take no part
 
@@ -102,7 +69,7 @@ singleton_step f l m words r p inside within s off on d width =
     let same : SameCoefficients l l₂ words = coefficients_pivot_set l words r (p + 1) in
     let none : (k : ℕ) → k < m → has_pivot l₂ (words + 1) r p k ≡ false =
     λ k h. ⊎_elim (λ e. has_pivot_own l₂ (words + 1) r p k e)
-    (λ ne. has_pivot_other l₂ (words + 1) r p k ne ∙ coefficients_bit l l₂ words same k p within ∙ s (p / 64) (omega arith) (p % 64) r k inside h (λ e. ne (sym e)) off on) (eq_or_ne k r) in
+    (λ ne. has_pivot_other l₂ (words + 1) r p k ne ∙ coefficients_bit l l₂ words same k p within ∙ s (p / 64) (omega arith) (p % 64) r k inside h (λ e. ne (sym e)) off on) (cases_eq k r) in
     record {
       found = Some p;
       chosen = (within, on);

@@ -1,7 +1,7 @@
 -- Row additions: row r is added to each row of a chosen set. Where these are the other rows that have its pivot, that clears the pivot's column.
 -- A row is w elements of the list, of which the first len take part.
 -- Assumes nothing.
-use Rattle.std.specs.Prelude.{Bool, cond, not, ◌&&◌, List, ℕ, zero, suc, ◌*◌, eqb}
+use Rattle.std.specs.Prelude.{◌≡◌, Bool, true, false, Option, Some, None, cond, not, ◌&&◌, List, ℕ, zero, suc, ◌*◌, ◌≤◌, ◌<◌, eqb}
 use Rattle.buffers.specs.Parts.{added}
 use Rattle.elimination.specs.Bits.{row_bit}
 
@@ -17,3 +17,8 @@ add_row_where h l r w len (suc j) = add_row (h j) (add_row_where h l r w len j) 
 -- the rows other than r that have unknown p, which are those that clearing its column by row r changes
 unfoldable pub has_pivot : List ℕ → ℕ → ℕ → ℕ → ℕ → Bool
 has_pivot l w r p j = not (eqb j r) && row_bit l (j * w) p
+
+-- f is the answer to: which is the first of the numbers from j on and below m at which h is true?
+abbrev pub FirstFrom : (ℕ → Bool) → ℕ → ℕ → Option ℕ → Type 0
+FirstFrom h m j (Some k) = (j ≤ k) × ((k < m) × ((h k ≡ true) × ((i : ℕ) → j ≤ i → i < k → h i ≡ false)))
+FirstFrom h m j None = (i : ℕ) → j ≤ i → i < m → h i ≡ false

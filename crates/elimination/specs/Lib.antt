@@ -1,4 +1,5 @@
 pub mod Fits
+pub mod Kept
 pub mod Bits
 pub mod Column
 pub mod System

@@ -1,44 +1,55 @@
-// The list of the active rows, in any order: those that the forward pass has not retired. A row that loses its last unknown stays in it.
-ghost use Rattle.std.specs.Prelude.{◌≡◌, true, ◌/◌, ◌≤◌, ◌<◌, length};
-ghost use Rattle.elimination.specs.Fits.{FitsRows, max_rows};
+// The active rows: those that the forward pass has not retired.
+ghost use Rattle.std.specs.Prelude.{◌≤◌, ◌<◌};
+ghost use Rattle.elimination.specs.declared.TheConstants.{MAX_ROWS};
 
-use crate::weights::RETIRED;
-use crate::{MAX_ROWS, Shape, bits};
+use crate::MAX_ROWS;
+use crate::system::System;
+use crate::weights::{RETIRED, row_weight, sum_weight};
 
-// Lists the rows whose weight is not RETIRED; returns how many these are.
-pub fn list_active(weights: &[u16; MAX_ROWS], active: &mut [u16; MAX_ROWS], m: usize) -> usize
-    requires { m ≤ max_rows }
-    ensures { result ≤ m }
-{
-    let mut count = 0;
-    for j in 0..m {
-        if weights[j] != RETIRED {
-            active[count] = j as u16;
-            count += 1;
-        }
-    }
-    count
+// The weight of each row, and the list of the active ones, in any order. A row that loses its last unknown stays in it. The list is an array with a
+// count, since there is no heap.
+#[derive(Drop)]
+pub struct Active {
+    pub weights: [u16; MAX_ROWS],
+    pub rows: [u16; MAX_ROWS],
+    pub count: usize,
+    pub ghost few: { count ≤ MAX_ROWS },
 }
 
-// Row j is one of the system's and has unknown p.
-pub fn has_unknown(rows: &[u64], s: Shape, j: usize, p: usize) -> bool
-    requires fits_rows { FitsRows s (length rows.now) }
-    requires p_bound { p / 64 < s.words }
-    ensures { result ≡ true → j < s.rows }
-{
-    j < s.rows && bits::bit_at(rows, j * (s.words + 1), p)
-}
-
-// Takes the row at `place` out of the list, if it is known; returns how many are left.
-pub fn remove_active(active: &mut [u16; MAX_ROWS], count: usize, place: Option<usize>) -> usize
-    requires { count ≤ max_rows }
-    ensures { result ≤ count }
-{
-    if let Some(i) = place {
-        if i < count {
-            active[i] = active[count - 1];
-            return count - 1;
+impl Active {
+    // Weighs each row, and lists those that have an unknown.
+    pub fn list(&mut self, system: &System) {
+        let s = system.shape;
+        self.count = 0;
+        for j in 0..s.rows {
+            let base = j * (s.words + 1);
+            let weight = row_weight(&system.rows[base..base + s.words]);
+            self.weights[j] = RETIRED;
+            if weight > 0 {
+                self.weights[j] = weight as u16;
+                self.rows[self.count] = j as u16;
+                self.count += 1;
+            }
         }
     }
-    count
+
+    // Weighs row j, to which row r was added.
+    pub fn weigh_sum(&mut self, r: usize, j: usize)
+        requires { (r < MAX_ROWS) × (j < MAX_ROWS) }
+    {
+        self.weights[j] = sum_weight(self.weights[j], self.weights[r]);
+    }
+
+    // Takes row r, which stands at `place` of the list if it is known, out of it.
+    pub fn retire(&mut self, r: usize, place: Option<usize>)
+        requires { r < MAX_ROWS }
+    {
+        self.weights[r] = RETIRED;
+        if let Some(i) = place {
+            if i < self.count {
+                self.rows[i] = self.rows[self.count - 1];
+                self.count -= 1;
+            }
+        }
+    }
 }

@@ -1,119 +1,105 @@
 // The forward pass: each row in turn is added to the other active rows that have its pivot. It chooses rows and pivots so that few additions are
 // needed in all. Nothing is proved of how well that goes: each addition keeps the solutions.
-ghost use Rattle.std.specs.Prelude.{◌/◌, ◌≤◌, ◌<◌, length};
-ghost use Rattle.elimination.specs.Fits.{Fits, max_rows};
-ghost use Rattle.elimination.specs.System.{SameSolutions};
+ghost use Rattle.std.specs.Prelude.{◌/◌, ◌≤◌, ◌<◌, IfSome, slice_index};
+ghost use Rattle.elimination.specs.Kept.{Kept};
 
-use crate::active::{has_unknown, list_active, remove_active};
-use crate::weights::{RETIRED, lightest_row, row_weights, sum_weight};
-use crate::{MAX_ROWS, Shape, bits, column};
+use crate::active::Active;
+use crate::system::System;
+use crate::weights::lightest_row;
+use crate::{MAX_ROWS, bits};
 
-// Adds row r to each other active row that has unknown p, and retires it. Returns how many rows are active then.
-fn clear_active(
-    rows: &mut [u64],
-    rhs: &mut [u8],
-    weights: &mut [u16; MAX_ROWS],
-    active: &mut [u16; MAX_ROWS],
-    count: usize,
-    s: Shape,
-    r: usize,
-    p: usize,
-) -> usize
-    requires fits { Fits s (length rows.old) (length rhs.old) }
-    requires p_bound { (p / 64 < s.words) × ((r < s.rows) × (count ≤ max_rows)) }
-    ensures upper_bound { result ≤ count }
-    ensures same_solutions { SameSolutions rows.old rhs.old rows.new rhs.new s.rows s.words s.width }
-{
-    let mut place = None;
-    for i in 0..count {
-        let j = active[i] as usize;
-        if has_unknown(rows, s, j, p) {
-            if j == r {
-                place = Some(i);
-            } else {
-                column::add_row(rows, rhs, s, r, j);
-                weights[j] = sum_weight(weights[j], weights[r]);
-            }
-        }
-    }
-    weights[r] = RETIRED;
-    remove_active(active, count, place)
-}
-
-// A step's row and pivot. A row without unknowns has 0 in place of a pivot.
+// A step's row and pivot.
 #[derive(Clone, Copy)]
 pub struct Step {
     pub row: u16,
     pub pivot: u16,
 }
 
-// One step: the pivot of row r is its lowest unknown, which goes from each other active row. A row without unknowns is retired alone. Returns the
-// step, and how many rows are active then.
-fn forward_step(
-    rows: &mut [u64],
-    rhs: &mut [u8],
-    weights: &mut [u16; MAX_ROWS],
-    active: &mut [u16; MAX_ROWS],
-    count: usize,
-    s: Shape,
-    r: usize,
-) -> (Step, usize)
-    requires fits { Fits s (length rows.old) (length rhs.old) }
-    requires r_lt_rows { (r < s.rows) × (count ≤ max_rows) }
-    ensures active_le_count { result.1 ≤ count }
-    ensures same_solutions { SameSolutions rows.old rhs.old rows.new rhs.new s.rows s.words s.width }
-{
-    match bits::lowest(rows, r * (s.words + 1), s.words) {
-        Some(p) => {
-            let left = clear_active(rows, rhs, weights, active, count, s, r, p);
-            (
-                Step {
+impl<'a> System<'a> {
+    // The first place from i on in the list of the active rows whose row has unknown p.
+    fn next_active(&self, active: &Active, p: usize, i: usize) -> Option<usize>
+        requires { p / 64 < self.now.shape.words }
+        ensures { IfSome result (λ k. (i ≤ k) × ((k < active.now.count) × (slice_index active.now.rows k < self.now.shape.rows))) }
+    {
+        // taken out first, so that the loop doesn't read them again for each row
+        let rows: &[u64] = self.rows;
+        let s = self.shape;
+        for k in i..active.count {
+            let j = active.rows[k] as usize;
+            if j < s.rows && bits::bit_at(rows, j * (s.words + 1), p) {
+                return Some(k);
+            }
+        }
+        None
+    }
+
+    // Adds row r to each other active row that has unknown p, and retires it.
+    fn clear_active(&mut self, active: &mut Active, r: usize, p: usize)
+        requires { (p / 64 < self.old.shape.words) × (r < self.old.shape.rows) }
+        ensures { Kept self.old self.new }
+    {
+        let mut place = None;
+        let mut from = 0;
+        while let Some(i) = self.next_active(active, p, from) {
+            let j = active.rows[i] as usize;
+            if j == r {
+                place = Some(i);
+            } else {
+                self.add_row(r, j);
+                active.weigh_sum(r, j);
+            }
+            from = i + 1;
+        }
+        active.retire(r, place);
+    }
+
+    // One step: the pivot of row r is its lowest unknown, which goes from each other active row. A row without unknowns is retired alone.
+    fn forward_step(&mut self, active: &mut Active, r: usize) -> Option<Step>
+        requires { r < self.old.shape.rows }
+        ensures { Kept self.old self.new }
+    {
+        match self.lowest(r) {
+            Some(p) => {
+                self.clear_active(active, r, p);
+                Some(Step {
                     row: r as u16,
                     pivot: p as u16,
-                },
-                left,
-            )
-        }
-        None => {
-            weights[r] = RETIRED;
-            (
-                Step {
-                    row: r as u16,
-                    pivot: 0,
-                },
-                count,
-            )
+                })
+            }
+            None => {
+                active.retire(r, None);
+                None
+            }
         }
     }
-}
 
-// At most one step for each row, each with a row of least weight among the active ones. Returns the number of steps, which are in `order`.
-pub fn forward_pass(
-    rows: &mut [u64],
-    rhs: &mut [u8],
-    order: &mut [Step; MAX_ROWS],
-    s: Shape,
-) -> usize
-    requires { Fits s (length rows.old) (length rhs.old) }
-    ensures upper_bound { result ≤ s.rows }
-    ensures same_solutions { SameSolutions rows.old rhs.old rows.new rhs.new s.rows s.words s.width }
-{
-    let m = s.rows;
-    let mut weights = [0u16; MAX_ROWS];
-    row_weights(rows, &mut weights, s);
-    let mut active = [0u16; MAX_ROWS];
-    let mut count = list_active(&weights, &mut active, m);
-    let mut from = 0;
-    let mut enough = 1;
-    for t in 0..m {
-        let Some(r) = lightest_row(&weights, m, from, enough) else {
-            return t;
+    // At most one step for each row, each with a row of least weight among the active ones. Returns the number of steps with a pivot, which are in
+    // `order`.
+    pub fn forward_pass(&mut self, order: &mut [Step; MAX_ROWS]) -> usize
+        ensures upper_bound { result ≤ self.old.shape.rows }
+        ensures kept { Kept self.old self.new }
+    {
+        let m = self.shape.rows;
+        let mut active = Active {
+            weights: [0; MAX_ROWS],
+            rows: [0; MAX_ROWS],
+            count: 0,
         };
-        from = r;
-        enough = weights[r];
-        let (step, left) = forward_step(rows, rhs, &mut weights, &mut active, count, s, r);
-        count = left;
-        order[t] = step;
+        active.list(self);
+        let mut from = 0;
+        let mut enough = 1;
+        let mut count = 0;
+        for _t in 0..m {
+            let Some(r) = lightest_row(&active.weights[..m], from, enough) else {
+                break;
+            };
+            from = r;
+            enough = active.weights[r];
+            if let Some(step) = self.forward_step(&mut active, r) {
+                order[count] = step;
+                count += 1;
+            }
+        }
+        count
     }
-    m
 }

@@ -1,6 +1,7 @@
 // Linear equations over packed rows, and Gauss-Jordan elimination on them, in place. Equation j is a row of words + 1 words and `width` bytes of a
 // right-hand side: the row's first words hold 64 unknowns each, and its last word, the pivot word, holds the number of the unknown that is the
-// row's pivot + 1, or 0. The words and the bytes are lent by the caller. What an unknown stands for is the caller's matter.
+// row's pivot + 1, or 0: a lent word has no room for an Option. The words and the bytes are lent by the caller. What an unknown stands for is the
+// caller's matter.
 #![tactic(auto)]
 
 ghost use Rattle.std.specs.Prelude.{length};
@@ -8,14 +9,13 @@ ghost use Rattle.elimination.specs.Fits.{Fits};
 ghost use Rattle.elimination.specs.System.{SameSolutions};
 ghost use Rattle.elimination.specs.Reduced.{Reduced};
 
-use back_substitution::{back_substitute, reduce_remaining};
-use forward::{Step, forward_pass};
-use singletons::set_singletons;
+use forward::Step;
+use system::System;
 
 pub mod parts; // parts of a buffer: exclusive or
 pub mod bits; // unknowns of a row
 pub mod solution; // whether the reduced form has a solution
-mod column; // a row added to others: a column cleared
+mod system; // the equations in their buffers: a row added to others, a column cleared
 mod weights; // forward pass: the rows' weights
 mod active; // forward pass: the list of active rows
 mod forward; // the forward pass
@@ -43,11 +43,17 @@ pub fn eliminate(rows: &mut [u64], rhs: &mut [u8], s: Shape)
     ensures reduced { Reduced rows.new s.rows s.words s.rows }
     ensures same_solutions { SameSolutions rows.old rhs.old rows.new rhs.new s.rows s.words s.width }
 {
+    let mut system = System {
+        rows,
+        rhs,
+        shape: s,
+    };
+    // arrays, since there is no heap
     let mut order = [Step { row: 0, pivot: 0 }; MAX_ROWS];
-    let count = forward_pass(rows, rhs, &mut order, s);
+    let count = system.forward_pass(&mut order);
     let steps = &order[..count];
     let mut done = [false; MAX_ROWS];
-    set_singletons(rows, &mut done, s, steps);
-    back_substitute(rows, rhs, &mut done, s, steps);
-    reduce_remaining(rows, rhs, &mut done, s);
+    system.set_singletons(&mut done, steps);
+    system.back_substitute(&mut done, steps);
+    system.reduce_remaining(&mut done);
 }

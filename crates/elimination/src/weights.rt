@@ -1,30 +1,17 @@
 // The weights of the rows, by which the forward pass chooses. Nothing is proved of them, and they choose only which additions are made: after
 // additions a row's weight is an estimate. A row that is no longer active has RETIRED.
-ghost use Rattle.std.specs.Prelude.{◌≡◌, ℕ, ◌+◌, ◌*◌, ◌≤◌, ◌<◌, length, IfSome, sum_by};
-ghost use Rattle.std.specs.Int.Count.{ones};
-ghost use Rattle.elimination.specs.Fits.{FitsRows, max_rows, max_words};
+ghost use Rattle.std.specs.Prelude.{◌*◌, ◌≤◌, ◌<◌, length, IfSome};
+ghost use Rattle.elimination.specs.Fits.{max_words};
 
-use crate::{MAX_ROWS, Shape};
-
-pub const RETIRED: u16 = 65535;
+// In place of a weight. Options were tried in place of it: they take twice the memory and make elimination up to 10 % slower.
+pub const RETIRED: u16 = u16::MAX;
 
 // The number of unknowns of a row.
-fn row_weight(row: &[u64]) -> usize
+pub fn row_weight(row: &[u64]) -> usize
     requires { length row.now ≤ max_words }
-    ensures { result ≡ sum_by ones row.now }
+    ensures { result ≤ 64 * length row.now }
 {
     row.iter().map(|w| w.count_ones() as usize).sum()
-}
-
-// The weight of each row, or RETIRED where it is 0.
-pub fn row_weights(rows: &[u64], weights: &mut [u16; MAX_ROWS], s: Shape)
-    requires { FitsRows s (length rows.now) }
-{
-    for j in 0..s.rows {
-        let base = j * (s.words + 1);
-        let w = row_weight(&rows[base..base + s.words]);
-        weights[j] = if w == 0 { RETIRED } else { w as u16 };
-    }
 }
 
 // A row and its weight, or any row and RETIRED for no row.
@@ -36,23 +23,20 @@ struct Candidate {
 
 // The lighter of `best` and the lightest of the rows from `from` up to `to`. The first of these whose weight is at most `enough` ends the search.
 fn lightest_between(
-    weights: &[u16; MAX_ROWS],
+    weights: &[u16],
     from: usize,
     to: usize,
     enough: u16,
     best: Candidate,
 ) -> Candidate
-    requires { to ≤ max_rows }
-    ensures { (n : ℕ) → to ≤ n → (best.weight < 65535 → best.row < n) → result.weight < 65535 → result.row < n }
+    requires { to ≤ length weights.now }
+    ensures { (best.weight < RETIRED → best.row < length weights.now) → result.weight < RETIRED → result.row < length weights.now }
 {
     let mut best = best;
     for j in from..to {
         let weight = weights[j];
         if weight < best.weight {
-            best = Candidate {
-                row: j,
-                weight: weight,
-            };
+            best = Candidate { row: j, weight };
             if weight <= enough {
                 return best;
             }
@@ -61,16 +45,16 @@ fn lightest_between(
     best
 }
 
-// A row of least weight, or the first from row `from` on, round the end, whose weight is at most `enough`; none where all m are RETIRED.
-pub fn lightest_row(weights: &[u16; MAX_ROWS], m: usize, from: usize, enough: u16) -> Option<usize>
-    requires { (m ≤ max_rows) × (from ≤ m) }
-    ensures { IfSome result (λ r. r < m) }
+// A row of least weight, or the first from row `from` on, round the end, whose weight is at most `enough`; none where all are RETIRED.
+pub fn lightest_row(weights: &[u16], from: usize, enough: u16) -> Option<usize>
+    requires { from ≤ length weights.now }
+    ensures { IfSome result (λ r. r < length weights.now) }
 {
     let none = Candidate {
         row: 0,
         weight: RETIRED,
     };
-    let mut best = lightest_between(weights, from, m, enough, none);
+    let mut best = lightest_between(weights, from, weights.len(), enough, none);
     if best.weight > enough {
         best = lightest_between(weights, 0, from, enough, best);
     }

@@ -3,7 +3,6 @@
 #![tactic(auto)]
 
 use ccsds::code::Code;
-use encoder::encode::Encoded;
 use report::Digest;
 use std::io;
 
@@ -27,8 +26,8 @@ fn encode(
     report::fill(parity, 2);
     print!(rt; "C{code} W {w} fill {fill} ")?;
     match encoder::encode::encode(code, w, fill, info, parity) {
-        Encoded::Done => print!(rt; "parity")?,
-        Encoded::Refused(number) => print!(rt; "refused {number}")?,
+        Ok(()) => print!(rt; "parity")?,
+        Err(refusal) => print!(rt; "refused {}", refusal.number())?,
     }
     println!(rt; "{}", Digest::of(parity, 8))
 }

@@ -129,13 +129,14 @@ impl CheckRows<'_> {
         requires r_bound { (r < (code_of self.now.shape.number).a) × (i < (code_of self.now.shape.number).q) }
         ensures { Entries (code_of self.now.shape.number) self.now.shape.rows (i * (code_of self.now.shape.number).a + r) result xs.new }
     {
-        let n = usize::from(self.table.counts[r]);
+        let table = self.table;
+        let n = usize::from(table.counts[r]);
         let full = (n + 15) / 16 * 16;
         let q = self.shape.layout.q as u16;
         for e in 0..full {
             xs[e] = further(
-                self.table.starts[r * MAX_POSITIONS + e],
-                self.table.ends[r * MAX_POSITIONS + e],
+                table.starts[r * MAX_POSITIONS + e],
+                table.ends[r * MAX_POSITIONS + e],
                 q,
                 i as u16,
             );

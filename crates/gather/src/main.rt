@@ -51,9 +51,9 @@ fn gather(
             break;
         };
         match block::take::take(b, symbols, marks, unit) {
-            Taken::Kept => println!(rt; "{number} kept")?,
-            Taken::Repeated => println!(rt; "{number} repeated")?,
-            Taken::Refused(refusal) => println!(rt; "{number} refused {refusal}")?,
+            Ok(Taken::Kept) => println!(rt; "{number} kept")?,
+            Ok(Taken::Repeated) => println!(rt; "{number} repeated")?,
+            Err(refusal) => println!(rt; "{number} refused {}", refusal.number())?,
         }
     }
     Ok(())
@@ -67,7 +67,7 @@ fn run(rt: &impl Print, input: &mut impl Read, b: Block) -> io::Result<()> {
     let Some(symbols) = symbols.get_mut(..code.block_bytes(b.w)) else {
         return bad_input(rt);
     };
-    if !pass::open(b, symbols, &mut marks) {
+    if block::open::open(b, symbols, &mut marks).is_err() {
         return bad_input(rt);
     }
     gather(rt, input, b, symbols, &mut marks)?;

@@ -271,9 +271,7 @@ pub extern "C" fn lipvezor_write(
     ensures output { out.new ≡ (writing (block_of numbers.now) lwc symbol.now out.old).output }
 {
     let b = block_of(numbers);
-    number_of(&sending::writer::write(
-        b.code, b.w, b.protocol, b.lsc, b.fill, lwc, symbol, out,
-    ))
+    number_of(&sending::writer::write(b.code, b.w, b.protocol, b.lsc, b.fill, lwc, symbol, out))
 }
 
 // A unit's parts as the values of their record.

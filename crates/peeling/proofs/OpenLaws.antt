@@ -6,16 +6,13 @@ use mathlib.Core.Path.{subst⁻¹}
 use native.Mathlib.Decide.{ℕ_discrete, dec_lt}
 use Rattle.peeling.specs.States.{is_known}
 use Rattle.peeling.specs.Plan.{Arrays, kind_of}
-use Rattle.peeling.specs.Peel.{NothingUsed, Opened, OnlyOpen}
+use Rattle.peeling.specs.Peel.{NothingUsed, OnlyOpen}
 
 -- ---- the first x positions are opened where they are missing
 
 pub record Opening (states : List ℕ) (plan : Arrays) (x : ℕ) : Type 0 where
   pub each : (p : ℕ) → p < x → kind_of plan p ≡ cond (is_known states p) 0 65535
   pub unused : NothingUsed plan
-
-pub opening-none : {states : List ℕ} {plan : Arrays} → NothingUsed plan → Opening states plan 0
-opening-none u = record { each = λ p l. absurd (omega arith); unused = u }
 
 pub opening-more : {states : List ℕ} {plan plan' : Arrays} {x : ℕ} (v : ℕ) → Opening states plan x → x < 3072 → v ≡ cond (eqb (get_or states x 0) 1) 0 65535
     → plan'.kinds ≡ set plan.kinds x v → plan'.used ≡ plan.used → Opening states plan' (x + 1)
@@ -32,23 +29,12 @@ opening-more {states} {plan} {plan'} {x} v O h e k u =
         ∙ ap (λ (k : ℕ). cond (eqb (get_or states k 0) 1) 0 65535) (sym d)
     go p l (no d) = get_or-set_other plan.kinds x p v 0 d ∙ O.each p (omega arith)
 
-pub opening_all : {states : List ℕ} {plan : Arrays} {x : ℕ} (n : ℕ) → Opening states plan x → n ≤ x → Opened n states plan
-opening_all {states} {plan} {x} n O h =
-    record {
-      known = λ p l e. O.each p (omega arith) ∙ ap (λ (b : Bool). cond b 0 65535) e;
-      open_kind = λ p l e. O.each p (omega arith) ∙ ap (λ (b : Bool). cond b 0 65535) e;
-      unused = O.unused;
-    }
-
 -- ---- the open ones of the first i positions of xs: how many, and the last
 
 pub record Seen (plan : Arrays) (xs : List ℕ) (i at found : ℕ) : Type 0 where
   pub few : found ≤ i
   pub none : found ≡ 0 → (k : ℕ) → k < i → kind_of plan (get_or xs k 0) ≢ 65535
   pub only : found ≡ 1 → (at < i) × ((kind_of plan (get_or xs at 0) ≡ 65535) × ((k : ℕ) → k < i → k ≢ at → kind_of plan (get_or xs k 0) ≢ 65535))
-
-pub seen_none : (plan : Arrays) (xs : List ℕ) (at : ℕ) → Seen plan xs 0 at 0
-seen_none plan xs at = record { few = omega arith; none = λ e k l. absurd (omega arith); only = λ e. absurd (omega arith) }
 
 -- of each of the first i + 1
 below_next : (P : ℕ → Type 0) (i : ℕ) → ((k : ℕ) → k < i → P k) → P i → (k : ℕ) → k < i + 1 → P k
@@ -78,10 +64,6 @@ module _ {plan : Arrays} {xs : List ℕ} {i at found : ℕ} (F : Seen plan xs i 
             let o = F.only z in
             (omega (arith, o.0), (o.1.0, below_next (λ k. k ≢ at → kind_of plan (get_or xs k 0) ≢ 65535) i o.1.1 (λ n. d)));
       }
-
-  -- just one of them is open
-  pub seen_only : found ≡ 1 → OnlyOpen plan xs i at
-  seen_only z = let o = F.only z in record { below = o.0; open_kind = o.1.0; others = o.1.1 }
 
 -- of the front of xs, so of xs
 pub only_taken : {plan : Arrays} {xs : List ℕ} {n i : ℕ} → n ≤ length xs → OnlyOpen plan (take n xs) (length (take n xs)) i → OnlyOpen plan xs n i

@@ -1,7 +1,8 @@
 -- How a plan changes by a step and by a pivot.
 -- Assumes nothing.
 use Rattle.std.proofs.Common.{◌≡◌, ℕ, ◌+◌, ◌<◌, Bool, false, true, cond, ◌≢◌, List, get_or, ap, ◌∙◌, arith, get_or-set_other, get_or-set_same}
-use Rattle.peeling.specs.Plan.{Arrays, kind_of, pivot_of, row_of, position_of, used_by}
+use Rattle.peeling.specs.declared.plan.Step as Entry
+use Rattle.peeling.specs.Plan.{Arrays, no_step, kind_of, pivot_of, row_of, position_of, used_by}
 use Rattle.peeling.specs.Peel.{StepMade, PivotMade}
 
 -- whether check row j is used
@@ -23,10 +24,10 @@ pub record Settled (plan plan' : Arrays) (t r p : ℕ) : Type 0 where
 pub settled : {plan plan' : Arrays} {t r p : ℕ} → t < 1024 → r < 1024 → p < 3072 → StepMade plan plan' t r p → Settled plan plan' t r p
 settled {plan} {plan'} {t} {r} {p} ht hr hp m =
     record {
-      row = at t m.step_rows ∙ get_or-set_same plan.step_rows t r 0 (omega (arith, plan.rows_len));
-      rows = λ k h. at k m.step_rows ∙ get_or-set_other plan.step_rows t k r 0 h;
-      position = at t m.step_positions ∙ get_or-set_same plan.step_positions t p 0 (omega (arith, plan.positions_len));
-      positions = λ k h. at k m.step_positions ∙ get_or-set_other plan.step_positions t k p 0 h;
+      row = ap (λ (s : Entry.Step). s.row) here;
+      rows = λ k h. ap (λ (s : Entry.Step). s.row) (there k h);
+      position = ap (λ (s : Entry.Step). s.position) here;
+      positions = λ k h. ap (λ (s : Entry.Step). s.position) (there k h);
       used = used_as plan' r true (ap (λ (l : List Bool). get_or l r false) m.used ∙ get_or-set_same plan.used r true false (omega (arith, plan.used_len)));
       others = λ j h. used_as plan' j (get_or plan.used j false) (ap (λ (l : List Bool). get_or l j false) m.used ∙ get_or-set_other plan.used r j true false h);
       kind = at p m.kinds ∙ get_or-set_same plan.kinds p (t + 1) 0 (omega (arith, plan.kinds_len));
@@ -34,6 +35,12 @@ settled {plan} {plan'} {t} {r} {p} ht hr hp m =
       pivots = λ u. at u m.pivots;
     }
   where
+    here : get_or plan'.steps t no_step ≡ record { row = r; position = p }
+    here = ap (λ (l : List Entry.Step). get_or l t no_step) m.steps ∙ get_or-set_same plan.steps t (record { row = r; position = p }) no_step (omega (arith, plan.steps_len))
+
+    there : (k : ℕ) → k ≢ t → get_or plan'.steps k no_step ≡ get_or plan.steps k no_step
+    there k h = ap (λ (l : List Entry.Step). get_or l k no_step) m.steps ∙ get_or-set_other plan.steps t k (record { row = r; position = p }) no_step h
+
     at : {l l' : List ℕ} (k : ℕ) → l' ≡ l → get_or l' k 0 ≡ get_or l k 0
     at k e = ap (λ (l : List ℕ). get_or l k 0) e
 
@@ -54,8 +61,8 @@ deferred {plan} {plan'} {s} {x} hs hx m =
       pivots = λ u h. at u m.pivots ∙ get_or-set_other plan.pivots s u x 0 h;
       kind = at x m.kinds ∙ get_or-set_same plan.kinds x (1025 + s) 0 (omega (arith, plan.kinds_len));
       kinds = λ k h. at k m.kinds ∙ get_or-set_other plan.kinds x k (1025 + s) 0 h;
-      rows = λ t. at t m.step_rows;
-      positions = λ t. at t m.step_positions;
+      rows = λ t. ap (λ (l : List Entry.Step). (get_or l t no_step).row) m.steps;
+      positions = λ t. ap (λ (l : List Entry.Step). (get_or l t no_step).position) m.steps;
       used = λ j. used_as plan' j (get_or plan.used j false) (ap (λ (l : List Bool). get_or l j false) m.used);
     }
   where

@@ -1,6 +1,6 @@
 -- Symbols of a buffer of which one was replaced.
 -- Assumes nothing.
-use Rattle.std.proofs.Common.{◌≡◌, ℕ, ◌+◌, ◌-◌, ◌*◌, ◌<◌, ◌≤◌, ◌≢◌, ◌⊎◌, List, ◌++◌, length, take, drop, replicate, sym, ◌∙◌, subst, inl, inr, arith}
+use Rattle.std.proofs.Common.{◌≡◌, ℕ, ◌+◌, ◌-◌, ◌*◌, ◌<◌, ◌≤◌, ◌≢◌, ◌⊎◌, List, ◌++◌, length, take, drop, replicate, ◌∙◌, inl, inr, arith}
 use native.Mathlib.Decide.{dec_lt}
 use Rattle.algebra.specs.Codeword.{byte_at}
 use Rattle.algebra.proofs.Codeword.{slot}
@@ -27,7 +27,3 @@ module _ (s : List ℕ) (x w : ℕ) (h : x * w + w ≤ length s) where
   pub zeroed_symbol : (z : List ℕ) → z ≡ replicate (length (take (x * w + w - x * w) (drop (x * w) s))) 0
       → take (x * w) s ++ (z ++ drop (x * w + w - x * w) (drop (x * w) s)) ≡ zeros_at s (x * w) w
   zeroed_symbol z e = zeroed s z (x * w) (x * w + w - x * w) w (omega arith) h e
-
-  pub cleared_symbol : (z : List ℕ) → z ≡ replicate (length (take (x * w + w - x * w) (drop (x * w) s))) 0
-      → Replaced (λ b. 0) w x s (take (x * w) s ++ (z ++ drop (x * w + w - x * w) (drop (x * w) s)))
-  cleared_symbol z e = subst (Replaced (λ b. 0) w x s) (sym (zeroed_symbol z e)) zero-symbol

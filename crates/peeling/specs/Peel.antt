@@ -51,16 +51,14 @@ NextOpen plan from n r = MatchOption r (NoneOpen plan from n) (FirstOpen plan fr
 pub record StepMade (plan plan' : Arrays) (t r p : ℕ) : Type 0 where
   pub kinds : plan'.kinds ≡ slice_set plan.kinds p (t + 1)
   pub pivots : plan'.pivots ≡ plan.pivots
-  pub step_rows : plan'.step_rows ≡ slice_set plan.step_rows t r
-  pub step_positions : plan'.step_positions ≡ slice_set plan.step_positions t p
+  pub steps : plan'.steps ≡ slice_set plan.steps t (record { row = r; position = p })
   pub used : plan'.used ≡ slice_set plan.used r true
 
 -- pivot s is entered: position x
 pub record PivotMade (plan plan' : Arrays) (s x : ℕ) : Type 0 where
   pub kinds : plan'.kinds ≡ slice_set plan.kinds x (first_pivot + s)
   pub pivots : plan'.pivots ≡ slice_set plan.pivots s x
-  pub step_rows : plan'.step_rows ≡ plan.step_rows
-  pub step_positions : plan'.step_positions ≡ plan.step_positions
+  pub steps : plan'.steps ≡ plan.steps
   pub used : plan'.used ≡ plan.used
 
 -- the plan and the symbols as far as they are made; every position before the cursor is closed

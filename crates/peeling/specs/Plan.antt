@@ -6,6 +6,7 @@ use Rattle.algebra.specs.Codeword.{Checks}
 use Rattle.peeling.specs.States.{is_known}
 use Rattle.ccsds.specs.inner.Layout.{max_n, max_m}
 use Rattle.peeling.specs.declared.plan.Plan as Declared
+use Rattle.peeling.specs.declared.plan.Step as Entry
 
 -- what a plan is made of
 abbrev pub Arrays : Type 0
@@ -30,13 +31,17 @@ kind_of plan p = slice_index plan.kinds p
 abbrev pub pivot_of : Arrays → ℕ → ℕ
 pivot_of plan u = slice_index plan.pivots u
 
+-- what stands where no step is
+abbrev pub no_step : Entry.Step
+no_step = record { row = 0; position = 0 }
+
 -- the check row of step t
 abbrev pub row_of : Arrays → ℕ → ℕ
-row_of plan t = slice_index plan.step_rows t
+row_of plan t = (slice_index_or plan.steps t no_step).row
 
 -- and the position that it settles
 abbrev pub position_of : Arrays → ℕ → ℕ
-position_of plan t = slice_index plan.step_positions t
+position_of plan t = (slice_index_or plan.steps t no_step).position
 
 -- not 0 where a step used check row j
 abbrev pub used_by : Arrays → ℕ → ℕ

@@ -10,7 +10,7 @@ ghost use Rattle.peeling.specs.Values.{Peeled};
 ghost use Rattle.peeling.specs.Peel.{NothingUsed, Opened, AllKnownIs, SingleIs, NextOpen, StepMade, PivotMade, Reached, Continued};
 
 use crate::hints::Hints;
-use crate::plan::{FIRST_PIVOT, OPEN, Plan};
+use crate::plan::{FIRST_PIVOT, OPEN, Plan, Step};
 use crate::states::KNOWN;
 use encoder::positions::CheckRows;
 use symbol_sums::MAX_POSITIONS;
@@ -97,13 +97,16 @@ fn settle(w: usize, t: usize, r: usize, p: usize, xs: &[u16], plan: &mut Plan, s
     ensures replaced { Replaced (λ b. gathered (byte_at w symbols.old b) xs.now (length xs.now)) w p symbols.old symbols.new }
 {
     symbol_sums::restore(w, p, xs, symbols);
-    plan.step_rows[t] = r as u16;
-    plan.step_positions[t] = p as u16;
+    plan.steps[t] = Step {
+        row: r as u16,
+        position: p as u16,
+    };
     plan.used[r] = true;
     plan.kinds[p] = (t + 1) as u16;
 }
 
-// Check row r settles a position, if it has just one open one and no step used it.
+// Check row r settles a position, if it has just one open one and no step used it. Plan and symbols are lent to each step: of a struct that held
+// both, each method would owe a clause that it still holds the same two.
 fn try_row(rows: &CheckRows, r: usize, g: Progress, plan: &mut Plan, symbols: &mut [u8]) -> Progress
     requires r_bound { (r < (code_of rows.now.shape.number).m) × (0 < g.fuel) }
     requires reached { Reached (checks rows.now.shape) rows.now.shape.w plan.old symbols.old g }

@@ -5,19 +5,23 @@ ghost use Rattle.ccsds.specs.inner.Layout.{max_n, max_m};
 
 use ccsds::code::Code;
 
-// Of each position its kind, of each pivot its position, of each step its check row and the position that it settles; and whether a step used a
-// check row.
+// A step: its check row and the position that it settles.
+#[derive(Clone, Copy)]
+pub struct Step {
+    pub row: u16,
+    pub position: u16,
+}
+
+// Of each position its kind, of each pivot its position, the steps, and whether a step used a check row.
 #[derive(Drop)]
 pub struct Plan {
     pub kinds: [u16; Code::MAX_N],
     pub pivots: [u16; Code::MAX_N],
-    pub step_rows: [u16; Code::MAX_M],
-    pub step_positions: [u16; Code::MAX_M],
+    pub steps: [Step; Code::MAX_M],
     pub used: [bool; Code::MAX_M],
     pub ghost kinds_len: { length kinds ≡ max_n },
     pub ghost pivots_len: { length pivots ≡ max_n },
-    pub ghost rows_len: { length step_rows ≡ max_m },
-    pub ghost positions_len: { length step_positions ≡ max_m },
+    pub ghost steps_len: { length steps ≡ max_m },
     pub ghost used_len: { length used ≡ max_m },
 }
 

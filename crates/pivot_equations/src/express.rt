@@ -98,10 +98,11 @@ impl System<'_> {
     {
         let mut xs = [0u16; MAX_POSITIONS];
         for t in self.rows.early..self.rows.steps {
+            let step = self.plan.steps[t];
             let e = Target {
                 row: t,
-                check: self.plan.step_rows[t] as usize,
-                but: Some(self.plan.step_positions[t] as usize),
+                check: step.row as usize,
+                but: Some(step.position as usize),
             };
             self.row(e, &mut xs, words);
         }

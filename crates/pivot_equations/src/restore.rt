@@ -53,10 +53,11 @@ impl System<'_> {
     {
         let mut xs = [0u16; MAX_POSITIONS];
         for t in self.rows.early..self.rows.steps {
+            let step = self.plan.steps[t];
             restore_by(
                 self.block,
-                self.plan.step_rows[t] as usize,
-                self.plan.step_positions[t] as usize,
+                step.row as usize,
+                step.position as usize,
                 &mut xs,
                 symbols,
             );

@@ -24,8 +24,8 @@ fn checksum(s: &[u8]) -> u64 {
     d
 }
 
-// Reads until the buffer is full or the input ends. Answers how many bytes stand at the buffer's start. Read::read_exact is no plainer: where
-// the input ends first, it answers no count.
+// Reads until the buffer is full or the input ends. Answers how many bytes stand at the buffer's start.
+// A loop of its own: where the input ends first, Read::read_exact answers no count.
 pub fn read_full(input: &mut impl Read, p: &mut [u8]) -> io::Result<usize>
     ensures { IfOk result (λ n. n ≤ length p.new) }
 {

@@ -40,6 +40,7 @@ fn check_unit(
     Ok(())
 }
 
+#[tactic(auto, using(wire::proofs::AppendedLaws::then_appended), unfolding(ccsds::specs::Units::header_of))]
 fn put_header(out: &mut [u8], protocol: usize, lsc: usize, lwc: usize) -> usize
     requires { (6 ≤ length out.old) × (protocol < 8) × (lsc < 65536) × (lwc < 65536) }
     ensures { Appended out.old out.new 0 result (header_of protocol lsc lwc) }

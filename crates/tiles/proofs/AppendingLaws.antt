@@ -2,10 +2,9 @@
 -- Assumes nothing.
 use mathlib.Core.Path.{◌≡◌, refl, sym, ap, ◌∙◌, subst}
 use mathlib.Core.List.{List, [], ◌++◌, append_assoc, append-nil}
-use Prim.Native.Nat.{ℕ, ◌-◌, ◌≤◌}
+use Prim.Native.Nat.{ℕ}
 use native.Mathlib.Omega.{arith}
-use lib.ListN.{length, take, drop, replicate, length-append, length-replicate, length-drop}
-use lib.Seq.{take_at, length-take-le}
+use lib.ListN.{take}
 use Rattle.wire.specs.inner.Appended.{Appended}
 use Rattle.wire.proofs.AppendedLaws.{then_appended}
 use Rattle.tiles.specs.inner.Steps.{Appending}
@@ -17,9 +16,6 @@ append_none l at = record { to = omega arith; front = sym (append-nil (take at l
 pub appended-same : {old new : List ℕ} {at end : ℕ} {x y : List ℕ} → x ≡ y → Appended old new at end x → Appended old new at end y
 appended-same {old} {new} {at} {end} e p = subst (λ (z : List ℕ). Appended old new at end z) e p
 
-pub append_start : (l : List ℕ) (at : ℕ) {all rest : List ℕ} → rest ≡ all → Appending l l at at all rest
-append_start l at e = record { done = []; appended = append_none l at; whole = e }
-
 pub append_more : {old new new' : List ℕ} {from at at' : ℕ} {all rest x : List ℕ} (rest' : List ℕ) → Appending old new from at all rest → rest ≡ x ++ rest'
     → Appended new new' at at' x → Appending old new' from at' all rest'
 append_more {x = x} rest' l e p =
@@ -27,21 +23,3 @@ append_more {x = x} rest' l e p =
 
 pub append_end : {old new : List ℕ} {from at : ℕ} {all rest : List ℕ} → Appending old new from at all rest → rest ≡ [] → Appended old new from at all
 append_end l e = appended-same (sym (append-nil l.done) ∙ ap (λ (y : List ℕ). l.done ++ y) (sym e) ∙ l.whole) l.appended
-
--- a part of an output that was cleared
-pub zeros_appended : (l z : List ℕ) (at end : ℕ) → at ≤ end → end ≤ length l → z ≡ replicate (length (take (end - at) (drop at l))) 0
-    → Appended l (take at l ++ (z ++ drop (end - at) (drop at l))) at end (replicate (end - at) 0)
-zeros_appended l z at end h k e =
-    let n : length (take (end - at) (drop at l)) ≡ end - at = length-take-le (end - at) (drop at l) (omega (arith, length-drop at l)) in
-    let y : z ≡ replicate (end - at) 0 = e ∙ ap (λ (m : ℕ). replicate m 0) n in
-    let s : length z ≡ end - at = ap length y ∙ length-replicate {A = ℕ} (end - at) 0 in
-    let a : length (take at l) ≡ at = length-take-le at l (omega arith) in
-    let rest = drop (end - at) (drop at l) in
-    record {
-      to = omega (arith, length-replicate {A = ℕ} (end - at) 0);
-      front =
-          ap (take end) (sym (append_assoc (take at l) z rest))
-          ∙ take_at (take at l ++ z) rest end (omega (arith, length-append (take at l) z))
-          ∙ ap (λ (x : List ℕ). take at l ++ x) y;
-      kept = omega (arith, length-append (take at l) (z ++ rest), length-append z rest, length-drop (end - at) (drop at l), length-drop at l);
-    }

@@ -21,12 +21,25 @@ pub struct Place {
     pub at: usize,
 }
 
-// Zeros from position `at` up to `end`.
+// Zeros from position `at` up to `end`. Not by `fill`, which puts the last byte on its own: with it packing short tiles at W 64 is 5 % slower.
 pub fn put_zeros(out: &mut [u8], at: usize, end: usize)
     requires { (at ≤ end) × (end ≤ length out.old) }
     ensures { Appended out.old out.new at end (replicate (end - at) 0) }
 {
-    out[at..end].fill(0);
+    for b in out[at..end].iter_mut() {
+        *b = 0;
+    }
+}
+
+// Puts tile bytes into a row. As wire::copy::symbol, which tests for more than 32 bytes first: with that, W 16 is a tenth slower.
+fn copy_part(out: &mut [u8], at: usize, part: &[u8]) -> usize
+    requires { (0 < length part.now) × (at + length part.now ≤ length out.old) }
+    ensures { Appended out.old out.new at result part.now }
+{
+    if part.len() < 16 {
+        return copy::copy_few(out, at, part);
+    }
+    copy::copy_many(out, at, part)
 }
 
 // next of a row with this LWC, where so many bytes of its tile are left after it.
@@ -47,13 +60,13 @@ impl Width {
     {
         let count = put::pair(out, at, next);
         let from = put::pair(out, count, part.len());
-        let to = copy::symbol(out, from, part);
+        let to = copy_part(out, from, part);
         let end = at + self.w;
         put_zeros(out, to, end);
         end
     }
 
-    // The rows of a tile. Returns the place of the row after them.
+    // The rows of a tile. Returns the place of the row after them. Not a loop over chunks: a chunk doesn't tell whether others follow.
     pub fn put_tile(self, tile: &[u8], out: &mut [u8], p: Place) -> Place
         requires lwcs { p.lwc + rows_of (room_of self.w) (length tile.now) ≤ 65535 }
         requires room { p.at + rows_of (room_of self.w) (length tile.now) * self.w ≤ length out.old }

@@ -13,6 +13,7 @@ use unit_reader::{Parameters, UnitParts};
 use wire::big_endian;
 
 // s begins with a header of this protocol ID, one extension and this LSC.
+#[tactic(auto, using(crate::proofs::ExpectedUnit::header_stands))]
 fn is_header(s: &[u8], protocol: usize, lsc: usize) -> bool
     requires { (15 ≤ length s.now) × (protocol ≤ 7) }
     ensures { result ≡ true → s.now ≡ header_of protocol lsc (pair_at s.now 2) ++ drop 6 s.now }
@@ -56,6 +57,7 @@ fn symbol_after(s: &[u8], c: Coding) -> Option<usize>
 }
 
 // Reads a unit that is as expected. Its caller has refused a code, a W or a protocol ID that no unit has.
+#[tactic(auto, using(crate::proofs::ExpectedUnit::expected_reads))]
 pub fn read(l: Layout, w: usize, protocol: usize, lsc: usize, s: &[u8]) -> Option<UnitParts>
     requires { Compact w l.k (l.k + l.m) × (protocol ≤ 7) }
     ensures { Agrees result (read_unit s.now) }

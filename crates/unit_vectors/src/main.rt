@@ -4,10 +4,8 @@
 
 use ccsds::code::Code;
 use report::Digest;
-use sending::writer::Written;
 use std::io;
 use std::io::Read;
-use unit_reader::{Extension, UnitRead};
 
 // What a vector asks for.
 #[derive(Clone, Copy)]
@@ -76,22 +74,32 @@ fn next(input: &mut impl Read) -> io::Result<Option<Vector>> {
     let Ok(kind) = Kind::try_from(kind) else {
         return Ok(None);
     };
-    Ok(Some(Vector { kind, code, w, protocol, lsc, fill, lwc, outs, len }))
+    Ok(Some(Vector {
+        kind,
+        code,
+        w,
+        protocol,
+        lsc,
+        fill,
+        lwc,
+        outs,
+        len,
+    }))
 }
 
 // Reads a unit.
 fn read(rt: &impl Print, u: &[u8]) -> io::Result<()> {
     let p = match unit_reader::read_unit(u) {
-        UnitRead::Read(p) => p,
-        UnitRead::Refused(number) => return println!(rt; "read: refused {number}"),
+        Ok(p) => p,
+        Err(refusal) => return println!(rt; "read: refused {}", refusal.number()),
     };
     print!(rt;
         "read: protocol {} count {} LWC {} LSC {}",
         p.protocol, p.count, p.lwc, p.lsc
     )?;
     match p.coding {
-        Extension::Coding(c) => print!(rt; " W {} k {} n {} seed {}", c.w, c.k, c.n, c.seed)?,
-        Extension::PassedOver => print!(rt; " no type 1")?,
+        Some(c) => print!(rt; " W {} k {} n {} seed {}", c.w, c.k, c.n, c.seed)?,
+        None => print!(rt; " no type 1")?,
     }
     println!(rt; " symbol at {}", p.symbol)
 }
@@ -103,11 +111,12 @@ fn write(rt: &impl Print, v: Vector, symbol: &[u8]) -> io::Result<()> {
         return Ok(());
     };
     match sending::writer::write(v.code, v.w, v.protocol, v.lsc, v.fill, v.lwc, symbol, out) {
-        Written::Done => {
+        Ok(()) => {
             println!(rt; "write:{}", Digest::of(out, SHOWN))?;
             read(rt, out)
         }
-        Written::Refused(number) => {
+        Err(refusal) => {
+            let number = refusal.number();
             println!(rt; "write: refused {number}{}", Digest::of(out, SHOWN))
         }
     }

@@ -1,4 +1,5 @@
-// Copies bytes into an output, without a local array. Internal: the unit writer's, and packing's.
+// Copies bytes into an output, without a local array. Internal: the unit writer's, and packing's. What both call is compiled into each: a call for
+// each unit or row would make either slower.
 // A function for each size: a const parameter would need a local array, and rust/tests/write_without_array.rs follows no call of a trait's method
 // and none of core's copy_from_slice.
 //
@@ -85,7 +86,8 @@ pub fn copy_16(out: &mut [u8], at: usize, s: &[u8], from: usize) -> usize
 }
 
 // All of s, from 1 byte to 32: the first part and the last, which may overlap.
-fn copy_few(out: &mut [u8], at: usize, s: &[u8]) -> usize
+#[inline(always)]
+pub fn copy_few(out: &mut [u8], at: usize, s: &[u8]) -> usize
     requires { (0 < length s.now) × (length s.now ≤ 32) × (at + length s.now ≤ length out.old) }
     ensures { Appended out.old out.new at result s.now }
 {
@@ -119,7 +121,8 @@ pub fn second_part(at: usize, n: usize) -> usize
 }
 
 // All of s, 16 bytes or more.
-fn copy_many(out: &mut [u8], at: usize, s: &[u8]) -> usize
+#[inline(always)]
+pub fn copy_many(out: &mut [u8], at: usize, s: &[u8]) -> usize
     requires { (16 ≤ length s.now) × (at + length s.now ≤ length out.old) }
     ensures { Appended out.old out.new at result s.now }
 {

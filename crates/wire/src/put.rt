@@ -4,6 +4,7 @@ ghost use Rattle.wire.specs.Sdnv.{sdnv_bytes};
 ghost use Rattle.wire.specs.Bytes.{two_bytes};
 ghost use Rattle.wire.specs.inner.Appended.{Appended};
 
+#[tactic(auto, using(crate::proofs::AppendedLaws::append_one))]
 pub fn byte(out: &mut [u8], at: usize, x: usize) -> usize
     requires { (at < length out.old) × (x < 256) }
     ensures { Appended out.old out.new at result (x ∷ []) }
@@ -13,6 +14,7 @@ pub fn byte(out: &mut [u8], at: usize, x: usize) -> usize
 }
 
 // 16 bits, big-endian.
+#[tactic(auto, using(crate::proofs::AppendedLaws::then_appended))]
 pub fn pair(out: &mut [u8], at: usize, x: usize) -> usize
     requires { (at + 2 ≤ length out.old) × (x < 65536) }
     ensures { Appended out.old out.new at result (two_bytes x) }
@@ -31,6 +33,7 @@ pub fn sdnv_2(out: &mut [u8], at: usize, v: usize) -> usize
 }
 
 // A number's shortest SDNV, of one byte or two.
+#[tactic(auto, using(crate::proofs::SdnvRound::in_one, crate::proofs::SdnvRound::two_long))]
 pub fn sdnv(out: &mut [u8], at: usize, v: usize) -> usize
     requires { (at + length (sdnv_bytes v) ≤ length out.old) × (v < 16384) }
     ensures { Appended out.old out.new at result (sdnv_bytes v) }
@@ -42,6 +45,7 @@ pub fn sdnv(out: &mut [u8], at: usize, v: usize) -> usize
 }
 
 // The length of that.
+#[tactic(auto, using(crate::proofs::SdnvRound::in_one, crate::proofs::SdnvRound::in_two))]
 pub fn sdnv_bytes(v: usize) -> usize
     requires { v < 16384 }
     ensures { result ≡ length (sdnv_bytes v) }

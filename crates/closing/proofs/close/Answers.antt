@@ -11,6 +11,7 @@ use Rattle.closing.specs.Close.{close_refusal, report_as, closed_as}
 use Rattle.closing.specs.inner.Idle.{IdleIn}
 use Rattle.closing.proofs.CloseRefusal.{ready, idle_in, marks-few}
 use Rattle.closing.proofs.Closing.{close_refused, close_told, marks-small}
+use Rattle.std.proofs.Common.{rules}
 use Rattle.closing.proofs.close.Goals as goal
 use Rattle.closing.proofs.close.Goals.{After-k, In_ok-check_close}
 
@@ -57,6 +58,8 @@ pub returns : goal.returns
 returns c =
     let a = c.args in
     let d = c.decode-ok in
+    let words : c.fill.new.self ≡ replicate (length d.new.work_words) 0 = search rules in
+    let bytes : c.fill-2.new.self ≡ replicate (length d.new.work_bytes) 0 = search rules in
     let q = close_told a.b a.symbols.now a.marks.now a.work_words.now a.work_bytes.now _ (goal.at.returns c).In_ok-check_close.in_ok-check_close.ensures refl d.result _ _ _ _ d.ensures.symbols_after d.ensures.marks_after d.ensures.verdict
-        ? ? (report_as c.make_report.result) c.make_report.ensures in
+    (words ∙ ap (λ (n : ℕ). replicate n 0) d.auto.work_words) (bytes ∙ ap (λ (n : ℕ). replicate n 0) d.auto.work_bytes) (report_as c.make_report.result) c.make_report.ensures in
     record { answer = q.0; symbols = q.1.0; marks = q.1.1.0; work_words = q.1.1.1.0; work_bytes = q.1.1.1.1 }

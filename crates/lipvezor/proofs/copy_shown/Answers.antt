@@ -3,11 +3,8 @@
 use mathlib.Core.Path.{◌≡◌, refl, sym, ap, ◌∙◌}
 use native.Mathlib.Omega.{arith}
 use lib.ListN.{length}
-use Rattle.ccsds.specs.Refusals.{outcome_of}
-use Rattle.block.proofs.Exits.{passed_on}
 use Rattle.sending.specs.Show.{Slice}
-use Rattle.ccsds.proofs.RefusalOrder.{numbered}
-use Rattle.ccsds.proofs.Refusals.{refused-by, kept_by, answered-by, changed_by}
+use Rattle.ccsds.proofs.Refusals.{changed_by}
 use Rattle.buffers.proofs.Put.{put-paste}
 use Rattle.lipvezor.proofs.Copying.{copyable, shown_length, copied}
 use Rattle.lipvezor.proofs.copy_shown.Goals as goal

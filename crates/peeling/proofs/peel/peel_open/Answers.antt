@@ -1,6 +1,6 @@
 -- `peeling::peel::peel_open` meets its contract: each turn goes on from where the last one came to.
 -- Assumes nothing.
-use Rattle.std.proofs.Common.{None, ◌≤◌, length, sym, ◌∙◌, arith}
+use Rattle.std.proofs.Common.{None, ◌≤◌, length, arith}
 use mathlib.Core.Path.{subst⁻¹}
 use Rattle.encoder.specs.inner.Positions.{checks}
 use Rattle.peeling.specs.Peel.{State}
@@ -23,20 +23,5 @@ new-hints-requires c = few (goal.at.new-hints-requires c).Start
 pub loop-g-init : goal.loop-g-init
 loop-g-init c = subst⁻¹ (State (checks c.args.rows.now.shape) c.args.rows.now.shape.w c.args.symbols.now c.args.states.now c.args.plan.now c.args.symbols.now) c.beginning-g.ensures (start (goal.at.loop-g-init c).Start)
 
-pub turn-g-requires : goal.turn-g-requires
-turn-g-requires c =
-    record { cursor_bound = omega (arith, c.loop-g-test.true, c.requires.states_len.0); reached = record { block = _; states = _; state = c.loop-g.invariant } }
-
-pub loop-g-smaller : goal.loop-g-smaller
-loop-g-smaller c = c.turn-g.ensures.less
-
 pub loop-g-preserved : goal.loop-g-preserved
 loop-g-preserved c = c.turn-g.ensures.state _ _ c.loop-g.invariant
-
-pub shape_of-symbols : goal.shape_of-symbols
-shape_of-symbols c = c.loop-g.invariant.values.size ∙ sym c.requires.states_len.1
-
-pub returns : goal.returns
-returns c =
-    let S = c.loop-g.invariant in
-    record { made = S.made; closed = λ p h. S.closed p (omega (arith, c.loop-g-test.false, c.requires.states_len.0)); unsolved = S.unsolved; values = S.values; begun = S.begun }

@@ -1,14 +1,10 @@
 -- `peeling::peel::single` meets its contract.
 -- Assumes nothing.
-use Rattle.std.proofs.Common.{ℕ, sym, ap, ◌∙◌, subst, arith}
-use Rattle.peeling.specs.Peel.{OnlyOpen}
+use Rattle.std.proofs.Common.{sym, ap, ◌∙◌}
 use Rattle.peeling.specs.Plan.{kind_of}
-use Rattle.peeling.proofs.OpenLaws.{seen_none, seen_open, seen_closed, seen_only}
+use Rattle.peeling.proofs.OpenLaws.{seen_open, seen_closed}
 use Rattle.peeling.proofs.peel.single.Goals as goal
 use Rattle.peeling.proofs.peel.single.Goals.{then-plan-from, else-plan-from}
-
-pub loop-i-init : goal.loop-i-init
-loop-i-init c = seen_none _ _ _
 
 pub loop-i-preserved : goal.loop-i-preserved
 loop-i-preserved c =
@@ -18,8 +14,3 @@ loop-i-preserved c =
       | then-plan-from v ↦ rw (v.at-is, v.found-is) (seen_open F (sym e ∙ v.if-plan-from.true))
       | else-plan-from v ↦ rw (v.at-is, v.found-is) (seen_closed F (λ o. v.if-plan-from.false (e ∙ o)))
     ]
-
-pub returns-then-found-eq1 : goal.returns-then-found-eq1
-returns-then-found-eq1 c =
-    let l = c.loop-i in
-    subst (λ (n : ℕ). OnlyOpen c.args.plan.now c.args.xs.now n l.at) (omega arith) (seen_only l.invariant c.if-found-eq1.true)

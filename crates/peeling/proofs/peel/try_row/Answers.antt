@@ -1,7 +1,6 @@
 -- `peeling::peel::try_row` meets its contract: the row is passed over, or its only open position is settled.
 -- Assumes nothing.
-use Rattle.std.proofs.Common.{false, ◌<◌, arith, length-take-le}
-use Rattle.std.proofs.lemmas.List.{get_or-take}
+use Rattle.std.proofs.Common.{false, ◌<◌, arith}
 use Rattle.encoder.specs.inner.Positions.{checks}
 use Rattle.peeling.specs.Peel.{OnlyOpen}
 use Rattle.peeling.proofs.CodeSizes.{row_count}
@@ -18,20 +17,6 @@ row_lt s = omega (arith, s.requires.r_bound.0, row_count s.args.rows.now.shape)
 module _ (o : In-Some) where
   only : OnlyOpen o.args.plan.now o.of_row-n.new.xs o.of_row-n.result o.in-Some.i
   only = only_taken (omega (arith, o.of_row-n.ensures.few, o.of_row-n.ensures.size)) o.in-Some.ensures
-
-pub of_row-n-requires : goal.of_row-n-requires
-of_row-n-requires c = record { j_bound = c.requires.r_bound.0 }
-
-pub single-requires : goal.single-requires
-single-requires c =
-    let m = c.requires.reached.state.made in
-    let R = c.of_row-n.ensures in
-    λ i h.
-    let b : i < c.of_row-n.result = omega (arith, length-take-le c.of_row-n.result c.of_row-n.new.xs (omega (arith, R.few, R.size))) in
-    omega (arith, R.below i b, get_or-take c.of_row-n.result c.of_row-n.new.xs i 0 b, m.positions)
-
-pub returns-in_default : goal.returns-in_default
-returns-in_default c = record { state = λ block states S. state_late S _ _; less = omega (arith, c.requires.r_bound.1); last = tt }
 
 pub bounds-plan-r : goal.bounds-plan-r
 bounds-plan-r c =

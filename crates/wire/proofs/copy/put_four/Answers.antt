@@ -7,15 +7,6 @@ use lib.ListN.{length-set}
 use Rattle.wire.proofs.AppendedLaws.{then_appended, append_one}
 use Rattle.wire.proofs.copy.put_four.Goals as goal
 
-pub bounds-out-at-2 : goal.bounds-out-at-2
-bounds-out-at-2 c = simp length-set (omega arith)
-
-pub bounds-out-at-3 : goal.bounds-out-at-3
-bounds-out-at-3 c = simp length-set (omega arith)
-
-pub bounds-out-at-4 : goal.bounds-out-at-4
-bounds-out-at-4 c = simp length-set (omega arith)
-
 pub returns : goal.returns
 returns c =
     let a = c.args in

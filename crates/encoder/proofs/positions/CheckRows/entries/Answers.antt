@@ -7,11 +7,11 @@ use Rattle.encoder.proofs.positions.CheckRows.entries.Goals as goal
 pub overflow_cast-q : goal.overflow_cast-q
 overflow_cast-q c = omega (arith, narrow c.args.self.now.laid c.requires.r_bound.0)
 
-pub bounds-self-r-in-loop-e : goal.bounds-self-r-in-loop-e
-bounds-self-r-in-loop-e c = let r = c.requires.r_bound.0 in omega (arith, class-lt c.args.self.now.laid r, few c.args.self.now.laid r c.from-n.ensures)
+pub bounds-table-r-in-loop-e : goal.bounds-table-r-in-loop-e
+bounds-table-r-in-loop-e c = let r = c.requires.r_bound.0 in omega (arith, class-lt c.args.self.now.laid r, few c.args.self.now.laid r c.from-n.ensures)
 
-pub bounds-self-r-in-loop-e-2 : goal.bounds-self-r-in-loop-e-2
-bounds-self-r-in-loop-e-2 c = let r = c.requires.r_bound.0 in omega (arith, class-lt c.args.self.now.laid r, few c.args.self.now.laid r c.from-n.ensures)
+pub bounds-table-r-in-loop-e-2 : goal.bounds-table-r-in-loop-e-2
+bounds-table-r-in-loop-e-2 c = let r = c.requires.r_bound.0 in omega (arith, class-lt c.args.self.now.laid r, few c.args.self.now.laid r c.from-n.ensures)
 
 pub overflow_cast-i : goal.overflow_cast-i
 overflow_cast-i c = omega (arith, narrow c.args.self.now.laid c.requires.r_bound.0, c.args.self.now.laid.shaped.given.q, c.requires.r_bound.1)

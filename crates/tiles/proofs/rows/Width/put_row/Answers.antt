@@ -21,5 +21,5 @@ pub returns : goal.returns
 returns c =
     let a = c.args in
     let n = then_appended c.pair-count.ensures c.pair-from.ensures in
-    let z : a.at + a.self.w - c.symbol-to.result ≡ room_of a.self.w - length a.part.now = omega (arith, n.to, c.symbol-to.ensures.to, a.self.wide.least, c.requires.part) in
-    appended-same (row_is a.self.w a.next _ a.part.now z) (then_appended (then_appended n c.symbol-to.ensures) c.put_zeros.ensures)
+    let z : a.at + a.self.w - c.copy_part-to.result ≡ room_of a.self.w - length a.part.now = omega (arith, n.to, c.copy_part-to.ensures.to, a.self.wide.least, c.requires.part) in
+    appended-same (row_is a.self.w a.next _ a.part.now z) (then_appended (then_appended n c.copy_part-to.ensures) c.put_zeros.ensures)
