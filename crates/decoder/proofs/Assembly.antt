@@ -22,7 +22,7 @@ use Rattle.elimination.specs.Consistency.{Consistent, ConsistentIs}
 use Rattle.elimination.specs.Reduced.{pivot_word}
 use Rattle.encoder.specs.inner.Positions.{checks, Table}
 use Rattle.peeling.proofs.CodeSizes.{layout-rows}
-use Rattle.peeling.specs.Plan.{Arrays, kind_of, unused_below, pivot_of, Unsolved}
+use Rattle.peeling.specs.Plan.{Arrays, kind_of, unused_below, Unsolved}
 use Rattle.peeling.specs.Values.{Peeled, HoldIs, StepsHold}
 use Rattle.encoder.specs.declared.positions.Shape.{Shape}
 use Rattle.encoder.specs.declared.positions.ClassTable.{ClassTable}
@@ -79,16 +79,6 @@ module _ (c : Checks) (w : ℕ) (block y states : List ℕ) (same : (p b : ℕ) 
         go : (i : ℕ) → Fills c w y states x s' m' i ⊎ (Leaves w s' m' i × Differs c w y states x i) → Fills c w block states x s' m' i ⊎ (Leaves w s' m' i × Differs c w block states x i)
         go i (inl F) = inl (record { state = F.state; bytes = F.bytes; common = common i F.common })
         go i (inr (L, D)) = inr (L, (D.0, (to D.1.0, D.1.1)))
-
--- what peeling leaves is the same for the symbols that it leaves
-pub peeled-here : {c : Checks} {w : ℕ} {block states : List ℕ} {plan : Arrays} {y : List ℕ} {early steps pivots : ℕ} → Peeled c w block states plan y early steps pivots → Peeled c w y states plan y early steps pivots
-peeled-here L = record {
-  made = L.made;
-  closed = L.closed;
-  unsolved = L.unsolved;
-  values = record { size = L.values.size; known-byte = λ p b h k e. refl; pivot-byte = L.values.pivot-byte; holds = L.values.holds };
-  begun = L.begun;
-}
 
 -- ---- the cases
 
@@ -252,11 +242,6 @@ module _ {c : Checks} {w : ℕ} {states : List ℕ} {plan : Arrays} {y : List �
         outcome_no c w y states s' m' G.peeled.values.size sm (refuted setting (subst (ConsistentIs (behind r.packed r.steps l) d r.rest r.packed w) e A)) C es em
 
     module _ {plan' : Arrays} {x : List ℕ} (I : PutIn c w r.packed r.early r.steps r.rest r.pivots l d plan y plan' x) where
-      pub solved_asks : (r.pivots ≤ 3072) × ((u : ℕ) → u < r.pivots → pivot_of plan' u < 3072)
-      solved_asks =
-          let p = (plan_put setting back I.put).0 in
-          (omega (arith, p.pivots_few, p.positions), λ u h. omega (arith, (p.pivot u h).position, p.positions))
-
       pub steps_asks : Planned c plan' r × (Room c r (length l) × Places c plan' l r.packed r.steps c.m)
       steps_asks = (planned I.put, (G.room, places setting back I.put))
 

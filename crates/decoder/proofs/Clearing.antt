@@ -24,15 +24,9 @@ pub record Upto (symbols states symbols' states' : List ℕ) (i : ℕ) : Type 0 
   pub symbols-size : length symbols' ≡ length symbols
   pub states-size : length states' ≡ length states
 
-pub upto_none : {symbols states : List ℕ} → Upto symbols states symbols states 0
-upto_none = record { to = omega arith; symbols-size = refl; states-size = refl }
-
 pub upto_more : {symbols states s k s' k' : List ℕ} {i : ℕ} → Upto symbols states s k i → i < length states → length s' ≡ length s → length k' ≡ length k
     → Upto symbols states s' k' (i + 1)
 upto_more u h e f = record { to = omega arith; symbols-size = e ∙ u.symbols-size; states-size = f ∙ u.states-size }
-
-pub cleared_none : (w : ℕ) (s states : List ℕ) → Cleared w s states s states 0
-cleared_none w s states = record { state = λ i. rw (le-ltb i 0 (omega arith)); byte = λ i b h. rw (le-ltb i 0 (omega arith)) }
 
 -- below i and below i + 1 are the same but at i
 wider : (i p : ℕ) → p ≢ i → ltb p i ≡ ltb p (i + 1)

@@ -8,20 +8,15 @@ use Prim.Native.Nat.{ℕ, ◌+◌, ◌*◌, ◌≤◌, ◌<◌}
 use native.Mathlib.Omega.{arith}
 use lib.Dec.{eqb}
 use lib.ListN.{length, get_or, set}
-use borrow.Author.Tests.{eq-eqb, ne_eqb}
 use lib.Seq.{get_or-set_same, get_or-set_other}
 use Rattle.peeling.specs.States.{is_known}
 use Rattle.elimination.proofs.Order.{eq_or_ne}
 use Rattle.peeling.specs.Plan.{Arrays, kind_of}
 use Rattle.pivot_equations.specs.declared.rows.Rows.{Rows}
 use Rattle.decoder.specs.Pivots.{DeterminedIs}
-use Rattle.decoder.specs.MissingPositions.{Untouched, FilledAt, FilledOne, FillRoom}
+use Rattle.decoder.specs.MissingPositions.{Untouched, FilledAt, FilledOne}
 use Rattle.peeling.proofs.Zeroing.{zeros_at}
 use Rattle.peeling.proofs.SymbolLaws.{replaced_other, zero-symbol}
-
--- the same room
-pub room-same : {r : Rows} {l m m' : ℕ} → FillRoom r l m → m' ≡ m → FillRoom r l m'
-room-same R e = rw e R
 
 -- ---- states only: states k of which the first i are filled
 
@@ -88,12 +83,6 @@ filled_more w r l plan s states x k x' k' i F O = record {
 }
 
 -- ---- one position, as the code has it
-
-pub state-one : (v : ℕ) → v ≡ 1 → ◌≡◌ {A = ℕ} 1 (cond (eqb v 1) 1 2)
-state-one v e = rw (eq-eqb v 1 e)
-
-pub state_two : (v : ℕ) → (v ≡ 1 → ⊥) → ◌≡◌ {A = ℕ} 2 (cond (eqb v 1) 1 2)
-state_two v ne = rw (ne_eqb v 1 ne)
 
 module _ (w : ℕ) (r : Rows) (l : List ℕ) (plan : Arrays) (s states : List ℕ) (p : ℕ) where
   pub one_known : is_known states p ≡ true → FilledOne w r l plan s states s states p

@@ -1,6 +1,6 @@
 -- The pivots that reduced rows have, put in one row after the other.
 -- Assumes nothing.
-use mathlib.Core.Path.{◌≡◌, refl, sym, ap, ◌∙◌, subst}
+use mathlib.Core.Path.{◌≡◌, sym, ap, ◌∙◌}
 use mathlib.Core.Logic.{◌≢◌, ◌⊎◌, inl, inr, ⊎_elim}
 use mathlib.Core.List.{List}
 use Prim.Native.Nat.{ℕ, ◌+◌, ◌-◌, ◌*◌, ◌<◌, ◌≤◌}
@@ -17,23 +17,10 @@ use Rattle.elimination.proofs.Order.{eq_or_ne}
 use Rattle.elimination.proofs.ColumnLaws.{rows_apart}
 use Rattle.peeling.specs.Plan.{Arrays, kind_of, pivot_of, Plan, Unsolved}
 use Rattle.pivot_equations.specs.declared.rows.Rows.{Rows}
-use Rattle.decoder.specs.Pivots.{Solved, Free, KindsOnly, Put, PutRoom, PutOne}
-
-pub put-none : (c : Checks) (w words steps pivots : ℕ) (l d : List ℕ) (plan : Arrays) (symbols : List ℕ) → Put c w words steps 0 pivots l d plan symbols plan symbols
-put-none c w words steps pivots l d plan symbols = record {
-  symbols-size = refl;
-  pivot = λ u h. inr (record { none = λ row k. absurd (omega arith); kind = refl; bytes = λ b k. refl });
-  same = record { pivots = refl; steps = refl; used = refl };
-  others = λ k o. refl;
-  other_bytes = λ p b o h k. refl;
-}
+use Rattle.decoder.specs.Pivots.{Solved, Free, KindsOnly, Put, PutOne}
 
 kinds_more : {plan plan' plan'' : Arrays} → KindsOnly plan plan' → KindsOnly plan' plan'' → KindsOnly plan plan''
 kinds_more a b = record { pivots = b.pivots ∙ a.pivots; steps = b.steps ∙ a.steps; used = b.used ∙ a.used }
-
-pub put_all : {c : Checks} {w words steps pivots : ℕ} {l d : List ℕ} {plan : Arrays} {symbols : List ℕ} {plan' : Arrays} {symbols' : List ℕ} (i rest : ℕ) → Put c w words steps i pivots l d plan symbols plan' symbols'
-    → i ≡ rest → Put c w words steps rest pivots l d plan symbols plan' symbols'
-put_all i rest X e = rw e at X
 
 module _ (c : Checks) (w : ℕ) (r : Rows) (states l d : List ℕ) (plan : Arrays) (symbols : List ℕ) (P : Plan c states plan r.early r.steps r.pivots) (U : Unsolved plan r.pivots)
     (size : length symbols ≡ c.n * w) (i : ℕ) (plan' : Arrays) (symbols' : List ℕ) (X : Put c w r.packed r.steps i r.pivots l d plan symbols plan' symbols') where
@@ -46,18 +33,6 @@ module _ (c : Checks) (w : ℕ) (r : Rows) (states l d : List ℕ) (plan : Array
 
   room : (u : ℕ) → u < r.pivots → pivot_of plan u * w + w ≤ length symbols'
   room u h = omega (arith, slot (pivot_of plan u) c.n w (position u h), size, X.symbols-size)
-
-  -- the arrays that row r.steps + i needs
-  pub put-room : (bytes : ℕ) → i < r.rest → (r.steps + r.rest) * (r.packed + 1) ≤ length l → r.rest * w ≤ bytes
-      → ((k : ℕ) → k < r.rest → pivot_word l r.packed (r.steps + k) ≤ r.pivots) → PutRoom w r i l bytes plan' (length symbols')
-  put-room bytes h fit side within = record {
-    below = h;
-    row = omega (arith, slot (r.steps + i) (r.steps + r.rest) (r.packed + 1) (omega arith));
-    side = omega (arith, slot i r.rest w h);
-    pivot = λ u e.
-        let k : u < r.pivots = omega (arith, within i h) in
-        (omega (arith, P.pivots_few, P.positions), subst (λ (p : ℕ). (p < 3072) × (p * w + w ≤ length symbols')) (sym (kept u k)) (omega (arith, position u k, P.positions), room u k));
-  }
 
   module _ (plan'' : Arrays) (symbols'' : List ℕ) where
     -- a pivot that row r.steps + i does not have

@@ -64,18 +64,6 @@ Place c plan l words steps p = (kind_of plan p ≤ 4096 → kind_of plan p - 102
     × (4096 < kind_of plan p → (steps ≤ kind_of plan p - 4097)
     × ((kind_of plan p - 4097 < c.m) × ((0 < pivot_word l words (kind_of plan p - 4097)) × (pivot_word l words (kind_of plan p - 4097) ≤ 64 * words))))
 
-module _ {c : Checks} {states : List ℕ} {plan : Arrays} {early steps pivots : ℕ} (P : Plan c states plan early steps pivots) (closed : Closed c plan) where
-  -- before any pivot is solved, each has its place in a row
-  pub places_unsolved : Unsolved plan pivots → (l : List ℕ) (words : ℕ) → pivots ≤ 64 * words → Places c plan l words steps c.m
-  places_unsolved U l words room p hp h = go (kind_cases P closed p hp)
-    where
-      kind : (u : ℕ) → u < pivots → pivot_of plan u ≡ p → (kind_of plan p ≡ 1025 + u) × (u < 3072)
-      kind u hu e = (ap (kind_of plan) (sym e) ∙ U u hu, omega (arith, P.pivots_few, P.positions))
-
-      go : (kind_of plan p ≤ steps) ⊎ IsPivot plan pivots p → Place c plan l words steps p
-      go (inl k) = absurd (omega (arith, few-steps P))
-      go (inr (u, (hu, e))) = let k = kind u hu e in (λ s. omega (arith, k.0), λ s. absurd (omega (arith, k.0, k.1)))
-
 -- ---- the setting: the symbols along a plan that is made, and the reduced rows
 
 pub record Setting (c : Checks) (w : ℕ) (block states : List ℕ) (plan : Arrays) (y l lr d lr' d' : List ℕ) (words early steps pivots rest : ℕ) : Type 0 where

@@ -3,13 +3,13 @@
 use mathlib.Core.Path.{◌≡◌, sym, ap, ◌∙◌}
 use mathlib.Core.Logic.{◌⊎◌, inl, inr}
 use mathlib.Core.Bool.{Bool}
-use mathlib.Core.List.{List, ◌++◌, append-nil}
+use mathlib.Core.List.{List}
 use Prim.Native.Nat.{ℕ, ◌+◌, ◌-◌, ◌*◌, ◌/◌, ◌%◌, ◌<◌, ◌≤◌}
 use native.Mathlib.Nat.{add-mul, div-lt_iff_lt-mul}
 use native.Mathlib.Omega.{arith}
 use lib.Dec.{lit<}
-use lib.ListN.{length, get_or, take, drop, length-drop}
-use lib.Seq.{get_or-drop, take_all, drop_at, drop-length, length-take-le}
+use lib.ListN.{get_or}
+use lib.Seq.{get_or-drop}
 use Rattle.algebra.specs.Sums.{pick}
 use Rattle.algebra.specs.Codeword.{Checks}
 use Rattle.algebra.proofs.Sums.{sum_ext}
@@ -64,14 +64,3 @@ module _ {c : Checks} {states : List ℕ} {plan : Arrays} {early steps pivots : 
     steps_stay X t i h g =
         sum_ext (c.has (row_of plan t)) (λ x. coefficient plan l' words early x i) (λ x. coefficient plan l words early x i) c.n (λ p q. ap (λ (b : Bool). pick b 1) (same_depends p i q g))
         ∙ X t i h g
-
--- a part up to the end is what is left behind its start
-pub part_all : (n : ℕ) (l : List ℕ) → take (length l - n) (drop n l) ≡ drop n l
-part_all n l = take_all (length l - n) (drop n l) (omega (arith, length-drop n l))
-
--- and put back it is all there is behind that start
-pub part_back : (n : ℕ) (l r : List ℕ) → n ≤ length l → drop n (take n l ++ (r ++ drop (length l - n) (drop n l))) ≡ r
-part_back n l r h =
-    drop_at (take n l) (r ++ drop (length l - n) (drop n l)) n (length-take-le n l h)
-    ∙ ap (λ (z : List ℕ). r ++ z) (ap (λ (k : ℕ). drop k (drop n l)) (sym (length-drop n l)) ∙ drop-length (drop n l))
-    ∙ append-nil r

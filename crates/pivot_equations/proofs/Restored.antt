@@ -4,27 +4,25 @@ use mathlib.Core.Path.{◌≡◌, refl, sym, ap, ap₂, ◌∙◌, subst}
 use mathlib.Core.Logic.{◌⊎◌, ◌≢◌, ⊎_elim}
 use mathlib.Core.Bool.{Bool, true, false, cond}
 use mathlib.Core.List.{List}
-use Prim.Native.Nat.{ℕ, ◌+◌, ◌*◌, ◌<◌, ◌≤◌}
+use Prim.Native.Nat.{ℕ, ◌+◌, ◌<◌, ◌≤◌}
 use native.Mathlib.Nat.{not-suc-le-zero, le_refl}
 use native.Mathlib.Numerals.{add-one}
 use native.Mathlib.Decide.{dec_lt}
 use native.Mathlib.Omega.{arith}
 use lib.Dec.{eqb}
-use lib.ListN.{length, get_or, set, take, length-set}
+use lib.ListN.{length, get_or, set, length-set}
 use lib.Seq.{get_or-set_same, get_or-set_other}
 use borrow.Author.Tests.{eq-eqb, ne_eqb, eqb-false}
 use Rattle.algebra.specs.Sums.{◌⊕◌, sum}
 use Rattle.algebra.specs.Codeword.{Checks, byte_at}
 use Rattle.algebra.proofs.Sums as sums
-use Rattle.symbol_sums.specs.Gather.{gathered, Inside, Replaced}
-use Rattle.symbol_sums.proofs.Fronts.{inside_front}
+use Rattle.symbol_sums.specs.Gather.{gathered, Replaced}
 use Rattle.encoder.specs.inner.Positions.{RowOf}
 use Rattle.peeling.specs.Plan.{Arrays, kind_of, row_of, position_of, Step, Plan}
 use Rattle.peeling.specs.Values.{row_sum, StepsHold, StepsRestored}
 use Rattle.pivot_equations.specs.Unused.{Others}
 use Rattle.peeling.proofs.StepLaws.{few-steps, step_apart}
 use Rattle.peeling.proofs.SymbolLaws.{replaced_other}
-use Rattle.peeling.proofs.CodeSizes.{row_within}
 use Rattle.pivot_equations.proofs.SumWithout.{without, sum_without}
 
 -- ---- the numbers other than p
@@ -107,11 +105,6 @@ module _ {c : Checks} {j n k p : ℕ} {xs xs' : List ℕ} (r : RowOf c j n xs) (
   pub others_few : k ≤ length xs'
   others_few = omega (arith, o.size, o.few, r.size, r.few)
 
-  pub others_inside : {w bytes : ℕ} → bytes ≡ c.n * w → Inside (take k xs') w bytes
-  others_inside {w} {bytes} e = inside_front xs' k others_few (λ i h.
-      let y = (o.each i h).1 in
-      subst (λ (v : ℕ). v * w + w ≤ bytes) (sym y.1.1) (omega (arith, row_within w r y.0 y.1.0)))
-
   pub others-sum : (f : ℕ → ℕ) → gathered f xs' k ≡ sum (c.has j) (without p f) c.n
   others-sum f = o.total f ∙ r.total (without p f)
 
@@ -136,9 +129,6 @@ module _ (c : Checks) (w j p : ℕ) {s s' : List ℕ} (h : Replaced (λ b. sum (
 -- ---- step after step
 
 module _ (c : Checks) (w : ℕ) {states : List ℕ} {plan : Arrays} {early steps pivots : ℕ} (made : Plan c states plan early steps pivots) where
-  pub restored-none : {s : List ℕ} → StepsHold c w plan s early → StepsRestored c w plan s s early early
-  restored-none h = record { size = refl; same = λ p b l g k. refl; holds = h }
-
   pub restored-more : {s₀ s s' : List ℕ} {t : ℕ} → early ≤ t → t < steps → StepsRestored c w plan s₀ s early t
       → Replaced (λ b. sum (c.has (row_of plan t)) (without (position_of plan t) (byte_at w s b)) c.n) w (position_of plan t) s s' → StepsRestored c w plan s₀ s' early (t + 1)
   restored-more {s₀} {s} {s'} {t} el h a r = record { size = r.size ∙ a.size; same = same; holds = holds }
@@ -160,6 +150,3 @@ module _ (c : Checks) (w : ℕ) {states : List ℕ} {plan : Arrays} {early steps
           go (no d) =
               let q : i ≡ t = omega arith in
               ap (λ (y : ℕ). row_sum c w s' (row_of plan y) b) q ∙ restored-row c w (row_of plan t) (position_of plan t) r own.position own.has b g
-
-  pub restored_all : {s₀ s : List ℕ} {t : ℕ} → StepsRestored c w plan s₀ s early t → t ≡ steps → StepsRestored c w plan s₀ s early steps
-  restored_all {s₀} {s} a e = subst (λ (k : ℕ). StepsRestored c w plan s₀ s early k) e a

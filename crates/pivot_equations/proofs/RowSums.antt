@@ -28,9 +28,6 @@ module _ {l : List ℕ} {words early t : ℕ} (plan : Arrays) (but : Option ℕ)
   pub reads_other : {rows : ℕ} → is_left_out but x ≡ false → Reads l words early rows t (kind_but plan but x) → Reads l words early rows t (kind_of plan x)
   reads_other ne r = rw ne at r
 
-  pub added_other : {l' : List ℕ} → is_left_out but x ≡ false → Added l l' words early t (kind_of plan x) → Added l l' words early t (kind_but plan but x)
-  added_other ne a = rw ne a
-
   pub added_own : is_left_out but x ≡ true → Added l l words early t (kind_but plan but x)
   added_own e = rw e (add_none (omega arith))
 

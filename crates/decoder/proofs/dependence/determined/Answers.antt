@@ -4,7 +4,6 @@ use mathlib.Core.Path.{refl}
 use mathlib.Core.List.{List}
 use Prim.Native.Nat.{ℕ, ◌+◌, ◌-◌, ◌*◌, ◌<◌, ◌≤◌}
 use native.Mathlib.Nat.{le_trans}
-use native.Mathlib.Omega.{arith}
 use lib.ListN.{length}
 use Rattle.algebra.proofs.Codeword.{slot}
 use Rattle.peeling.specs.Plan.{Arrays, kind_of}
@@ -28,12 +27,6 @@ module _ {r : Rows} {l : List ℕ} {plan : Arrays} {p : ℕ} (fit : all_rows r *
 pub returns-then-kind-system : goal.returns-then-kind-system
 returns-then-kind-system c = determined_early _ _ _ _ c.if-kind-system.true
 
-pub overflow_mul-kind : goal.overflow_mul-kind
-overflow_mul-kind c = omega (arith, step c.requires.words_len c.requires.readable c.if-kind-system.false c.if-kind-le-LAST_STEP.true)
-
-pub no_bits-requires : goal.no_bits-requires
-no_bits-requires c = omega (arith, step c.requires.words_len c.requires.readable c.if-kind-system.false c.if-kind-le-LAST_STEP.true)
-
 pub returns-then-kind-le-LAST_STEP : goal.returns-then-kind-le-LAST_STEP
 returns-then-kind-le-LAST_STEP c =
     determined-step c.args.words.now c.args.system.now.rows.packed _ _ c.if-kind-system.false c.if-kind-le-LAST_STEP.true c.no_bits.result c.no_bits.ensures
@@ -42,27 +35,6 @@ pub returns-then-kind-le-LAST_PIVOT : goal.returns-then-kind-le-LAST_PIVOT
 returns-then-kind-le-LAST_PIVOT c =
     let g : 1024 < kind_of c.args.system.now.plan.now c.args.p = c.if-kind-le-LAST_STEP.false in
     determined-pivot _ _ _ _ c.if-kind-system.false g c.if-kind-le-LAST_PIVOT.true (c.requires.readable.reads.pivot g c.if-kind-le-LAST_PIVOT.true)
-
-pub overflow_mul-h : goal.overflow_mul-h
-overflow_mul-h c = omega (arith, row c.requires.words_len c.requires.readable c.if-kind-le-LAST_PIVOT.false)
-
-pub overflow_add-u : goal.overflow_add-u
-overflow_add-u c = omega (arith, row c.requires.words_len c.requires.readable c.if-kind-le-LAST_PIVOT.false)
-
-pub offset_bounds-words-h : goal.offset_bounds-words-h
-offset_bounds-words-h c = omega (arith, row c.requires.words_len c.requires.readable c.if-kind-le-LAST_PIVOT.false)
-
-pub bounds-words-h : goal.bounds-words-h
-bounds-words-h c = omega (arith, row c.requires.words_len c.requires.readable c.if-kind-le-LAST_PIVOT.false)
-
-pub overflow_sub-u : goal.overflow_sub-u
-overflow_sub-u c = omega (arith, c.requires.readable.reads.solved c.if-kind-le-LAST_PIVOT.false)
-
-pub only-requires : goal.only-requires
-only-requires c =
-    let h = c.if-kind-le-LAST_PIVOT.false in
-    let p = c.requires.readable.reads.solved h in
-    record { p_bound = (omega (arith, p.1.1), omega (arith, row c.requires.words_len c.requires.readable h)); p_value = c.requires.readable.here h }
 
 pub returns : goal.returns
 returns c =

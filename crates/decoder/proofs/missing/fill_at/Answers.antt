@@ -12,19 +12,13 @@ use Rattle.decoder.proofs.missing.fill_at.Goals as goal
 pub returns-then-states-p-eq-KNOWN : goal.returns-then-states-p-eq-KNOWN
 returns-then-states-p-eq-KNOWN c = one_known _ _ _ _ _ _ _ (known-one c.args.states.now c.args.p c.if-states-p-eq-KNOWN.true)
 
-pub determined-requires : goal.determined-requires
-determined-requires c =
-    let r = c.requires.fill_room in
-    record { words_len = r.fit; p_lt_max_n = omega (arith, r.positions, c.requires.p_in_bounds.0); readable = c.requires.readable (known-not c.args.states.now c.args.p c.if-states-p-eq-KNOWN.false) }
+pub determined-requires-clause-readable : goal.determined-requires-clause-readable
+determined-requires-clause-readable c = c.requires.readable (known-not c.args.states.now c.args.p c.if-states-p-eq-KNOWN.false)
 
 pub returns-then-determined : goal.returns-then-determined
 returns-then-determined c =
     one-determined _ _ _ _ _ c.args.states.now _ (known-not c.args.states.now c.args.p c.if-states-p-eq-KNOWN.false) c.requires.p_in_bounds.0
     (subst (DeterminedIs _ _ _ _) c.if-determined.true c.determined.ensures)
-
-pub clear_at-requires : goal.clear_at-requires
-clear_at-requires c =
-    (c.requires.p_in_bounds.0, omega (arith, slot c.args.p (length c.args.states.now) c.args.system.now.block.now.shape.w c.requires.p_in_bounds.0, c.requires.p_in_bounds.1))
 
 pub returns : goal.returns
 returns c =

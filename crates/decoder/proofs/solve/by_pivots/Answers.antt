@@ -1,13 +1,11 @@
 -- `decoder::solve::by_pivots` meets its contract.
 -- Assumes nothing.
-use mathlib.Core.Path.{sym, ap, ◌∙◌, subst}
-use Prim.Native.Nat.{ℕ, ◌*◌}
+use mathlib.Core.Path.{◌∙◌}
 use native.Mathlib.Omega.{arith}
-use Rattle.elimination.specs.Consistency.{ConsistentIs}
 use Rattle.encoder.specs.inner.Positions.{checks}
 use Rattle.peeling.proofs.CodeSizes.{layout-rows}
 use Rattle.peeling.proofs.StepLaws.{few-steps}
-use Rattle.decoder.specs.Equations.{behind, Solvable}
+use Rattle.decoder.specs.Equations.{Solvable}
 use Rattle.decoder.proofs.Assembly.{Ready, ready, room_at, rows-room, by-rows_no}
 use Rattle.decoder.proofs.solve.by_pivots.Goals as goal
 use Rattle.decoder.proofs.solve.by_pivots.Goals.{After-new-r, After-reduce}
@@ -35,31 +33,17 @@ new-r-requires c =
 pub invariant_of-system : goal.invariant_of-system
 invariant_of-system c = record { all = c.new-r.ensures.rest ∙ layout-rows c.args.block.now.laid }
 
-pub reduce-requires : goal.reduce-requires
-reduce-requires c =
-    let p = c.requires in
-    let R = at-rows (goal.at.reduce-requires c).After-new-r in
-    let L = R.peeled in
-    record { planned = (record { states = _; made = L.made; closed = L.closed }, L.unsolved); room = room_at p.words_len.0 R.room; symbols_len = (L.values.size, p.words_len.1) }
+pub reduce-requires-clause-room : goal.reduce-requires-clause-room
+reduce-requires-clause-room c = room_at c.requires.words_len.0 (at-rows (goal.at.reduce-requires-clause-room c).After-new-r).room
 
-pub consistent_behind-consistent-requires : goal.consistent_behind-consistent-requires
-consistent_behind-consistent-requires c =
-    let R = at-rows (goal.at.consistent_behind-consistent-requires c).After-new-r in
-    let G = solvable (goal.at.consistent_behind-consistent-requires c).After-reduce R in
-    record { rows_room = rows-room R.all G.room G.sides; reduced = G.equations.reduced }
+pub consistent_behind-consistent-requires-clause-rows_room : goal.consistent_behind-consistent-requires-clause-rows_room
+consistent_behind-consistent-requires-clause-rows_room c =
+    let R = at-rows (goal.at.consistent_behind-consistent-requires-clause-rows_room c).After-new-r in
+    let G = solvable (goal.at.consistent_behind-consistent-requires-clause-rows_room c).After-reduce R in
+    rows-room R.all G.room G.sides
 
-pub fill-requires : goal.fill-requires
-fill-requires c =
-    let r = c.new-r.result in
-    let G = solvable (goal.at.fill-requires c).After-reduce (at-rows (goal.at.fill-requires c).After-new-r) in
-    record {
-      solvable = G;
-      consistent = subst (ConsistentIs (behind r.packed r.steps c.reduce.new.words) c.reduce.new.bytes r.rest r.packed c.args.block.now.shape.w) c.if-consistent.true c.consistent_behind-consistent.ensures;
-      states_len = c.requires.w_nonzero.1;
-    }
-
-pub clear_missing-requires : goal.clear_missing-requires
-clear_missing-requires c = c.requires.peeled.values.size ∙ ap (λ (n : ℕ). n * c.args.block.now.shape.w) (sym c.requires.w_nonzero.1)
+pub fill-requires-clause-solvable : goal.fill-requires-clause-solvable
+fill-requires-clause-solvable c = solvable (goal.at.fill-requires-clause-solvable c).After-reduce (at-rows (goal.at.fill-requires-clause-solvable c).After-new-r)
 
 pub returns : goal.returns
 returns c =

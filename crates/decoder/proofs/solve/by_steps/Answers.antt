@@ -1,7 +1,5 @@
 -- `decoder::solve::by_steps` meets its contract.
 -- Assumes nothing.
-use mathlib.Core.Path.{sym, ap, ◌∙◌}
-use Prim.Native.Nat.{ℕ, ◌*◌}
 use native.Mathlib.Omega.{arith}
 use Rattle.decoder.proofs.Assembly.{by-steps_no, by-steps-yes}
 use Rattle.decoder.proofs.solve.by_steps.Goals as goal
@@ -9,10 +7,6 @@ use Rattle.decoder.proofs.solve.by_steps.Goals as goal
 pub returns-then-hold : goal.returns-then-hold
 returns-then-hold c =
     by-steps-yes c.requires.peeled.1 c.requires.peeled.0 c.requires.states_len _ c.hold.ensures c.if-hold.true (λ t. omega (arith, c.slice_known-1.given t)) _ c.fill_missing.ensures
-
-pub clear_missing-requires : goal.clear_missing-requires
-clear_missing-requires c =
-    c.requires.peeled.0.values.size ∙ ap (λ (n : ℕ). n * c.args.block.now.shape.w) (sym c.requires.states_len)
 
 pub returns : goal.returns
 returns c =

@@ -3,11 +3,11 @@
 use Rattle.decoder.proofs.Assembly.{put_asks, restore_asks}
 use Rattle.decoder.proofs.solve.put_in.Goals as goal
 
-pub put-requires : goal.put-requires
-put-requires c = let q = (put_asks c.requires.1) in record { planned = q.0; words_len = q.1.0; symbols_len = q.1.1.0; by_index = q.1.1.1 }
+pub put-requires-clause-by_index : goal.put-requires-clause-by_index
+put-requires-clause-by_index c = (put_asks c.requires.1).1.1.1
 
-pub restore_steps-requires : goal.restore_steps-requires
-restore_steps-requires c = let q = restore_asks c.requires.1 c.put.ensures in record { planned = q.0; symbols_len = q.1 }
+pub restore_steps-requires-clause-planned : goal.restore_steps-requires-clause-planned
+restore_steps-requires-clause-planned c = (restore_asks c.requires.1 c.put.ensures).0
 
-pub returns : goal.returns
-returns c = record { between = _; put = c.put.ensures; restored = c.restore_steps.ensures }
+pub restore_steps-requires-clause-symbols_len : goal.restore_steps-requires-clause-symbols_len
+restore_steps-requires-clause-symbols_len c = (restore_asks c.requires.1 c.put.ensures).1

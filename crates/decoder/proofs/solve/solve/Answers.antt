@@ -17,7 +17,7 @@ use Rattle.peeling.specs.Plan.{Arrays}
 use Rattle.peeling.specs.Values.{Peeled}
 use Rattle.decoder.specs.Outcome.{Outcome, Decoded}
 use Rattle.decoder.proofs.OutcomeLaws.{decoded}
-use Rattle.decoder.proofs.Assembly.{peeled-here, outcome-same}
+use Rattle.decoder.proofs.Assembly.{outcome-same}
 use Rattle.decoder.proofs.solve.solve.Goals as goal
 use Rattle.decoder.proofs.solve.solve.Goals.{After-lay-shape}
 
@@ -49,24 +49,23 @@ module _ {number w fill : ℕ} (s : Shape) (e : (s.number ≡ number) × (s.w �
 none-used : (j : ℕ) → get_or (replicate 1024 false) j false ≡ false
 none-used j = ⊎_elim (λ h. get_or-replicate 1024 j false false h) (λ h. get_or-eq_default (replicate 1024 false) false {n = j} (omega (arith, length-replicate 1024 false))) (lt_or_le j 1024)
 
-pub lay-shape-requires : goal.lay-shape-requires
-lay-shape-requires c = record { known = (c.requires.known.0, c.requires.known.2); blank = c.new-table.ensures }
+pub peel-g-requires-clause-unused : goal.peel-g-requires-clause-unused
+peel-g-requires-clause-unused c j = ap (λ (b : Bool). cond b 1 0) (none-used j)
 
-pub peel-g-requires : goal.peel-g-requires
-peel-g-requires c = let z = sized (goal.at.peel-g-requires c).After-lay-shape in record { unused = λ j. ap (λ (b : Bool). cond b 1 0) (none-used j); states_len = (z.0, z.1) }
+pub peel-g-requires-clause-states_len : goal.peel-g-requires-clause-states_len
+peel-g-requires-clause-states_len c = let z = sized (goal.at.peel-g-requires-clause-states_len c).After-lay-shape in (z.0, z.1)
 
-pub by_steps-requires : goal.by_steps-requires
-by_steps-requires c =
-    let z = sized (goal.at.by_steps-requires c).After-lay-shape in
-    record { peeled = (peeled-here c.peel-g.ensures, c.if-g-eq0.true); states_len = z.0 }
+pub by_steps-requires-clause-states_len : goal.by_steps-requires-clause-states_len
+by_steps-requires-clause-states_len c = (sized (goal.at.by_steps-requires-clause-states_len c).After-lay-shape).0
 
 pub returns-then-g-eq0 : goal.returns-then-g-eq0
 returns-then-g-eq0 c = left c.lay-shape.result c.lay-shape.ensures.numbers c.requires.known.1 c.peel-g.ensures c.by_steps.ensures
 
-pub by_pivots-requires : goal.by_pivots-requires
-by_pivots-requires c =
-    let z = sized (goal.at.by_pivots-requires c).After-lay-shape in
-    record { peeled = peeled-here c.peel-g.ensures; words_len = (z.2, z.3); w_nonzero = (z.4, z.0) }
+pub by_pivots-requires-clause-words_len : goal.by_pivots-requires-clause-words_len
+by_pivots-requires-clause-words_len c = let z = sized (goal.at.by_pivots-requires-clause-words_len c).After-lay-shape in (z.2, z.3)
+
+pub by_pivots-requires-clause-w_nonzero : goal.by_pivots-requires-clause-w_nonzero
+by_pivots-requires-clause-w_nonzero c = let z = sized (goal.at.by_pivots-requires-clause-w_nonzero c).After-lay-shape in (z.4, z.0)
 
 pub returns : goal.returns
 returns c = left c.lay-shape.result c.lay-shape.ensures.numbers c.requires.known.1 c.peel-g.ensures c.by_pivots.ensures

@@ -4,16 +4,13 @@ use mathlib.Core.Path.{ap}
 use mathlib.Core.Bool.{not}
 use native.Mathlib.Omega.{arith}
 use Rattle.encoder.specs.inner.Positions.{checks}
-use Rattle.peeling.proofs.CodeSizes.{few-rows, layout-rows, row_inside}
+use Rattle.peeling.proofs.CodeSizes.{few-rows, layout-rows}
 use Rattle.pivot_equations.proofs.UnusedSums.{is_unused, is_used, pass_row, pass_used, pass_not}
 use Rattle.pivot_equations.proofs.remaining.hold.Goals as goal
 use Rattle.pivot_equations.proofs.remaining.hold.Goals.{then-not-plan-j+else-not-cancels, else-not-plan-j}
 
 pub bounds-plan-j : goal.bounds-plan-j
 bounds-plan-j c = omega (arith, few-rows c.args.block.now.laid, layout-rows c.args.block.now.laid)
-
-pub cancels-requires : goal.cancels-requires
-cancels-requires c = row_inside c.of_row-n.ensures c.requires
 
 pub returns-then-not-cancels : goal.returns-then-not-cancels
 returns-then-not-cancels c =

@@ -3,7 +3,7 @@
 use mathlib.Core.Path.{refl, ◌≡◌}
 use native.Mathlib.Omega.{arith}
 use Rattle.encoder.specs.inner.Positions.{checks}
-use Rattle.peeling.proofs.CodeSizes.{few-rows, layout-rows, row_inside}
+use Rattle.peeling.proofs.CodeSizes.{few-rows, layout-rows}
 use Rattle.peeling.proofs.UnusedRows.{unused_le}
 use Rattle.pivot_equations.proofs.UnusedSums.{is_unused, is_used, sides-none, sides-used, sides-room, sides-put, sides_all}
 use Rattle.pivot_equations.proofs.remaining.sums.Goals as goal
@@ -15,8 +15,8 @@ loop-j-init c = (refl, sides-none _ _ _ _ _ c.requires.bytes_len)
 pub bounds-plan-j : goal.bounds-plan-j
 bounds-plan-j c = omega (arith, few-rows c.args.block.now.laid, layout-rows c.args.block.now.laid)
 
-pub put_sum-requires : goal.put_sum-requires
-put_sum-requires c = record { prev_lt_j = (tt, sides-room _ _ _ _ c.loop-j.invariant.1 (omega (arith, layout-rows c.args.block.now.laid))); inside = row_inside c.of_row-n.ensures c.requires.symbols_len }
+pub put_sum-requires-clause-prev_lt_j : goal.put_sum-requires-clause-prev_lt_j
+put_sum-requires-clause-prev_lt_j c = (tt, sides-room _ _ _ _ c.loop-j.invariant.1 (omega (arith, layout-rows c.args.block.now.laid)))
 
 pub overflow_add-i : goal.overflow_add-i
 overflow_add-i c = omega (arith, few-rows c.args.block.now.laid, layout-rows c.args.block.now.laid, c.loop-j.invariant.1.count, unused_le c.args.plan.now c.loop-j.j)

@@ -9,21 +9,6 @@ use Rattle.pivot_equations.proofs.restore.others.Goals.{else-from-p, then-from-p
 pub loop-i-init : goal.loop-i-init
 loop-i-init c = (omega arith, others-none _ _)
 
-pub offset_bounds-xs-i : goal.offset_bounds-xs-i
-offset_bounds-xs-i c = omega (arith, c.loop-i.invariant.1.size)
-
-pub bounds-xs-i : goal.bounds-xs-i
-bounds-xs-i c = omega (arith, c.loop-i.invariant.1.size)
-
-pub offset_bounds-xs-k : goal.offset_bounds-xs-k
-offset_bounds-xs-k c = omega (arith, c.loop-i.invariant.1.size, c.loop-i.invariant.1.few)
-
-pub bounds-xs-k : goal.bounds-xs-k
-bounds-xs-k c = omega (arith, c.loop-i.invariant.1.size, c.loop-i.invariant.1.few)
-
-pub overflow_add-k : goal.overflow_add-k
-overflow_add-k c = omega (arith, c.loop-i.invariant.1.few)
-
 pub loop-i-preserved : goal.loop-i-preserved
 loop-i-preserved c =
     let h = c.loop-i.invariant.1 in
@@ -31,6 +16,3 @@ loop-i-preserved c =
       omega arith,
       elim c.if-from-p.branch [ then-from-p v ↦ others-at (others_skip h (omega arith) (sym e ∙ v.if-from-p.true)) refl v.k-is | else-from-p v ↦ others-at (others-take h (omega arith) (λ d. v.if-from-p.false (e ∙ d))) refl v.k-is ],
     )
-
-pub returns : goal.returns
-returns c = others-at c.loop-i.invariant.1 (omega arith) refl

@@ -1,13 +1,13 @@
 -- `pivot_equations::system::System::remaining` meets its contract: the unused check rows before j are expressed.
 -- Assumes nothing.
-use mathlib.Core.Path.{refl, ◌≡◌, ap}
-use Prim.Native.Nat.{ℕ, ◌+◌, ◌*◌, ◌<◌}
+use mathlib.Core.Path.{refl, ◌≡◌}
+use Prim.Native.Nat.{◌<◌}
 use native.Mathlib.Omega.{arith}
 use lib.ListN.{get_or}
 use mathlib.Core.Bool.{false}
 use Rattle.encoder.specs.inner.Positions.{checks}
 use Rattle.peeling.specs.Plan.{unused_below}
-use Rattle.pivot_equations.specs.Express.{all_rows, Places}
+use Rattle.pivot_equations.specs.Express.{Places}
 use Rattle.peeling.proofs.CodeSizes.{row_count, layout-rows}
 use Rattle.peeling.proofs.UnusedRows.{unused-none, unused-one}
 use Rattle.pivot_equations.proofs.UnusedSums.{is_unused, is_used}
@@ -36,18 +36,16 @@ loop-j-init c = record { size = refl; next = omega arith; expressed = λ j i h. 
 pub bounds-self-j : goal.bounds-self-j
 bounds-self-j c = omega (arith, c.requires.planned.made.rows, layout-rows c.args.self.now.block.now.laid, c.args.self.now.plan.now.used_len)
 
-pub row-requires : goal.row-requires
-row-requires c =
+pub row-requires-clause-row_bound : goal.row-requires-clause-row_bound
+row-requires-clause-row_bound c =
     let s = c.args.self.now in
-    let l = (goal.at.row-requires c).In-loop-j in
+    let b = below (goal.at.row-requires-clause-row_bound c).In-loop-j c.loop-j-test.true c.if-not-self-j.true in
+    (omega (arith, b, s.all), omega (arith, layout-rows s.block.now.laid, row_count s.block.now.shape))
+
+pub row-requires-clause-reads_all : goal.row-requires-clause-reads_all
+row-requires-clause-reads_all c =
     let p = c.requires.planned in
-    let b = below l c.loop-j-test.true c.if-not-self-j.true in
-    let f : all_rows s.rows * (s.rows.packed + 1) ≡ (checks s.block.now.shape).m * (s.rows.packed + 1) = ap (λ (x : ℕ). x * (s.rows.packed + 1)) s.all in
-    record {
-      words_len = omega (arith, f, c.requires.room.fit, c.loop-j.invariant.steps.size);
-      row_bound = (omega (arith, b, s.all), omega (arith, layout-rows s.block.now.laid, row_count s.block.now.shape));
-      reads_all = reads-rows s.all (reads-rest p.made p.closed c.requires.unsolved (places l) (omega (arith, c.loop-j.invariant.next)));
-    }
+    reads-rows c.args.self.now.all (reads-rest p.made p.closed c.requires.unsolved (places (goal.at.row-requires-clause-reads_all c).In-loop-j) (omega (arith, c.loop-j.invariant.next)))
 
 pub overflow_add-t : goal.overflow_add-t
 overflow_add-t c = omega (arith, below (goal.at.overflow_add-t c).In-loop-j c.loop-j-test.true c.if-not-self-j.true, c.requires.planned.made.rows)

@@ -55,24 +55,20 @@ loop-x-init c =
     let xs = c.of_row-n.new.xs in
     (λ k h. let g : k < n = omega (arith, length-take n xs) in (reads_all_same z.only c.requires.reads_all).each _ (rw (get_or-take n xs k 0 g) (c.of_row-n.ensures.below k g)), sum-none z)
 
-pub add_other-requires : goal.add_other-requires
-add_other-requires c =
+pub add_other-requires-clause-t_bound : goal.add_other-requires-clause-t_bound
+add_other-requires-clause-t_bound c = (c.requires.row_bound.0, omega (arith, c.from.ensures, is-position (goal.at.add_other-requires-clause-t_bound c).In-loop-x))
+
+pub add_other-requires-clause-reads : goal.add_other-requires-clause-reads
+add_other-requires-clause-reads c =
     let l = c.loop-x in
-    record {
-      words_len = omega (arith, c.requires.words_len, (zeroed (goal.at.add_other-requires c).After-fill).only.size, l.invariant.1.only.size);
-      t_bound = (c.requires.row_bound.0, omega (arith, c.from.ensures, is-position (goal.at.add_other-requires c).In-loop-x));
-      reads = reads-kind c.args.self.now.plan.now c.args.e.but (sym c.from.ensures) (reads_same l.invariant.1.only (l.invariant.0 l.x-index c.loop-x-test.true));
-    }
+    reads-kind c.args.self.now.plan.now c.args.e.but (sym c.from.ensures) (reads_same l.invariant.1.only (l.invariant.0 l.x-index c.loop-x-test.true))
 
 pub loop-x-preserved : goal.loop-x-preserved
 loop-x-preserved c =
     let l = c.loop-x in
     (l.invariant.0, sum_more l.invariant.1 (l.invariant.0 l.x-index c.loop-x-test.true) (added-kind c.args.self.now.plan.now c.args.e.but c.from.ensures c.add_other.ensures))
 
-pub shape_of-words : goal.shape_of-words
-shape_of-words c = omega (arith, c.loop-x.invariant.1.only.size)
-
-pub returns : goal.returns
-returns c =
-    let z = zeroed (goal.at.returns c).After-fill in
-    record { xs_len = c.of_row-n.ensures.size; row_is = row_is z.only c.requires.reads_all c.of_row-n.ensures c.loop-x.invariant.1 (omega (arith, length-take c.of_row-n.result c.of_row-n.new.xs, c.of_row-n.ensures.few, c.of_row-n.ensures.size)) }
+pub returns-clause-row_is : goal.returns-clause-row_is
+returns-clause-row_is c =
+    let z = zeroed (goal.at.returns-clause-row_is c).After-fill in
+    row_is z.only c.requires.reads_all c.of_row-n.ensures c.loop-x.invariant.1 (omega (arith, length-take c.of_row-n.result c.of_row-n.new.xs, c.of_row-n.ensures.few, c.of_row-n.ensures.size))

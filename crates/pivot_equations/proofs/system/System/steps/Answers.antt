@@ -1,13 +1,12 @@
 -- `pivot_equations::system::System::steps` meets its contract: the steps up to t are expressed.
 -- Assumes nothing.
-use mathlib.Core.Path.{refl, ◌≡◌, ap}
+use mathlib.Core.Path.{refl}
 use mathlib.Core.List.{List}
-use Prim.Native.Nat.{ℕ, ◌+◌, ◌*◌, ◌<◌}
+use Prim.Native.Nat.{ℕ, ◌<◌}
 use native.Mathlib.Omega.{arith}
 use Rattle.encoder.specs.inner.Positions.{checks}
-use Rattle.pivot_equations.specs.Express.{all_rows, Places}
+use Rattle.pivot_equations.specs.Express.{Places}
 use Rattle.peeling.proofs.CodeSizes.{row_count}
-use Rattle.peeling.proofs.StepLaws.{few-steps}
 use Rattle.pivot_equations.proofs.Expressed.{from-none, from_more, places_from, reads-rows, reads-step, steps-none, steps-more}
 use Rattle.pivot_equations.proofs.system.System.steps.Goals as goal
 use Rattle.pivot_equations.proofs.system.System.steps.Goals.{Start}
@@ -23,22 +22,15 @@ loop-t-init c =
     let p = c.requires.planned in
     record { size = refl; from = omega arith; to = p.made.early_steps; expressed = steps-none p.made p.closed c.args.words.now c.args.self.now.rows.packed; behind = from-none }
 
-pub bounds-self-t : goal.bounds-self-t
-bounds-self-t c = omega (arith, few-steps c.requires.planned.made, c.args.self.now.plan.now.steps_len)
-
-pub row-requires : goal.row-requires
-row-requires c =
+pub row-requires-clause-row_bound : goal.row-requires-clause-row_bound
+row-requires-clause-row_bound c =
     let s = c.args.self.now in
+    (omega arith, omega (arith, (c.requires.planned.made.step c.loop-t.t (omega arith)).row, row_count s.block.now.shape))
+
+pub row-requires-clause-reads_all : goal.row-requires-clause-reads_all
+row-requires-clause-reads_all c =
     let p = c.requires.planned in
-    let l = c.loop-t in
-    let small = few-steps p.made in
-    let h : l.t < s.rows.steps = omega arith in
-    let f : all_rows s.rows * (s.rows.packed + 1) ≡ (checks s.block.now.shape).m * (s.rows.packed + 1) = ap (λ (x : ℕ). x * (s.rows.packed + 1)) s.all in
-    record {
-      words_len = omega (arith, f, l.invariant.behind.size, c.requires.room.fit);
-      row_bound = (omega arith, omega (arith, (p.made.step l.t h).row, row_count s.block.now.shape));
-      reads_all = reads-rows s.all (reads-step p.made p.closed (places (goal.at.row-requires c).Start l.invariant) h);
-    }
+    reads-rows c.args.self.now.all (reads-step p.made p.closed (places (goal.at.row-requires-clause-reads_all c).Start c.loop-t.invariant) (omega arith))
 
 pub loop-t-preserved : goal.loop-t-preserved
 loop-t-preserved c =
@@ -48,12 +40,3 @@ loop-t-preserved c =
     let r = c.row.ensures in
     let h : l.t < c.args.self.now.rows.steps = omega arith in
     record { size = r.xs_len; from = omega (arith, i.from); to = omega arith; expressed = steps-more p.made p.closed (places (goal.at.loop-t-preserved c).Start i) i.from h r.row_is i.expressed; behind = from_more i.behind r.row_is.only h }
-
-pub shape_of-words : goal.shape_of-words
-shape_of-words c = c.loop-t.invariant.behind.size
-
-pub returns : goal.returns
-returns c =
-    let i = c.loop-t.invariant in
-    let e : c.loop-t.t ≡ c.args.self.now.rows.steps = omega (arith, i.to) in
-    record { steps_expressed = rw e at i.expressed; same_from = i.behind }
