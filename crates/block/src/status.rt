@@ -2,6 +2,7 @@
 ghost use Rattle.std.specs.Prelude.{◌≡◌};
 ghost use Rattle.block.specs.Status.{wrong_mark, status_by, status_as};
 
+// Numbers: marks are bytes of a buffer that C lends.
 pub const MISSING: u8 = 0;
 
 pub const HEARD: u8 = 1;

@@ -93,7 +93,8 @@ fn add_bytes(buf: &mut [u8], at: usize, from: usize, done: usize, len: usize)
     }
 }
 
-// Adds len bytes of a buffer, from index `from` on, to those of the same buffer from index `at` on, which are apart from them.
+// Adds len bytes of a buffer, from index `from` on, to those of the same buffer from index `at` on, which are apart from them: a fact of three numbers
+// that each call makes anew, and of no value.
 pub fn add_within(buf: &mut [u8], at: usize, from: usize, len: usize)
     requires apart { Apart at from len }
     requires len_in_bounds { (at + len ≤ length buf.old) × (from + len ≤ length buf.old) }

@@ -88,7 +88,7 @@ fn run(rt: &impl Print, b: Block, info: &[u8]) -> io::Result<()> {
     transmit(rt, b, info, &parity)
 }
 
-// Runs the next block: false where the input ends with it or before it.
+// Runs the next block: false where the input ends with it or before it. No Option: a block that was run may be the last one.
 fn next(rt: &impl Print, input: &mut impl Read, lsc: usize) -> io::Result<bool> {
     let mut buffer = [0; INFORMATION];
     let n = report::read_full(input, &mut buffer)?;

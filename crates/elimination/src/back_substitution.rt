@@ -40,7 +40,8 @@ impl<'a> System<'a> {
         }
     }
 
-    // The same, where row r is not reduced yet.
+    // The same, where row r is not reduced yet. Which rows are reduced stands beside the system: a struct of both would owe each method a word on
+    // what it lends.
     fn reduce_row(&mut self, done: &mut [bool; MAX_ROWS], r: usize, guess: usize)
         requires r_lt_rows { r < self.old.shape.rows }
         requires reduced_where { ReducedAt done.old self.old }

@@ -42,6 +42,7 @@ impl<'a> System<'a> {
     {
         let mut place = None;
         let mut from = 0;
+        // as in clear_column: a test and a call in one `for` are slower
         while let Some(i) = self.next_active(active, p, from) {
             let j = active.rows[i] as usize;
             if j == r {

@@ -6,7 +6,7 @@ ghost use Rattle.elimination.specs.Consistency.{ConsistentIs};
 
 use crate::Shape;
 
-// There is a solution: no equation without unknowns fails.
+// There is a solution: no equation without unknowns fails. No System: it would lend the buffers to be changed.
 pub fn consistent(rows: &[u64], rhs: &[u8], s: Shape) -> bool
     requires fits { Fits s (length rows.now) (length rhs.now) }
     requires reduced { Reduced rows.now s.rows s.words s.rows }

@@ -256,6 +256,7 @@ fn peel_open(rows: &CheckRows, states: &[u8], plan: &mut Plan, symbols: &mut [u8
 {
     let mut hints = Hints::new(rows, states);
     let mut g = Progress::beginning();
+    // no count: a turn moves the cursor or leaves it
     while g.cursor < states.len() {
         g = turn(rows, g, &mut hints, plan, symbols);
     }

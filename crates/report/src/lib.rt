@@ -15,7 +15,7 @@ pub fn fill(p: &mut [u8], seed: u8) {
     }
 }
 
-// The checksum of s: from 0, each byte b takes d to (257 d + b) mod 4,294,967,291.
+// The checksum of s: from 0, each byte b takes d to (257 d + b) mod 4,294,967,291. As a fold it was tried: that the closure's sums fit did not prove.
 fn checksum(s: &[u8]) -> u64 {
     let mut d = 0;
     for b in s {

@@ -21,6 +21,8 @@ fn offset(x: u16, w: usize, c: usize) -> usize
     x as usize * w + c
 }
 
+// Inside, which most functions here ask, speaks of two lent slices at once: of xs and of src.
+
 // start plus the bytes from c on of the symbols xs of src. Each position is read once for all of them; it has 16 bits, so that those of a check row
 // are made 8 at a time. Inlined into each caller: called for each chunk of 64, the loop takes twice as long.
 #[inline(always)]

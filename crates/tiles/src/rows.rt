@@ -77,6 +77,7 @@ impl Width {
         let mut lwc = p.lwc;
         let mut at = p.at;
         let mut left = tile;
+        // chunks would not tell whether another row follows
         while !left.is_empty() {
             let (part, rest) = left.split_at(room.min(left.len()));
             let next = next_of(lwc, rest.len());

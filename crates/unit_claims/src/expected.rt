@@ -22,7 +22,7 @@ fn is_header(s: &[u8], protocol: usize, lsc: usize) -> bool
         && big_endian::pair(s[4], s[5]) == lsc
 }
 
-// Four bytes as one number.
+// Four bytes as one number. u32::from_be_bytes would need a cast for each byte that is computed.
 fn joined(a: usize, b: usize, c: usize, d: usize) -> usize
     requires { (a < 256) × (b < 256) × (c < 256) × (d < 256) }
     ensures { result ≡ (a * 256 + b) * 65536 + (c * 256 + d) }

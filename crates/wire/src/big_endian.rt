@@ -1,6 +1,7 @@
 // Numbers from bytes, high byte first.
 ghost use Rattle.std.specs.Prelude.{◌≡◌, ◌+◌, ◌*◌};
 
+// A name for what every number of a header is.
 pub fn pair(high: u8, low: u8) -> usize
     ensures { result ≡ high * 256 + low }
 {
