@@ -76,7 +76,7 @@ fn reduce(system: &System, symbols: &[u8], words: &mut [u64], bytes: &mut [u8])
     requires planned { IsPlanned system.now × IsUnsolved system.now }
     requires room { HasRoom system.now (length words.old) }
     requires symbols_len { (length symbols.now ≡ (checks_of system.now).n * system.now.block.now.shape.w) × (length bytes.old ≡ (checks_of system.now).m * system.now.block.now.shape.w) }
-    ensures { Equations (checks_of system.now) system.now.block.now.shape.w system.now.plan.now symbols.now system.now.rows.packed system.now.rows.early system.now.rows.steps system.now.rows.rest words.new bytes.new }
+    ensures { Equations (checks_of system.now) system.now.block.now.shape.w system.now.plan.now symbols.now system.now.rows words.new bytes.new }
 {
     remaining::sums(system.block, system.plan, symbols, bytes);
     express_all(system, words);
@@ -93,7 +93,7 @@ fn put_in(
     symbols: &mut [u8],
 )
     requires { (states : List ℕ) × Solvable (checks block.now.shape) block.now.shape.w states plan.old symbols.old r words.now bytes.now }
-    ensures { PutIn (checks block.now.shape) block.now.shape.w r.packed r.early r.steps r.rest r.pivots words.now bytes.now plan.old symbols.old plan.new symbols.new }
+    ensures { PutIn (checks block.now.shape) block.now.shape.w r words.now bytes.now plan.old symbols.old plan.new symbols.new }
 {
     pivots::put(block, r, words, bytes, plan, symbols);
     let system = System {
