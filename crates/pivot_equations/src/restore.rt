@@ -12,7 +12,7 @@ use crate::system::System;
 use encoder::positions::CheckRows;
 use symbol_sums::MAX_POSITIONS;
 
-// Moves those of the first n numbers that are not p to the front; returns how many.
+// Moves those of the first n numbers that are not p to the front; returns how many. An array has no `retain`, and there is no heap.
 fn others(xs: &mut [u16; MAX_POSITIONS], n: usize, p: usize) -> usize
     requires { n ≤ max_positions }
     ensures { Others xs.old n p xs.new result }
