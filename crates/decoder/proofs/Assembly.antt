@@ -241,7 +241,7 @@ module _ {c : Checks} {w : ℕ} {states : List ℕ} {plan : Arrays} {y : List �
     by-rows_no h A e s' m' C es em =
         outcome_no c w y states s' m' G.peeled.values.size sm (refuted setting (subst (ConsistentIs (behind r.packed r.steps l) d r.rest r.packed w) e A)) C es em
 
-    module _ {plan' : Arrays} {x : List ℕ} (I : PutIn c w r.packed r.early r.steps r.rest r.pivots l d plan y plan' x) where
+    module _ {plan' : Arrays} {x : List ℕ} (I : PutIn c w r l d plan y plan' x) where
       pub steps_asks : Planned c plan' r × (Room c r (length l) × Places c plan' l r.packed r.steps c.m)
       steps_asks = (planned I.put, (G.room, places setting back I.put))
 

@@ -1,9 +1,9 @@
 // Which positions depend on free pivots.
-ghost use Rattle.std.specs.Prelude.{◌≡◌, ◌+◌, ◌*◌, ◌<◌, ◌≤◌, length};
+ghost use Rattle.std.specs.Prelude.{◌+◌, ◌*◌, ◌<◌, ◌≤◌, length};
 ghost use Rattle.peeling.specs.Plan.{kind_of};
-ghost use Rattle.pivot_equations.specs.Express.{all_rows};
 ghost use Rattle.decoder.specs.Pivots.{NoBitsIs, Readable, DeterminedIs};
 ghost use Rattle.ccsds.specs.inner.Layout.{max_n};
+ghost use Rattle.pivot_equations.specs.OfSystem.{AreWithin};
 
 use peeling::plan::{FIRST_SOLVED, LAST_PIVOT, LAST_STEP};
 use pivot_equations::system::System;
@@ -18,7 +18,7 @@ fn no_bits(words: &[u64], at: usize, len: usize) -> bool
 
 // Position p depends on no free pivot.
 pub fn determined(system: &System, p: usize, words: &[u64]) -> bool
-    requires words_len { all_rows system.now.rows * (system.now.rows.packed + 1) ≤ length words.now }
+    requires words_len { AreWithin system.now words.now }
     requires p_lt_max_n { p < max_n }
     requires readable { Readable system.now.rows words.now system.now.plan.now p }
     ensures { DeterminedIs words.now system.now.rows.packed system.now.rows.early (kind_of system.now.plan.now p) result }

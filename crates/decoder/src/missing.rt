@@ -23,7 +23,7 @@ fn clear_at(w: usize, symbols: &mut [u8], states: &mut [u8], i: usize)
     symbols[at..at + w].fill(0);
 }
 
-// The same at every position.
+// The same at every position. By index: over the parts of both slices at once, zipped, the proof was tried and didn't close.
 pub fn clear_missing(w: usize, symbols: &mut [u8], states: &mut [u8])
     requires { length symbols.old ≡ length states.old * w }
     ensures { Cleared w symbols.old states.old symbols.new states.new (length states.old) }
@@ -69,7 +69,7 @@ fn fill_at(system: &System, p: usize, words: &[u64], symbols: &mut [u8], states:
     clear_at(system.block.shape.w, symbols, states, p);
 }
 
-// The same at every position.
+// The same at every position, by index as in clear_missing.
 pub fn fill_determined(system: &System, words: &[u64], symbols: &mut [u8], states: &mut [u8])
     requires fill_room { FillRoom system.now.rows (length words.now) (length states.old) }
     requires symbols_len { length symbols.old ≡ length states.old * system.now.block.now.shape.w }

@@ -7,11 +7,10 @@ ghost use Rattle.elimination.specs.System.{SameSolutions};
 ghost use Rattle.elimination.specs.Reduced.{Reduced};
 ghost use Rattle.elimination.specs.Consistency.{Consistent, ConsistentIs};
 ghost use Rattle.encoder.specs.inner.Positions.{checks, sent_checks};
-ghost use Rattle.peeling.specs.Plan.{Unsolved};
 ghost use Rattle.peeling.specs.Values.{Peeled};
-ghost use Rattle.pivot_equations.specs.Express.{StepsExpressed, RestExpressed, Planned, Room};
 ghost use Rattle.decoder.specs.Equations.{behind, RowsRoom, Equations, Solvable, PutIn};
 ghost use Rattle.decoder.specs.Outcome.{Outcome, Decoded};
+ghost use Rattle.pivot_equations.specs.OfSystem.{checks_of, IsPlanned, IsUnsolved, HasRoom, StepsHere, RestHere};
 
 use crate::{missing, pivots};
 use ccsds::code::Code;
@@ -26,10 +25,10 @@ use pivot_equations::system::System;
 
 // Which pivots each step's symbol and each unused check row depends on.
 fn express_all(system: &System, words: &mut [u64])
-    requires planned { Planned (checks system.now.block.now.shape) system.now.plan.now system.now.rows × Unsolved system.now.plan.now system.now.rows.pivots }
-    requires room { Room (checks system.now.block.now.shape) system.now.rows (length words.old) }
-    ensures steps_expressed { StepsExpressed (checks system.now.block.now.shape) system.now.plan.now words.new system.now.rows.packed system.now.rows.early system.now.rows.steps }
-    ensures rest_expressed { RestExpressed (checks system.now.block.now.shape) system.now.plan.now words.new system.now.rows.packed system.now.rows.early system.now.rows.steps }
+    requires planned { IsPlanned system.now × IsUnsolved system.now }
+    requires room { HasRoom system.now (length words.old) }
+    ensures steps_expressed { StepsHere system.now words.new }
+    ensures rest_expressed { RestHere system.now words.new }
 {
     system.steps(words);
     system.remaining(words);
@@ -47,7 +46,7 @@ fn reduce_behind(r: Rows, w: usize, words: &mut [u64], bytes: &mut [u8])
         &mut words[from..],
         bytes,
         elimination::Shape {
-            rows: rows,
+            rows,
             words: r.packed,
             width: w,
         },
@@ -74,10 +73,10 @@ fn consistent_behind(r: Rows, w: usize, words: &[u64], bytes: &[u8]) -> bool
 
 // The equations of the pivots, reduced, in the rows behind the steps.
 fn reduce(system: &System, symbols: &[u8], words: &mut [u64], bytes: &mut [u8])
-    requires planned { Planned (checks system.now.block.now.shape) system.now.plan.now system.now.rows × Unsolved system.now.plan.now system.now.rows.pivots }
-    requires room { Room (checks system.now.block.now.shape) system.now.rows (length words.old) }
-    requires symbols_len { (length symbols.now ≡ (checks system.now.block.now.shape).n * system.now.block.now.shape.w) × (length bytes.old ≡ (checks system.now.block.now.shape).m * system.now.block.now.shape.w) }
-    ensures { Equations (checks system.now.block.now.shape) system.now.block.now.shape.w system.now.plan.now symbols.now system.now.rows.packed system.now.rows.early system.now.rows.steps system.now.rows.rest words.new bytes.new }
+    requires planned { IsPlanned system.now × IsUnsolved system.now }
+    requires room { HasRoom system.now (length words.old) }
+    requires symbols_len { (length symbols.now ≡ (checks_of system.now).n * system.now.block.now.shape.w) × (length bytes.old ≡ (checks_of system.now).m * system.now.block.now.shape.w) }
+    ensures { Equations (checks_of system.now) system.now.block.now.shape.w system.now.plan.now symbols.now system.now.rows words.new bytes.new }
 {
     remaining::sums(system.block, system.plan, symbols, bytes);
     express_all(system, words);
@@ -94,7 +93,7 @@ fn put_in(
     symbols: &mut [u8],
 )
     requires { (states : List ℕ) × Solvable (checks block.now.shape) block.now.shape.w states plan.old symbols.old r words.now bytes.now }
-    ensures { PutIn (checks block.now.shape) block.now.shape.w r.packed r.early r.steps r.rest r.pivots words.now bytes.now plan.old symbols.old plan.new symbols.new }
+    ensures { PutIn (checks block.now.shape) block.now.shape.w r words.now bytes.now plan.old symbols.old plan.new symbols.new }
 {
     pivots::put(block, r, words, bytes, plan, symbols);
     let system = System {

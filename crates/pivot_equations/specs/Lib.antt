@@ -1,2 +1,3 @@
 pub mod Express
 pub mod Unused
+pub mod OfSystem

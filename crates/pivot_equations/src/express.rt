@@ -1,11 +1,11 @@
 // What each symbol is in terms of the pivots.
-ghost use Rattle.std.specs.Prelude.{◌≡◌, ◌+◌, ◌*◌, ◌/◌, ◌≤◌, ◌<◌, length};
+ghost use Rattle.std.specs.Prelude.{◌≡◌, ◌+◌, ◌*◌, ◌/◌, ◌<◌, length};
 ghost use Rattle.ccsds.specs.Tables.{code_of};
-ghost use Rattle.encoder.specs.inner.Positions.{checks};
-ghost use Rattle.peeling.specs.Plan.{kind_of, Unsolved};
-ghost use Rattle.pivot_equations.specs.Express.{all_rows, Reads, Added, RowIs, Places, StepsExpressed, SameFrom, SameBelow, RestExpressed, flip_row_bit, kind_but, ReadsAll, Planned, Room};
+ghost use Rattle.peeling.specs.Plan.{kind_of};
+ghost use Rattle.pivot_equations.specs.Express.{all_rows, RowIs, SameFrom, SameBelow, flip_row_bit, kind_but, ReadsAll};
 ghost use Rattle.symbol_sums.specs.Gather.{max_positions};
 ghost use Rattle.ccsds.specs.inner.Layout.{max_n};
+ghost use Rattle.pivot_equations.specs.OfSystem.{checks_of, IsPlanned, IsUnsolved, HasRoom, HasPlaces, StepsHere, RestHere, ReadsKind, AddsKind, AreWithin};
 
 use crate::system::System;
 use peeling::plan::{FIRST_PIVOT, FIRST_SOLVED, LAST_PIVOT, LAST_STEP};
@@ -31,10 +31,10 @@ struct Target {
 impl System<'_> {
     // Row t gets the expression of position p added.
     fn add(&self, t: usize, p: usize, words: &mut [u64])
-        requires words_len { all_rows self.now.rows * (self.now.rows.packed + 1) ≤ length words.old }
+        requires words_len { AreWithin self.now words.old }
         requires t_bound { (t < all_rows self.now.rows) × (p < max_n) }
-        requires reads { Reads words.old self.now.rows.packed self.now.rows.early (all_rows self.now.rows) t (kind_of self.now.plan.now p) }
-        ensures { Added words.old words.new self.now.rows.packed self.now.rows.early t (kind_of self.now.plan.now p) }
+        requires reads { ReadsKind self.now words.old t (kind_of self.now.plan.now p) }
+        ensures { AddsKind self.now words.old words.new t (kind_of self.now.plan.now p) }
     {
         let packed = self.rows.packed;
         let stride = packed + 1;
@@ -58,10 +58,10 @@ impl System<'_> {
 
     // The same of position x, unless it is the one that is left out.
     fn add_other(&self, t: usize, but: Option<usize>, x: usize, words: &mut [u64])
-        requires words_len { all_rows self.now.rows * (self.now.rows.packed + 1) ≤ length words.old }
+        requires words_len { AreWithin self.now words.old }
         requires t_bound { (t < all_rows self.now.rows) × (x < max_n) }
-        requires reads { Reads words.old self.now.rows.packed self.now.rows.early (all_rows self.now.rows) t (kind_but self.now.plan.now but x) }
-        ensures { Added words.old words.new self.now.rows.packed self.now.rows.early t (kind_but self.now.plan.now but x) }
+        requires reads { ReadsKind self.now words.old t (kind_but self.now.plan.now but x) }
+        ensures { AddsKind self.now words.old words.new t (kind_but self.now.plan.now but x) }
     {
         if Some(x) == but {
             return;
@@ -71,11 +71,11 @@ impl System<'_> {
 
     // The row becomes the sum of the expressions of the check row's other positions.
     fn row(&self, e: Target, xs: &mut [u16; MAX_POSITIONS], words: &mut [u64])
-        requires words_len { all_rows self.now.rows * (self.now.rows.packed + 1) ≤ length words.old }
+        requires words_len { AreWithin self.now words.old }
         requires row_bound { (e.row < all_rows self.now.rows) × (e.check < (code_of self.now.block.now.shape.number).m) }
-        requires reads_all { ReadsAll (checks self.now.block.now.shape) self.now.plan.now words.old self.now.rows.packed self.now.rows.early (all_rows self.now.rows) e.row e.but }
+        requires reads_all { ReadsAll (checks_of self.now) self.now.plan.now words.old self.now.rows.packed self.now.rows.early (all_rows self.now.rows) e.row e.but }
         ensures xs_len { length xs.new ≡ max_positions }
-        ensures row_is { RowIs (checks self.now.block.now.shape) self.now.plan.now words.old words.new self.now.rows.packed self.now.rows.early e.row e.check e.but }
+        ensures row_is { RowIs (checks_of self.now) self.now.plan.now words.old words.new self.now.rows.packed self.now.rows.early e.row e.check e.but }
     {
         let stride = self.rows.packed + 1;
         let at = e.row * stride;
@@ -90,10 +90,10 @@ impl System<'_> {
 
     // The steps from `early` on.
     pub fn steps(&self, words: &mut [u64])
-        requires planned { Planned (checks self.now.block.now.shape) self.now.plan.now self.now.rows }
-        requires room { Room (checks self.now.block.now.shape) self.now.rows (length words.old) }
-        requires places { Places (checks self.now.block.now.shape) self.now.plan.now words.old self.now.rows.packed self.now.rows.steps (checks self.now.block.now.shape).m }
-        ensures steps_expressed { StepsExpressed (checks self.now.block.now.shape) self.now.plan.now words.new self.now.rows.packed self.now.rows.early self.now.rows.steps }
+        requires planned { IsPlanned self.now }
+        requires room { HasRoom self.now (length words.old) }
+        requires places { HasPlaces self.now words.old }
+        ensures steps_expressed { StepsHere self.now words.new }
         ensures same_from { SameFrom words.old words.new self.now.rows.packed self.now.rows.steps }
     {
         let mut xs = [0u16; MAX_POSITIONS];
@@ -110,11 +110,11 @@ impl System<'_> {
 
     // The check rows that no step used, after the steps.
     pub fn remaining(&self, words: &mut [u64])
-        requires planned { Planned (checks self.now.block.now.shape) self.now.plan.now self.now.rows }
-        requires room { Room (checks self.now.block.now.shape) self.now.rows (length words.old) }
-        requires places { Places (checks self.now.block.now.shape) self.now.plan.now words.old self.now.rows.packed self.now.rows.steps (checks self.now.block.now.shape).m }
-        requires unsolved { Unsolved self.now.plan.now self.now.rows.pivots }
-        ensures rest_expressed { RestExpressed (checks self.now.block.now.shape) self.now.plan.now words.new self.now.rows.packed self.now.rows.early self.now.rows.steps }
+        requires planned { IsPlanned self.now }
+        requires room { HasRoom self.now (length words.old) }
+        requires places { HasPlaces self.now words.old }
+        requires unsolved { IsUnsolved self.now }
+        ensures rest_expressed { RestHere self.now words.new }
         ensures same_below { SameBelow words.old words.new self.now.rows.packed self.now.rows.steps }
     {
         let mut xs = [0u16; MAX_POSITIONS];

@@ -5,14 +5,14 @@ ghost use Rattle.algebra.specs.Codeword.{byte_at};
 ghost use Rattle.symbol_sums.specs.Gather.{Replaced, max_positions};
 ghost use Rattle.encoder.specs.inner.Positions.{checks};
 ghost use Rattle.peeling.specs.Values.{StepsHold, StepsRestored};
-ghost use Rattle.pivot_equations.specs.Express.{Planned};
 ghost use Rattle.pivot_equations.specs.Unused.{Others};
+ghost use Rattle.pivot_equations.specs.OfSystem.{checks_of, IsPlanned};
 
 use crate::system::System;
 use encoder::positions::CheckRows;
 use symbol_sums::MAX_POSITIONS;
 
-// Moves those of the first n numbers that are not p to the front; returns how many.
+// Moves those of the first n numbers that are not p to the front; returns how many. An array has no `retain`, and there is no heap.
 fn others(xs: &mut [u16; MAX_POSITIONS], n: usize, p: usize) -> usize
     requires { n ≤ max_positions }
     ensures { Others xs.old n p xs.new result }
@@ -47,9 +47,9 @@ fn restore_by(
 impl System<'_> {
     // Restores the positions of the steps from `early` on once more.
     pub fn restore_steps(&self, symbols: &mut [u8])
-        requires planned { Planned (checks self.now.block.now.shape) self.now.plan.now self.now.rows }
-        requires symbols_len { (length symbols.old ≡ (checks self.now.block.now.shape).n * self.now.block.now.shape.w) × StepsHold (checks self.now.block.now.shape) self.now.block.now.shape.w self.now.plan.now symbols.old self.now.rows.early }
-        ensures { StepsRestored (checks self.now.block.now.shape) self.now.block.now.shape.w self.now.plan.now symbols.old symbols.new self.now.rows.early self.now.rows.steps }
+        requires planned { IsPlanned self.now }
+        requires symbols_len { (length symbols.old ≡ (checks_of self.now).n * self.now.block.now.shape.w) × StepsHold (checks_of self.now) self.now.block.now.shape.w self.now.plan.now symbols.old self.now.rows.early }
+        ensures { StepsRestored (checks_of self.now) self.now.block.now.shape.w self.now.plan.now symbols.old symbols.new self.now.rows.early self.now.rows.steps }
     {
         let mut xs = [0u16; MAX_POSITIONS];
         for t in self.rows.early..self.rows.steps {
