@@ -100,6 +100,8 @@ struct Function<'a> {
     array: bool,
     /// Whether one stands there otherwise than as what is read through a reference.
     own_array: bool,
+    /// Why the walk can't go on from it: a trait's method that it calls, or a type without fields. Then nothing that write reaches may call it.
+    fault: Option<String>,
 }
 
 /// An array's type, or a literal that repeats a value.
@@ -158,12 +160,12 @@ fn function<'a>(path: &str, body: &Node<'a>) -> Function<'a> {
     for (name, part) in named(body) {
         function.array |= is_array(name);
         match (name, part) {
-            ("Call", List(parts)) => {
-                let callee = parts.first().and_then(path_of);
-                function.calls.push(callee.unwrap_or_else(|| panic!("{path} has a call that can't be followed")));
-            }
+            ("Call", List(parts)) => match parts.first().and_then(path_of) {
+                Some(callee) => function.calls.push(callee),
+                None => function.fault = Some(format!("{path} has a call that can't be followed")),
+            },
             ("Fn", _) => functions += 1,
-            ("Method", _) => panic!("{path} has a call that can't be followed"),
+            ("Method", _) => function.fault = Some(format!("{path} has a call that can't be followed")),
             ("Named", List(parts)) => match &parts[..] {
                 [Record(head), ..] => match head[..] {
                     [("name", Text(name)), ..] => {
@@ -186,9 +188,13 @@ fn function<'a>(path: &str, body: &Node<'a>) -> Function<'a> {
         }
     }
     // a function that is named and not called at once
-    assert_eq!(functions, function.calls.len(), "{path} has a call that can't be followed");
+    if functions != function.calls.len() {
+        function.fault = Some(format!("{path} has a call that can't be followed"));
+    }
     let bare = &types - &declared;
-    assert!(bare.is_empty(), "{path} names types without fields: {bare:?}");
+    if !bare.is_empty() {
+        function.fault.get_or_insert(format!("{path} names types without fields: {bare:?}"));
+    }
     function
 }
 
@@ -209,13 +215,20 @@ fn program<'a>(crates: impl IntoIterator<Item = &'a str>) -> Program<'a> {
     program
 }
 
+/// What `?` calls: two functions of Rattle's core, which hand an answer or its error on. Core's MIR is not written with the crates, and their text has no
+/// array.
+const QUESTION_MARK: [&str; 2] = ["core::result::ResultTry::branch", "core::result::ResultFromResidualErrResidual::from_residual"];
+
 /// All that a function reaches, itself too, each with a caller.
 fn reached<'a>(program: &Program<'a>, start: &'a str) -> BTreeMap<&'a str, &'a str> {
     let mut callers = BTreeMap::from([(start, "the user")]);
     let mut next = vec![start];
     while let Some(path) = next.pop() {
         let function = program.get(path).unwrap_or_else(|| panic!("{path}, called by {}, has no body in the MIR", callers[path]));
-        for &callee in &function.calls {
+        if let Some(fault) = &function.fault {
+            panic!("{fault}");
+        }
+        for &callee in function.calls.iter().filter(|callee| !QUESTION_MARK.contains(callee)) {
             callers.entry(callee).or_insert_with(|| {
                 next.push(callee);
                 path
@@ -266,10 +279,14 @@ fn write_for_c_is_lent_its_record_alone() {
 fn arrays_of_take_and_encode_are_found() {
     let mir = written();
     let mut program = program(mir.iter().map(String::as_str));
-    // These also call functions of Rattle's core, which are not written with the crates; they are taken to have no array. write calls none.
+    // These also call functions of Rattle's libraries, which are not written with the crates, and methods of a trait: they are taken to have no
+    // array. write calls none.
     let called: BTreeSet<&str> = program.values().flat_map(|function| function.calls.iter().copied()).collect();
-    for path in called.into_iter().filter(|path| path.starts_with("core::")) {
+    for path in called {
         program.entry(path).or_default();
+    }
+    for function in program.values_mut() {
+        function.fault = None;
     }
     for start in ["lipvezor::lipvezor_take", "lipvezor::lipvezor_encode"] {
         let found = with_array(&program, start);
