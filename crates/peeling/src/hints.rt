@@ -99,10 +99,11 @@ impl Hints {
     pub fn new(rows: &CheckRows, states: &[u8]) -> Self
         requires { length states.now ≤ max_n }
     {
+        let rows = *rows;
         let mut counts = [0u8; Code::MAX_M];
         for (x, &state) in states.iter().enumerate() {
             if state != KNOWN {
-                open_column(rows, x, &mut counts);
+                open_column(&rows, x, &mut counts);
             }
         }
         let mut ready = [0u64; READY];

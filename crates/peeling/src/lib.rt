@@ -4,5 +4,5 @@
 
 mod hints; // which check rows to try next
 pub mod peel; // steps and pivots
-pub mod plan; // where a plan holds what
+pub mod plan; // what a plan holds
 pub mod states; // what is known of each position

