@@ -215,10 +215,6 @@ fn program<'a>(crates: impl IntoIterator<Item = &'a str>) -> Program<'a> {
     program
 }
 
-/// What `?` calls: two functions of Rattle's core, which hand an answer or its error on. Core's MIR is not written with the crates, and their text has no
-/// array.
-const QUESTION_MARK: [&str; 2] = ["core::result::ResultTry::branch", "core::result::ResultFromResidualErrResidual::from_residual"];
-
 /// All that a function reaches, itself too, each with a caller.
 fn reached<'a>(program: &Program<'a>, start: &'a str) -> BTreeMap<&'a str, &'a str> {
     let mut callers = BTreeMap::from([(start, "the user")]);
@@ -228,7 +224,7 @@ fn reached<'a>(program: &Program<'a>, start: &'a str) -> BTreeMap<&'a str, &'a s
         if let Some(fault) = &function.fault {
             panic!("{fault}");
         }
-        for &callee in function.calls.iter().filter(|callee| !QUESTION_MARK.contains(callee)) {
+        for &callee in &function.calls {
             callers.entry(callee).or_insert_with(|| {
                 next.push(callee);
                 path

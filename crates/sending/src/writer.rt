@@ -89,13 +89,18 @@ pub fn write(
         number: code,
         layout: l,
     };
-    checks::check_record(number, w, protocol, lsc, fill)?;
+    // no `?`: rust/tests/write_without_array.rs follows no function of Rattle's core
+    if let Err(refusal) = checks::check_record(number, w, protocol, lsc, fill) {
+        return Err(refusal);
+    }
     let c = Coding {
         w,
         k: l.k,
         n: l.k + l.m,
     };
-    check_unit(code, c, fill, lwc, symbol.len(), out.len())?;
+    if let Err(refusal) = check_unit(code, c, fill, lwc, symbol.len(), out.len()) {
+        return Err(refusal);
+    }
     let a = put_header(out, protocol, lsc, lwc);
     let b = put_extension(out, a, c);
     copy::symbol(out, b, symbol);
