@@ -1,5 +1,5 @@
 // The active rows: those that the forward pass has not retired.
-ghost use Rattle.std.specs.Prelude.{◌≤◌, ◌<◌};
+ghost use Rattle.std.specs.Prelude.{◌≡◌, ◌≤◌, ◌<◌};
 ghost use Rattle.elimination.specs.declared.TheConstants.{MAX_ROWS};
 
 use crate::MAX_ROWS;
@@ -18,7 +18,9 @@ pub struct Active {
 
 impl Active {
     // Weighs each row, and lists those that have an unknown.
-    pub fn list(&mut self, system: &System) {
+    pub fn list(&mut self, system: &System)
+        ensures { self.new.count ≤ system.now.shape.rows }
+    {
         let s = system.shape;
         self.count = 0;
         for j in 0..s.rows {
@@ -36,6 +38,7 @@ impl Active {
     // Weighs row j, to which row r was added.
     pub fn weigh_sum(&mut self, r: usize, j: usize)
         requires { (r < MAX_ROWS) × (j < MAX_ROWS) }
+        ensures { self.new.count ≡ self.old.count }
     {
         self.weights[j] = sum_weight(self.weights[j], self.weights[r]);
     }
@@ -43,6 +46,7 @@ impl Active {
     // Takes row r, which stands at `place` of the list if it is known, out of it.
     pub fn retire(&mut self, r: usize, place: Option<usize>)
         requires { r < MAX_ROWS }
+        ensures { self.new.count ≤ self.old.count }
     {
         self.weights[r] = RETIRED;
         if let Some(i) = place {

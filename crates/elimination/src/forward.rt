@@ -38,7 +38,8 @@ impl<'a> System<'a> {
     #[inline(never)]
     fn clear_active(&mut self, active: &mut Active, r: usize, p: usize)
         requires { (p / 64 < self.old.shape.words) × (r < self.old.shape.rows) }
-        ensures { Kept self.old self.new }
+        ensures fewer { active.new.count ≤ active.old.count }
+        ensures kept { Kept self.old self.new }
     {
         let mut place = None;
         let mut from = 0;
@@ -59,7 +60,8 @@ impl<'a> System<'a> {
     // One step: the pivot of row r is its lowest unknown, which goes from each other active row. A row without unknowns is retired alone.
     fn forward_step(&mut self, active: &mut Active, r: usize) -> Option<Step>
         requires { r < self.old.shape.rows }
-        ensures { Kept self.old self.new }
+        ensures fewer { active.new.count ≤ active.old.count }
+        ensures kept { Kept self.old self.new }
     {
         match self.lowest(r) {
             Some(p) => {

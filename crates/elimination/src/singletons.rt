@@ -1,5 +1,5 @@
 // Singleton pivots: a pivot from the forward pass that stands in no other row needs no column cleared.
-ghost use Rattle.std.specs.Prelude.{◌<◌};
+ghost use Rattle.std.specs.Prelude.{◌≡◌, ◌<◌};
 ghost use Rattle.elimination.specs.System.{SameCoefficients};
 ghost use Rattle.elimination.specs.SharedUnknowns.{SharedMask, SharedMasks};
 ghost use Rattle.elimination.specs.Kept.{Kept, ReducedAt};
@@ -40,6 +40,7 @@ impl<'a> System<'a> {
         requires reduced_where { ReducedAt done.old self.old }
         ensures kept { Kept self.old self.new }
         ensures same_coefficients { SameCoefficients self.old.rows.now self.new.rows.now self.old.shape.words }
+        ensures same_rhs { self.new.rhs.now ≡ self.old.rhs.now }
         ensures reduced_where_after { ReducedAt done.new self.new }
     {
         let s = self.shape;
@@ -55,6 +56,8 @@ impl<'a> System<'a> {
     pub fn set_singletons(&mut self, done: &mut [bool; MAX_ROWS], steps: &[Step])
         requires { ReducedAt done.old self.old }
         ensures kept { Kept self.old self.new }
+        ensures same_coefficients { SameCoefficients self.old.rows.now self.new.rows.now self.old.shape.words }
+        ensures same_rhs { self.new.rhs.now ≡ self.old.rhs.now }
         ensures reduced_where_after { ReducedAt done.new self.new }
     {
         let mut masks = [0u64; MAX_WORDS];

@@ -56,6 +56,7 @@ fn degree(l: Layout, row: usize) -> usize
 #[inline(always)]
 fn column<'a>(rows: &CheckRows, x: usize, js: &'a mut [u16; MAX_DEGREE]) -> &'a [u16]
     requires { x < 65535 }
+    ensures { length result.now ≤ max_degree }
 {
     let l = rows.shape.layout;
     if x >= l.k {
@@ -95,22 +96,28 @@ fn set_ready(ready: &mut [u64; READY], j: usize, is: bool)
 }
 
 impl Hints {
-    // Each missing position is open.
-    pub fn new(rows: &CheckRows, states: &[u8]) -> Self
+    // No position is open, and no row is ready.
+    pub fn new() -> Self {
+        Hints {
+            counts: [0; Code::MAX_M],
+            ready: [0; READY],
+        }
+    }
+
+    // Each missing position is open. Not part of new: hints that were filled before they are returned would be copied by memcpy, which nothing else in
+    // the archive needs (tests/header/symbols.sh).
+    pub fn open(&mut self, rows: &CheckRows, states: &[u8])
         requires { length states.now ≤ max_n }
     {
         let rows = *rows;
-        let mut counts = [0u8; Code::MAX_M];
         for (x, &state) in states.iter().enumerate() {
             if state != KNOWN {
-                open_column(&rows, x, &mut counts);
+                open_column(&rows, x, &mut self.counts);
             }
         }
-        let mut ready = [0u64; READY];
         for j in 0..rows.shape.layout.m {
-            set_ready(&mut ready, j, counts[j] == 1);
+            set_ready(&mut self.ready, j, self.counts[j] == 1);
         }
-        Hints { counts, ready }
     }
 
     // Position x is no longer open: its check rows have one less.

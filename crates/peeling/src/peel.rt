@@ -254,7 +254,8 @@ fn peel_open(rows: &CheckRows, states: &[u8], plan: &mut Plan, symbols: &mut [u8
     requires states_len { (length states.now ≡ (checks rows.now.shape).n) × (length symbols.old ≡ (checks rows.now.shape).n * rows.now.shape.w) }
     ensures { Peeled (checks rows.now.shape) rows.now.shape.w symbols.old states.now plan.new symbols.new result.early result.steps result.pivots }
 {
-    let mut hints = Hints::new(rows, states);
+    let mut hints = Hints::new();
+    hints.open(rows, states);
     let mut g = Progress::beginning();
     // no count: a turn moves the cursor or leaves it
     while g.cursor < states.len() {

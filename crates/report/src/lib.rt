@@ -1,7 +1,7 @@
 // What the programs share: a pattern for buffers, how input is read, and how buffers are printed.
 #![tactic(auto)]
 
-ghost use Rattle.std.specs.Prelude.{◌<◌, ◌≤◌, length, IfOk};
+ghost use Rattle.std.specs.Prelude.{◌≡◌, ◌<◌, ◌≤◌, length, IfOk};
 
 use std::io::Read;
 use std::{fmt, io};
@@ -48,7 +48,9 @@ pub struct Digest<'a> {
 }
 
 impl<'a> Digest<'a> {
-    pub fn of(bytes: &'a [u8], shown: usize) -> Self {
+    pub fn of(bytes: &'a [u8], shown: usize) -> Self
+        ensures { (result.bytes.now ≡ bytes.now) × (result.shown ≡ shown) }
+    {
         Digest { bytes, shown }
     }
 }

@@ -17,8 +17,8 @@ start : (s : Start)
     State (checks a.rows.now.shape) a.rows.now.shape.w a.symbols.now a.states.now a.plan.now a.symbols.now (record { steps = 0; pivots = 0; early = 0; cursor = 0; fuel = 32768; last = None })
 start s = state-start _ s.args.rows.now.shape.w _ _ _ _ 32768 None (few-positions s.args.rows.now.shape) (few-rows s.args.rows.now.laid) s.requires.states_len.1 s.requires.states_len.0 s.requires.opened
 
-pub new-hints-requires : goal.new-hints-requires
-new-hints-requires c = few (goal.at.new-hints-requires c).Start
+pub open-requires : goal.open-requires
+open-requires c = few (goal.at.open-requires c).Start
 
 pub loop-g-init : goal.loop-g-init
 loop-g-init c = subst⁻¹ (State (checks c.args.rows.now.shape) c.args.rows.now.shape.w c.args.symbols.now c.args.states.now c.args.plan.now c.args.symbols.now) c.beginning-g.ensures (start (goal.at.loop-g-init c).Start)

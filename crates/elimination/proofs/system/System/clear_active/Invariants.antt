@@ -5,7 +5,7 @@ use Rattle.elimination.specs.Kept.{Kept}
 use Rattle.elimination.proofs.system.System.clear_active.Given as goal
 
 abbrev pub invariant-loop-i : goal.invariant-loop-i
-invariant-loop-i l = (l.from ≤ 1024) × Kept l.initial.self l.self
+invariant-loop-i l = (l.from ≤ 1024) × ((l.active.count ≤ l.initial.active.count) × Kept l.initial.self l.self)
 
 abbrev pub decreases-loop-i : goal.decreases-loop-i
 decreases-loop-i l = 1024 - l.from

@@ -8,5 +8,5 @@ use Rattle.elimination.proofs.system.System.forward_pass.Goals.{in-Some-forward_
 pub loop-t-preserved : goal.loop-t-preserved
 loop-t-preserved c = (
   elim c.match-forward_step.branch [ in-Some-forward_step w ↦ omega arith | in_default-forward_step w ↦ omega arith ],
-  (omega (arith, c.in-Some.ensures), kept_trans c.loop-t.invariant.1.1 c.forward_step.ensures),
+  (omega (arith, c.in-Some.ensures), kept_trans c.loop-t.invariant.1.1 c.forward_step.ensures.kept),
 )

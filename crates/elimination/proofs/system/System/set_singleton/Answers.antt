@@ -30,5 +30,6 @@ returns-then-has_unknown c =
     record {
       kept = record { buffers = record { rows = refl; rhs = refl; shape = refl }; same = coefficients_same _ _ _ _ _ _ same };
       same_coefficients = same;
+      same_rhs = refl;
       reduced_where_after = step_where l [] (set l (pivot_at s.words r) (p + 1)) [] s.rows s.words 0 r step c.if-r-s.true a.fits.in_rows.within (omega arith) c.args.done.now c.requires.reduced_where;
     }
