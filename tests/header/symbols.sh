@@ -12,11 +12,11 @@ fail() {
 
 sections=$(objdump -h "$archive") || fail "objdump can't read $archive"
 
-# it calls memcpy and memset alone
+# it calls memset alone; the header leaves memcpy to it too, but nothing needs that
 needed=$(nm -P -u "$archive" | awk '$2 == "U" || $2 == "w" { print $1 }' | sort -u | tr '\n' ' ')
 for name in $needed; do
     case $name in
-    memcpy | memset) ;;
+    memset) ;;
     *) fail "the archive needs $name" ;;
     esac
 done

@@ -209,18 +209,37 @@ fn put_front(xs: &[u16], flat: &mut [u16; MAX_ADDRESSES])
     }
 }
 
-// The addresses of a code's table, at the front of an array.
+// The addresses of a code's table, at the front of an array. Each table is read into a local first: copied from the constant itself it would be a call
+// of memcpy, which nothing else in the archive needs (tests/header/symbols.sh).
 pub fn put_addresses(number: usize, flat: &mut [u16; MAX_ADDRESSES])
     requires { length flat.old ≡ max_addresses }
     ensures { FrontIs (joined (code_of number).rows) flat.new }
 {
     match number {
-        1 => put_front(&C1, flat),
-        2 => put_front(&C2, flat),
-        4 => put_front(&C4, flat),
-        5 => put_front(&C5, flat),
-        7 => put_front(&C7, flat),
-        8 => put_front(&C8, flat),
+        1 => {
+            let xs = C1;
+            put_front(&xs, flat);
+        }
+        2 => {
+            let xs = C2;
+            put_front(&xs, flat);
+        }
+        4 => {
+            let xs = C4;
+            put_front(&xs, flat);
+        }
+        5 => {
+            let xs = C5;
+            put_front(&xs, flat);
+        }
+        7 => {
+            let xs = C7;
+            put_front(&xs, flat);
+        }
+        8 => {
+            let xs = C8;
+            put_front(&xs, flat);
+        }
         _ => (),
     }
 }
