@@ -129,8 +129,11 @@ pub fn copy_many(out: &mut [u8], at: usize, s: &[u8]) -> usize
     let n = s.len();
     let last = n - 16;
     copy_16(out, at, s, 0);
-    for i in (second_part(at, n)..last).step_by(16) {
+    let mut i = second_part(at, n);
+    // tried as a for by step_by(16): write of 333 bytes and more takes 1.4 to 1.6 times as long; over a count of chunks: one of 64 takes 5 ns more
+    while i < last {
         copy_16(out, at + i, s, i);
+        i += 16;
     }
     copy_16(out, at + last, s, last)
 }

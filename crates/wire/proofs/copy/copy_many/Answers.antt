@@ -1,9 +1,9 @@
 -- `wire::copy::copy_many` meets its contract: at the loop the first i bytes stand, and after it all but 16 at most.
 -- Assumes nothing.
+use mathlib.Core.Path.{◌∙◌}
 use native.Mathlib.Omega.{arith}
 use Rattle.wire.proofs.AppendedLaws.{appended_since, appended_over, copied_first, copied_less, copied_on, copied_all}
 use Rattle.wire.proofs.copy.copy_many.Goals as goal
-use Rattle.wire.proofs.copy.copy_many.Goals.{else-loop-i-test, then-loop-i-test+else-last-i-gt16}
 
 pub loop-i-init : goal.loop-i-init
 loop-i-init c =
@@ -25,13 +25,11 @@ loop-i-preserved c =
 pub copy_16-requires-2 : goal.copy_16-requires-2
 copy_16-requires-2 c = (omega (arith, c.copy_16.ensures), omega arith)
 
+pub shape_of-out : goal.shape_of-out
+shape_of-out c = c.copy_16-2.ensures.kept ∙ c.loop-i.invariant.1.kept ∙ c.copy_16.ensures.kept
+
 pub returns : goal.returns
 returns c =
     let a = c.args in
-    appended_over c.copy_16.ensures (omega arith) (elim c.loop-i-test.branch [
-      | else-loop-i-test w ↦
-          copied_all 16 a.s.now c.loop-i.invariant.1 (rw w.out-is at c.copy_16-2.ensures) (omega arith) (omega arith) (omega (arith, c.copy_16.ensures))
-      | then-loop-i-test+else-last-i-gt16 w ↦
-          copied_all 16 a.s.now (copied_on 16 a.s.now c.loop-i.invariant.1 w.copy_16-in-loop-i.ensures (omega arith) (omega arith) (omega (arith, c.copy_16.ensures)))
-          (rw w.out-is at c.copy_16-2.ensures) (omega arith) (omega arith) (omega (arith, c.copy_16.ensures))
-    ])
+    let rest = copied_all 16 a.s.now c.loop-i.invariant.1 c.copy_16-2.ensures (omega arith) (omega arith) (omega (arith, c.copy_16.ensures)) in
+    appended_over c.copy_16.ensures (omega arith) rest
