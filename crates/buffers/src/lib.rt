@@ -128,7 +128,7 @@ fn put_bytes(dst: &mut [u8], at: usize, src: &[u8], from: usize, done: usize, le
 }
 
 // Puts len bytes of src, from index `from` on, over those of dst from index `at` on. No copy_from_slice: that is a call of memmove, and the archive
-// needs memcpy and memset alone (tests/header/symbols.sh).
+// needs memset alone (tests/header/symbols.sh).
 pub fn put_from(dst: &mut [u8], at: usize, src: &[u8], from: usize, len: usize)
     requires { (at + len ≤ length dst.old) × (from + len ≤ length src.now) }
     ensures { dst.new ≡ put dst.old at src.now from len }

@@ -94,7 +94,7 @@ same_trans f g = record {
 -- ---- the pivot words take no part
 
 pub coefficients_trans : (l l' l'' : List ℕ) (words : ℕ) → SameCoefficients l l' words → SameCoefficients l' l'' words → SameCoefficients l l'' words
-coefficients_trans l l' l'' words f g j k h = g j k h ∙ f j k h
+coefficients_trans _ _ _ words f g j k h = g j k h ∙ f j k h
 
 pub coefficients_pivot_set : (l : List ℕ) (words r v : ℕ) → SameCoefficients l (set l (pivot_at words r) v) words
 coefficients_pivot_set l words r v j k h =
