@@ -5,7 +5,7 @@ use mathlib.Core.List.{List, [], ◌∷◌, ◌++◌, append_assoc}
 use Prim.Native.Nat.{ℕ, ◌+◌, ◌<◌, ◌≤◌}
 use native.Mathlib.Numerals.{add-one}
 use native.Mathlib.Omega.{arith}
-use lib.ListN.{length, take, drop, get_or, set, length-append, length-set}
+use lib.ListN.{length, take, drop, get_or, set, length-append, length-set, length-drop}
 use lib.Seq.{take_all, take-length, take-suc-set, take-take, take-add, take-append-add, take_at, length-take-le, drop-cons, drop-drop}
 use Rattle.wire.specs.inner.Appended.{Appended}
 
@@ -32,6 +32,10 @@ part-one s f h = sym (ap (take 1) (drop-cons s f 0 (omega arith)))
 -- two parts that meet
 pub joined : (m n f : ℕ) (s : List ℕ) → take m (drop f s) ++ take n (drop (f + m) s) ≡ take (m + n) (drop f s)
 joined m n f s = sym (take-add m n (drop f s) ∙ ap (λ (l : List ℕ). take m (drop f s) ++ take n l) (drop-drop m f s))
+
+-- where a part ends
+pub part_end : {l₀ l₁ : List ℕ} {at e : ℕ} (m f : ℕ) (s : List ℕ) → Appended l₀ l₁ at e (take m (drop f s)) → f + m ≤ length s → e ≡ at + m
+part_end {at = at} m f s p h = p.to ∙ ap (λ (n : ℕ). at + n) (length-take-le m (drop f s) (rw length-drop (omega arith)))
 
 -- the next part is put
 pub then_part : {l₀ l₁ l₂ : List ℕ} {a b c : ℕ} (m n f : ℕ) (s : List ℕ) {x y : List ℕ} → Appended l₀ l₁ a b x → x ≡ take m (drop f s) → Appended l₁ l₂ b c y

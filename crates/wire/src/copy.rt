@@ -1,5 +1,5 @@
 // Copies bytes into an output, without a local array. Internal: the unit writer's, and packing's. What both call is compiled into each: a call for
-// each unit or row would make either slower.
+// each unit or row would make either slower. Only more than 128 bytes are copied by a call (copy_long): there it costs little.
 // A function for each size: a const parameter would need a local array, and rust/tests/write_without_array.rs follows no call of a trait's method
 // and none of core's copy_from_slice.
 //
@@ -85,6 +85,18 @@ pub fn copy_16(out: &mut [u8], at: usize, s: &[u8], from: usize) -> usize
     put_four(out, d, t)
 }
 
+// With 64, as four times 16.
+#[inline(always)]
+fn copy_64(out: &mut [u8], at: usize, s: &[u8], from: usize) -> usize
+    requires { (at + 64 ≤ length out.old) × (from + 64 ≤ length s.now) }
+    ensures { Appended out.old out.new at result (take 64 (drop from s.now)) }
+{
+    let b = copy_16(out, at, s, from);
+    let c = copy_16(out, b, s, from + 16);
+    let d = copy_16(out, c, s, from + 32);
+    copy_16(out, d, s, from + 48)
+}
+
 // All of s, from 1 byte to 32: the first part and the last, which may overlap.
 #[inline(always)]
 pub fn copy_few(out: &mut [u8], at: usize, s: &[u8]) -> usize
@@ -109,8 +121,8 @@ pub fn copy_few(out: &mut [u8], at: usize, s: &[u8]) -> usize
     copy_1(out, at + (n - 1), s, n - 1)
 }
 
-// Where a copy of n bytes to position `at` goes on after its first 16. From 64 bytes on that is where the output's index is a multiple of 16: in an
-// output that begins on a 16-byte border no store but the first and the last then crosses a cache line.
+// Where copy_long's copy of n bytes to position `at` goes on after its first 16. From 64 bytes on that is where the output's index is a multiple of 16:
+// in an output that begins on a 16-byte border only the first store and one of the last four can then cross a cache line.
 pub fn second_part(at: usize, n: usize) -> usize
     ensures { result ≤ 16 }
 {
@@ -120,6 +132,45 @@ pub fn second_part(at: usize, n: usize) -> usize
     16 - at % 16
 }
 
+// All of s, from 16 bytes to 64.
+#[inline(always)]
+fn copy_some(out: &mut [u8], at: usize, s: &[u8]) -> usize
+    requires { (16 ≤ length s.now) × (length s.now ≤ 64) × (at + length s.now ≤ length out.old) }
+    ensures { Appended out.old out.new at result s.now }
+{
+    let n = s.len();
+    let last = n - 16;
+    copy_16(out, at, s, 0);
+    if n <= 32 {
+        return copy_16(out, at + last, s, last);
+    }
+    copy_16(out, at + 16, s, 16);
+    if n <= 48 {
+        return copy_16(out, at + last, s, last);
+    }
+    copy_16(out, at + 32, s, 32);
+    copy_16(out, at + last, s, last)
+}
+
+// All of s, more than 64 bytes. A call of its own: inside packing's loop over rows its loop has too few registers. In turns of 64 bytes: a short loop
+// of 16 takes up to 1.6 times as long where a linker lays it across a border of 32 bytes.
+#[inline(never)]
+fn copy_long(out: &mut [u8], at: usize, s: &[u8]) -> usize
+    requires { (64 < length s.now) × (at + length s.now ≤ length out.old) }
+    ensures { Appended out.old out.new at result s.now }
+{
+    let n = s.len();
+    let last = n - 64;
+    copy_16(out, at, s, 0);
+    let start = second_part(at, n);
+    // a turn less where it would be the last 64 bytes
+    for k in 0..(n - start - 1) / 64 {
+        let i = start + 64 * k;
+        copy_64(out, at + i, s, i);
+    }
+    copy_64(out, at + last, s, last)
+}
+
 // All of s, 16 bytes or more.
 #[inline(always)]
 pub fn copy_many(out: &mut [u8], at: usize, s: &[u8]) -> usize
@@ -127,15 +178,14 @@ pub fn copy_many(out: &mut [u8], at: usize, s: &[u8]) -> usize
     ensures { Appended out.old out.new at result s.now }
 {
     let n = s.len();
-    let last = n - 16;
-    copy_16(out, at, s, 0);
-    let mut i = second_part(at, n);
-    // tried as a for by step_by(16): write of 333 bytes and more takes 1.4 to 1.6 times as long; over a count of chunks: one of 64 takes 5 ns more
-    while i < last {
-        copy_16(out, at + i, s, i);
-        i += 16;
+    if n <= 64 {
+        return copy_some(out, at, s);
     }
-    copy_16(out, at + last, s, last)
+    if n <= 128 {
+        copy_64(out, at, s, 0);
+        return copy_64(out, at + (n - 64), s, n - 64);
+    }
+    copy_long(out, at, s)
 }
 
 // Puts all of s, which has a byte at least.
