@@ -1,5 +1,5 @@
 // Copies bytes into an output, without a local array. Internal: the unit writer's, and packing's. What both call is compiled into each: a call for
-// each unit or row would make either slower. Only more than 128 bytes are copied by a call (copy_long): there it costs little.
+// each unit or row would make either slower.
 // A function for each size: a const parameter would need a local array, and rust/tests/write_without_array.rs follows no call of a trait's method
 // and none of core's copy_from_slice.
 //
@@ -121,8 +121,8 @@ pub fn copy_few(out: &mut [u8], at: usize, s: &[u8]) -> usize
     copy_1(out, at + (n - 1), s, n - 1)
 }
 
-// Where copy_long's copy of n bytes to position `at` goes on after its first 16. From 64 bytes on that is where the output's index is a multiple of 16:
-// in an output that begins on a 16-byte border only the first store and one of the last four can then cross a cache line.
+// Where copy_many and copy_long, of n bytes to position `at`, go on after their first 16. From 64 bytes on that is where the output's index is a multiple of 16: in an
+// output that begins on a 16-byte border only the first store and one at the end can then cross a cache line.
 pub fn second_part(at: usize, n: usize) -> usize
     ensures { result ≤ 16 }
 {
@@ -132,18 +132,15 @@ pub fn second_part(at: usize, n: usize) -> usize
     16 - at % 16
 }
 
-// All of s, from 16 bytes to 64.
+// All of s, from 33 bytes to 64.
 #[inline(always)]
 fn copy_some(out: &mut [u8], at: usize, s: &[u8]) -> usize
-    requires { (16 ≤ length s.now) × (length s.now ≤ 64) × (at + length s.now ≤ length out.old) }
+    requires { (32 < length s.now) × (length s.now ≤ 64) × (at + length s.now ≤ length out.old) }
     ensures { Appended out.old out.new at result s.now }
 {
     let n = s.len();
     let last = n - 16;
     copy_16(out, at, s, 0);
-    if n <= 32 {
-        return copy_16(out, at + last, s, last);
-    }
     copy_16(out, at + 16, s, 16);
     if n <= 48 {
         return copy_16(out, at + last, s, last);
@@ -152,9 +149,9 @@ fn copy_some(out: &mut [u8], at: usize, s: &[u8]) -> usize
     copy_16(out, at + last, s, last)
 }
 
-// All of s, more than 64 bytes. A call of its own: inside packing's loop over rows its loop has too few registers. In turns of 64 bytes: a short loop
-// of 16 takes up to 1.6 times as long where a linker lays it across a border of 32 bytes.
-#[inline(never)]
+// All of s, more than 64 bytes. In turns of 64: a loop of 16 is so short that it takes up to 1.5 times as long where a linker lays it across a border of
+// 32 bytes.
+#[inline(always)]
 fn copy_long(out: &mut [u8], at: usize, s: &[u8]) -> usize
     requires { (64 < length s.now) × (at + length s.now ≤ length out.old) }
     ensures { Appended out.old out.new at result s.now }
@@ -171,10 +168,25 @@ fn copy_long(out: &mut [u8], at: usize, s: &[u8]) -> usize
     copy_64(out, at + last, s, last)
 }
 
-// All of s, 16 bytes or more.
+// All of s, 16 bytes or more: packing's. Not in turns of 64 as copy_long: so rows of many widths took up to 1.25 times as long.
 #[inline(always)]
 pub fn copy_many(out: &mut [u8], at: usize, s: &[u8]) -> usize
     requires { (16 ≤ length s.now) × (at + length s.now ≤ length out.old) }
+    ensures { Appended out.old out.new at result s.now }
+{
+    let n = s.len();
+    let end = n - 16;
+    copy_16(out, at, s, 0);
+    for i in (second_part(at, n)..end).step_by(16) {
+        copy_16(out, at + i, s, i);
+    }
+    copy_16(out, at + end, s, end)
+}
+
+// All of s, more than 32 bytes: the unit writer's.
+#[inline(always)]
+fn copy_more(out: &mut [u8], at: usize, s: &[u8]) -> usize
+    requires { (32 < length s.now) × (at + length s.now ≤ length out.old) }
     ensures { Appended out.old out.new at result s.now }
 {
     let n = s.len();
@@ -196,5 +208,5 @@ pub fn symbol(out: &mut [u8], at: usize, s: &[u8]) -> usize
     if s.len() <= 32 {
         return copy_few(out, at, s);
     }
-    copy_many(out, at, s)
+    copy_more(out, at, s)
 }

@@ -4,11 +4,6 @@ use native.Mathlib.Omega.{arith}
 use Rattle.wire.proofs.AppendedLaws.{copied_first, copied_on, copied_all}
 use Rattle.wire.proofs.copy.copy_some.Goals as goal
 
-pub returns-then-n-le32 : goal.returns-then-n-le32
-returns-then-n-le32 c =
-    let s = c.args.s.now in
-    copied_all 16 s (copied_first 16 s c.copy_16.ensures (omega arith)) c.copy_16-then-n-le32.ensures (omega arith) (omega arith) (omega arith)
-
 pub returns-then-n-le48 : goal.returns-then-n-le48
 returns-then-n-le48 c =
     let s = c.args.s.now in
